@@ -1,0 +1,5 @@
+pub mod Code
+pub mod Read
+pub mod Fill
+pub mod Descriptors
+pub mod Properties

@@ -1,0 +1,4 @@
+pub mod FieldLaws
+pub mod Taken
+pub mod OffsetLaws
+pub mod Cases

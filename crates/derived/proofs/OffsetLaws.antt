@@ -1,0 +1,58 @@
+-- Laws of an overlay's offsets: where they stand, and what they are. Assumes nothing.
+use mathlib.Core.List.{List}
+use mathlib.Core.Path.{_≡_, ap, refl}
+use Prim.Native.Nat.{_%_, _*_, _+_, _-_, _/_, _<_, _^_, _≤_, suc, ℕ}
+use native.Mathlib.Nat.{sub-zero}
+use native.Mathlib.Omega.{arith}
+use lib.IntN.{negsuc, pos, subℕ, ℤ}
+use lib.ListN.{getD, length}
+use borrow.Author.Tests.{le-ltb, lt-ltb}
+use Rattle.laws.proofs.Order.{by-order, item-within, mul-below}
+use Rattle.laws.specs.Pick.{pick}
+use Rattle.numbers.specs.Field.{bigEndian, fieldAt, offsetOf, signedOf}
+use Rattle.numbers.specs.declared.Cursor.{Cursor}
+use Rattle.numbers.specs.declared.FieldRead.the-variants.{Field}
+use Rattle.derived.proofs.FieldLaws.{bigEndian-below, few-patterns, field-below, field-read, patterns, shift-patterns}
+use Rattle.derived.specs.Overlay.{offsetPlace, signedAt}
+use Rattle.derived.specs.Sound.{OverlaySound}
+use Rattle.derived.specs.declared.overlay.OverlayDescriptor.{OverlayDescriptor}
+
+-- both offsets of an input lie in the body, at a place that is told without overflow
+pub place-inside : (s : List ℕ) (d : OverlayDescriptor) (i : ℕ) → OverlaySound s d → i < d .count → (i * (2 * d .bytes) ≤ 524288) × (offsetPlace d i + 2 * d .bytes ≤ length s)
+unfolding offsetPlace
+place-inside s d i k h =
+    let a = item-within i (d .count) (2 * d .bytes) h in
+    let b = mul-below 65536 8 i (2 * d .bytes) (omega arith) (omega arith) in
+    (b, omega (arith, k .inside))
+
+-- a pattern that was read, as the number that it stands for
+pub pattern-read : (s : List ℕ) (at n v : ℕ) (c : Cursor) → n ≤ 4 → fieldAt s at n ≡ Field v c → offsetOf (signedOf ((1 * 2 ^ (8 * n)) % 2 ^ 64) v) ≡ offsetOf (signedAt s at n)
+unfolding signedAt
+pattern-read s at n v c h e = rw (shift-patterns n h, field-read s at n v c e .0)
+
+pub pattern-fits : (s : List ℕ) (at n v : ℕ) (c : Cursor) → n ≤ 4 → ((i : ℕ) → getD s i 0 < 256) → fieldAt s at n ≡ Field v c → (v < (1 * 2 ^ (8 * n)) % 2 ^ 64) × ((1 * 2 ^ (8 * n)) % 2 ^ 64 ≤ 2 ^ 32)
+pattern-fits s at n v c h k e = rw (shift-patterns n h) (rw (← patterns n) (field-below s at n v c k e), few-patterns n h)
+
+-- a signed number with its sign split off is that number again
+pub offset-is : (z : ℤ) → subℕ (offsetOf z .ahead) (offsetOf z .behind) ≡ z
+unfolding offsetOf
+offset-is (pos n) = simp (le-ltb n 0 (omega arith), sub-zero)
+offset-is (negsuc n) = simp (lt-ltb 0 (suc n) (omega arith)) (let e : suc n - 1 ≡ n = omega arith in ap negsuc e)
+
+-- one of its sides is 0
+pub one-side {ℓ} : {X : Type ℓ} (z : ℤ) → (offsetOf z .behind ≡ 0 → X) → (offsetOf z .ahead ≡ 0 → X) → X
+unfolding offsetOf
+one-side (pos n) f g = f refl
+one-side (negsuc n) f g = g refl
+
+-- an offset of at most four bytes
+pub signed-small : (range p : ℕ) → p < range → range ≤ 2 ^ 32 → (offsetOf (signedOf range p) .ahead < 2 ^ 31) × (offsetOf (signedOf range p) .behind ≤ 2 ^ 31)
+unfolding offsetOf signedOf pick
+signed-small range p h k =
+    by-order p (range / 2)
+    (λ l. simp (lt-ltb p (range / 2) l) (omega arith, omega arith))
+    (λ l. simp (le-ltb p (range / 2) l) (omega arith, omega arith))
+
+pub placement-small : (s : List ℕ) (at n : ℕ) → n ≤ 4 → ((i : ℕ) → getD s i 0 < 256) → (offsetOf (signedAt s at n) .ahead < 2 ^ 31) × (offsetOf (signedAt s at n) .behind ≤ 2 ^ 31)
+unfolding signedAt
+placement-small s at n h k = signed-small (2 ^ (8 * n)) (bigEndian s at n) (rw (← patterns n) (bigEndian-below s at n k)) (few-patterns n h)

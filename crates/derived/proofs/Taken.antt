@@ -1,0 +1,92 @@
+-- What holds of descriptors that were taken. Assumes nothing.
+use mathlib.Core.List.{List}
+use mathlib.Core.Path.{_≡_, ap, refl, sym}
+use Prim.Native.Nat.{_<_, _≤_, ℕ}
+use native.Mathlib.Omega.{arith}
+use lib.ListN.{getD, length}
+use borrow.Author.Tests.{eqb-false, ltb-false}
+use Rattle.laws.proofs.Out.{andThen-done, done-same, not-done, refuse-done}
+use Rattle.laws.specs.Out.{Out, done, reason}
+use Rattle.numbers.specs.Field.{onField}
+use Rattle.numbers.specs.declared.Cursor.{Cursor}
+use Rattle.numbers.specs.declared.FieldRead.{FieldRead}
+use Rattle.numbers.specs.declared.FieldRead.the-variants.{Field, Short}
+use Rattle.derived.proofs.FieldLaws.{field-below, field-read}
+use Rattle.derived.specs.Canvas.{canvasAt, fieldBytes, startOf}
+use Rattle.derived.specs.Grid.{gridAt, gridOf}
+use Rattle.derived.specs.Overlay.{inputsOf, overlayOf}
+use Rattle.derived.specs.Sound.{CanvasSound, GridSound, OverlaySound}
+use Rattle.derived.specs.declared.canvas.Canvas.{Canvas}
+use Rattle.derived.specs.declared.canvas.Start.{Start}
+use Rattle.derived.specs.declared.grid.GridDescriptor.{GridDescriptor}
+use Rattle.derived.specs.declared.overlay.OverlayDescriptor.{OverlayDescriptor}
+
+-- a field was read, and what goes on with it answered
+pub onField-done : {A : Type 0} (o : FieldRead) (k : ℕ → ℕ → Out A) (a : A) → onField o k ≡ done a → (v : ℕ) × (c : Cursor) × (o ≡ Field v c) × (k v (c .at) ≡ done a)
+unfolding onField
+onField-done (Field v c) k a e = (v, c, refl, e)
+onField-done Short k a e = not-done (reason 1) a e
+
+pub start-bytes : (s : List ℕ) (h : Start) → startOf s ≡ done h → (2 ≤ h .bytes) × (h .bytes ≤ 4)
+unfolding startOf fieldBytes
+start-bytes s h e =
+    let a = onField-done _ _ h e in
+    let b = refuse-done _ _ _ h (a .3) in
+    let d = onField-done _ _ h (b .1) in
+    let q = ap (λ x. x .bytes) (done-same _ h (d .3)) in
+    (omega arith, omega arith)
+
+canvas-as : (w h a b : ℕ) → w ≡ a → h ≡ b → CanvasSound w h → CanvasSound a b
+canvas-as w h a b p q k = rw (p, q) at k
+
+pub canvas-taken : (s : List ℕ) (at n : ℕ) (c : Canvas) → canvasAt s at n ≡ done c → CanvasSound (c .width) (c .height) × (c .next .at ≤ length s)
+unfolding canvasAt
+canvas-taken s at n c e =
+    let a = onField-done _ _ c e in
+    let b = onField-done _ _ c (a .3) in
+    let w = refuse-done _ _ _ c (b .3) in
+    let h = refuse-done _ _ _ c (w .1) in
+    let l = refuse-done _ _ _ c (h .1) in
+    let q = done-same _ c (l .1) in
+    let f = field-read s (a .1 .at) n (b .0) (b .1) (b .2) in (
+      canvas-as (a .0) (b .0) _ _ (ap (λ x. x .width) q) (ap (λ x. x .height) q)
+          (record { wide = some (a .0) (eqb-false (a .0) 0 (w .0)); tall = some (b .0) (eqb-false (b .0) 0 (h .0)); area = ltb-false _ _ (l .0) }),
+      omega (arith, ap (λ x. x .next .at) q),
+    )
+  where
+    some : (k : ℕ) → (k ≡ 0 → ⊥) → 1 ≤ k
+    some k f = omega arith
+
+grid-as : (g g′ : GridDescriptor) → g ≡ g′ → GridSound g → GridSound g′
+grid-as g g′ p k = rw p at k
+
+-- a grid's descriptor, of a body whose items are bytes
+pub grid-taken : (s : List ℕ) (g : GridDescriptor) → ((i : ℕ) → getD s i 0 < 256) → gridOf s ≡ done g → GridSound g
+unfolding gridOf gridAt
+grid-taken s g k e =
+    let h = andThen-done _ _ g e in
+    let a = onField-done _ _ g (h .2) in
+    let b = onField-done _ _ g (a .3) in
+    let c = andThen-done _ _ g (b .3) in
+    let q = done-same _ g (c .2) in
+    let x = field-below s _ 1 (a .0) (a .1) k (a .2) in
+    let y = field-below s _ 1 (b .0) (b .1) k (b .2) in
+    let z = canvas-taken s _ _ (c .0) (c .1) .0 in
+    grid-as _ g q (record { someRows = omega arith; fewRows = omega arith; someColumns = omega arith; fewColumns = omega arith; canvas = z })
+
+overlay-as : (s : List ℕ) (d d′ : OverlayDescriptor) → d ≡ d′ → OverlaySound s d → OverlaySound s d′
+overlay-as s d d′ p k = rw p at k
+
+-- an overlay's descriptor: the offsets of its inputs lie in the body
+pub overlay-taken : (s : List ℕ) (n : ℕ) (d : OverlayDescriptor) → overlayOf s n ≡ done d → OverlaySound s d × (d .count ≡ n)
+unfolding overlayOf inputsOf
+overlay-taken s n d e =
+    let h = andThen-done _ _ d e in
+    let f = andThen-done _ _ d (h .2) in
+    let c = andThen-done _ _ d (f .2) in
+    let a = refuse-done _ _ _ d (c .2) in
+    let b = refuse-done _ _ _ d (a .1) in
+    let q = done-same _ d (b .1) in
+    let z = canvas-taken s _ _ (c .0) (c .1) .0 in
+    let y = start-bytes s (h .0) (h .1) in
+    (overlay-as s _ d q (record { canvas = z; count = ltb-false _ _ (a .0); some = y .0; few = y .1; inside = ltb-false _ _ (b .0) }), sym (ap (λ u. u .count) q))

@@ -1,0 +1,6 @@
+pub mod WholeLaws
+pub mod TopLaws
+pub mod Rounding
+pub mod NearLaws
+pub mod Bound
+pub mod Cases

@@ -1,0 +1,35 @@
+use mathlib.Core.Path.{_≡_, ap}
+use Prim.Native.Nat.{_+_, _-_, ℕ}
+use native.Mathlib.Omega.{arith}
+use lib.ListN.{drop, take}
+use denote.Ref.{now}
+use borrow.Author.Needs.{needs}
+use Rattle.image.specs.Bytes.{dataOf}
+use Rattle.image.proofs.samples.plane_data.Statement.{statement}
+use Rattle.image.proofs.samples.plane_data.Tie as tie
+use Rattle.image.proofs.samples.plane_data.Reads as reads
+use Rattle.image.proofs.samples.plane_data.Lts as lts
+
+-- src/samples.rt:18:13
+add-e : tie.Need-add-e
+add-e c = search needs
+
+-- src/samples.rt:19:5
+sub-result : tie.Need-sub-result
+sub-result c = search needs
+
+-- src/samples.rt:19:5
+part-result-start : tie.Need-part-result-start
+part-result-start c = search needs
+
+-- src/samples.rt:19:5
+part-result-end : tie.Need-part-result-end
+part-result-end c = search needs
+
+-- src/samples.rt:13:1
+returns : tie.Need-returns
+unfolding dataOf
+returns c = let p = c .before .before .args .p in let e : p .start + p .len - p .start ≡ p .len = omega arith in ap (λ (n : ℕ). take n (drop (p .start) (now (c .before .before .args .s)))) e
+
+pub plane-data-spec : {M : Type 1} → statement M
+plane-data-spec = tie.close (tie.spec add-e sub-result part-result-start part-result-end returns)

@@ -1,0 +1,69 @@
+use mathlib.Core.List.{_++_}
+use denote.Ref.{now}
+use borrow.Author.Needs.{needs}
+use Rattle.laws.proofs.Writing.{Writing, writing-fits, writing-last, writing-run, writing-start}
+use Rattle.numbers.specs.Number.{numberBytes}
+use Rattle.image.specs.Bytes.{headBytes}
+use Rattle.image.proofs.write.write_head.Statement.{statement}
+use Rattle.image.proofs.write.write_head.Tie as tie
+use Rattle.image.proofs.write.write_head.Reads as reads
+use Rattle.image.proofs.write.write_head.Lts as lts
+use Rattle.numbers.proofs.write_number.Reads as write-number-reads
+
+-- the numbers in turn
+
+w0 : (c : tie.Start) → Writing (now (c .args .out)) (c .args .at) (headBytes (c .args .form)) (now (c .args .out)) (c .args .at) (numberBytes (c .args .form .width) ++ (numberBytes (c .args .form .height) ++ (numberBytes (c .args .form .format .chroma) ++ (numberBytes (c .args .form .format .depth) ++ (numberBytes (c .args .form .format .alpha))))))
+unfolding headBytes
+w0 c = writing-start _ _ _ (c .pre)
+
+w1 : (c : tie.After-write-number) → Writing (now (c .before .before .before .before .args .out)) (c .before .before .before .before .args .at) (headBytes (c .before .before .before .before .args .form)) (c .write-number .last .0) (c .write-number .result) (numberBytes (c .before .before .before .before .args .form .height) ++ (numberBytes (c .before .before .before .before .args .form .format .chroma) ++ (numberBytes (c .before .before .before .before .args .form .format .depth) ++ (numberBytes (c .before .before .before .before .args .form .format .alpha)))))
+w1 c = writing-run (numberBytes (c .before .before .before .before .args .form .width)) (w0 (c .before .before .before .before)) (c .write-number .ensures .0) (c .write-number .ensures .1)
+
+w2 : (c : tie.After-write-number2) → Writing (now (c .before .before .before .before .before .before .before .before .args .out)) (c .before .before .before .before .before .before .before .before .args .at) (headBytes (c .before .before .before .before .before .before .before .before .args .form)) (c .write-number2 .last .0) (c .write-number2 .result) (numberBytes (c .before .before .before .before .before .before .before .before .args .form .format .chroma) ++ (numberBytes (c .before .before .before .before .before .before .before .before .args .form .format .depth) ++ (numberBytes (c .before .before .before .before .before .before .before .before .args .form .format .alpha))))
+w2 c = writing-run (numberBytes (c .before .before .before .before .before .before .before .before .args .form .height)) (w1 (c .before .before .before .before)) (c .write-number2 .ensures .0) (c .write-number2 .ensures .1)
+
+w3 : (c : tie.After-write-number3) → Writing (now (c .before .before .before .before .before .before .before .before .before .before .before .before .args .out)) (c .before .before .before .before .before .before .before .before .before .before .before .before .args .at) (headBytes (c .before .before .before .before .before .before .before .before .before .before .before .before .args .form)) (c .write-number3 .last .0) (c .write-number3 .result) (numberBytes (c .before .before .before .before .before .before .before .before .before .before .before .before .args .form .format .depth) ++ (numberBytes (c .before .before .before .before .before .before .before .before .before .before .before .before .args .form .format .alpha)))
+w3 c = writing-run (numberBytes (c .before .before .before .before .before .before .before .before .before .before .before .before .args .form .format .chroma)) (w2 (c .before .before .before .before)) (c .write-number3 .ensures .0) (c .write-number3 .ensures .1)
+
+w4 : (c : tie.After-write-number4) → Writing (now (c .before .before .before .before .before .before .before .before .before .before .before .before .before .before .before .before .args .out)) (c .before .before .before .before .before .before .before .before .before .before .before .before .before .before .before .before .args .at) (headBytes (c .before .before .before .before .before .before .before .before .before .before .before .before .before .before .before .before .args .form)) (c .write-number4 .last .0) (c .write-number4 .result) (numberBytes (c .before .before .before .before .before .before .before .before .before .before .before .before .before .before .before .before .args .form .format .alpha))
+w4 c = writing-run (numberBytes (c .before .before .before .before .before .before .before .before .before .before .before .before .before .before .before .before .args .form .format .depth)) (w3 (c .before .before .before .before)) (c .write-number4 .ensures .0) (c .write-number4 .ensures .1)
+
+-- src/write.rt:17:9
+write-number-requires : tie.Need-write-number-requires
+write-number-requires c κs = writing-fits (numberBytes (c .before .before .before .args .form .width)) _ (w0 (c .before .before .before))
+
+-- src/write.rt:18:9
+write-number-requires-2 : tie.Need-write-number-requires-2
+write-number-requires-2 c κs = writing-fits (numberBytes (c .before .before .before .before .before .before .before .args .form .height)) _ (w1 (c .before .before .before))
+
+-- src/write.rt:19:9
+write-number-requires-3 : tie.Need-write-number-requires-3
+write-number-requires-3 c κs = writing-fits (numberBytes (c .before .before .before .before .before .before .before .before .before .before .before .args .form .format .chroma)) _ (w2 (c .before .before .before))
+
+-- src/write.rt:20:9
+write-number-requires-4 : tie.Need-write-number-requires-4
+write-number-requires-4 c κs = writing-fits (numberBytes (c .before .before .before .before .before .before .before .before .before .before .before .before .before .before .before .args .form .format .depth)) _ (w3 (c .before .before .before))
+
+-- src/write.rt:21:5
+write-number-requires-5 : tie.Need-write-number-requires-5
+write-number-requires-5 c κs = (w4 (c .before .before .before)) .room
+
+-- src/write.rt:12:1
+same-length : tie.Need-same-length
+same-length c = search needs
+
+-- src/write.rt:12:1
+returns : tie.Need-returns
+returns c = writing-last (w4 (c .before .before .before .before .before .before)) (c .before .before .write-number5 .ensures .0) (c .before .before .write-number5 .ensures .1)
+
+pub write-head-spec : {M : Type 1} → statement M
+write-head-spec =
+    tie.close
+    (tie.spec
+    write-number-requires
+    write-number-requires-2
+    write-number-requires-3
+    write-number-requires-4
+    write-number-requires-5
+    same-length
+    returns)

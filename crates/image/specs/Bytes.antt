@@ -1,0 +1,91 @@
+-- Pictures and records: what a record's bytes show, and the tight record of a picture. Assumes nothing.
+use mathlib.Core.Path.{_≡_}
+use mathlib.Core.Bool.{true}
+use mathlib.Core.List.{List, [], _∷_, _++_}
+use Prim.Native.Nat.{ℕ, _+_, _*_, _/_, _%_, _≤_, _<_}
+use lib.Dec.{eqb}
+use lib.ListN.{length, getD, take, drop}
+use Rattle.laws.specs.Pick.{pick}
+use Rattle.laws.specs.Span.{span}
+use Rattle.numbers.specs.Number.{numberBytes}
+use Rattle.image.specs.Format.{middleOf, bytesOf, hasPart, halfX, halfY, cover, columnsOf, rowsOf, rowSize}
+use Rattle.image.specs.Record.{planeOf}
+use Rattle.image.specs.Picture.{Pic}
+use Rattle.image.specs.declared.format.Part.{Part}
+use Rattle.image.specs.declared.format.Part.the-variants.{Luma, Cb, Cr, Alpha}
+use Rattle.image.specs.declared.format.Form.{Form}
+use Rattle.image.specs.declared.format.PixelFormat.{PixelFormat}
+use Rattle.image.specs.declared.record.Plane.{Plane}
+use Rattle.image.specs.declared.record.Frame.{Frame}
+
+-- every item is a byte
+unfoldable pub Bytes : List ℕ → Type 0
+Bytes s = (i : ℕ) → getD s i 0 < 256
+
+-- ---- what a record shows
+
+-- a plane's own bytes
+unfoldable pub dataOf : List ℕ → Plane → List ℕ
+dataOf s p = take (p .len) (drop (p .start) s)
+
+-- a sample of one byte or two, the low first, at a place of a plane's bytes
+unfoldable pub sampleAt : List ℕ → ℕ → ℕ → ℕ
+sampleAt d bytes i = pick (eqb bytes 1) (getD d i 0) (getD d i 0 + 256 * getD d (i + 1) 0)
+
+-- the sample at a column and a row
+unfoldable pub sampleIn : List ℕ → ℕ → ℕ → ℕ → ℕ → ℕ
+sampleIn d bytes stride x y = sampleAt d bytes (y * stride + x * bytes)
+
+-- the sample that promotion puts at a place of the picture
+unfoldable pub promotedIn : List ℕ → PixelFormat → ℕ → Part → ℕ → ℕ → ℕ
+promotedIn d f stride p x y = pick (hasPart f p) (sampleIn d (bytesOf f) stride (cover (halfX f p) x) (cover (halfY f p) y)) (middleOf f)
+
+-- what reading it asks: a depth that has a middle, and the covering sample inside
+pub record PromotedFits (d : List ℕ) (f : PixelFormat) (stride : ℕ) (p : Part) (x y : ℕ) : Type 0 where
+  pub low : 8 ≤ f .depth
+  pub high : f .depth ≤ 16
+  pub inside : hasPart f p ≡ true → cover (halfY f p) y * stride + cover (halfX f p) x * bytesOf f + bytesOf f ≤ length d
+
+unfoldable pub decode : List ℕ → Frame → Pic
+decode s fr = record {
+  form = fr .form;
+  at = λ p x y. sampleIn (dataOf s (planeOf fr p)) (bytesOf (fr .form .format)) (planeOf fr p .stride) x y;
+}
+
+-- ---- the tight record: stride = bytes of a row and no spare data
+
+unfoldable pub sampleBytes : ℕ → ℕ → List ℕ
+sampleBytes bytes v = pick (eqb bytes 1) (v % 256 ∷ []) (v % 256 ∷ v / 256 % 256 ∷ [])
+
+-- a row of so many samples
+unfoldable pub samplesOf : ℕ → (ℕ → ℕ) → ℕ → List ℕ
+samplesOf bytes f n = span (λ x. sampleBytes bytes (f x)) 0 n
+
+unfoldable pub rowBytes : Pic → Part → ℕ → List ℕ
+rowBytes P p y = samplesOf (bytesOf (P .form .format)) (λ x. P .at p x y) (columnsOf (P .form) p)
+
+unfoldable pub rowsBytes : Pic → Part → List ℕ
+rowsBytes P p = span (rowBytes P p) 0 (rowsOf (P .form) p)
+
+-- a plane's stride and length
+unfoldable pub planeHead : Form → Part → List ℕ
+planeHead m p = numberBytes (rowSize m p) ++ numberBytes (rowsOf m p * rowSize m p)
+
+unfoldable pub planeBytes : Pic → Part → List ℕ
+planeBytes P p = pick (hasPart (P .form .format) p) (planeHead (P .form) p ++ rowsBytes P p) []
+
+unfoldable pub headBytes : Form → List ℕ
+headBytes m =
+    numberBytes (m .width) ++ (numberBytes (m .height)
+    ++ (numberBytes (m .format .chroma) ++ (numberBytes (m .format .depth) ++ numberBytes (m .format .alpha))))
+
+unfoldable pub encode : Pic → List ℕ
+encode P = headBytes (P .form) ++ (planeBytes P Luma ++ (planeBytes P Cb ++ (planeBytes P Cr ++ planeBytes P Alpha)))
+
+-- ---- how long it is, by the form alone
+
+unfoldable pub planeSize : Form → Part → ℕ
+planeSize m p = pick (hasPart (m .format) p) (length (planeHead m p) + rowsOf m p * rowSize m p) 0
+
+unfoldable pub sizeOf : Form → ℕ
+sizeOf m = length (headBytes m) + (planeSize m Luma + (planeSize m Cb + (planeSize m Cr + planeSize m Alpha)))

@@ -1,0 +1,7 @@
+pub mod Format
+pub mod Record
+pub mod Tray
+pub mod Picture
+pub mod Bytes
+pub mod Line
+pub mod Sound

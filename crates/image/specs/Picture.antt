@@ -1,0 +1,55 @@
+-- Pictures as functions, what a plane reads at a place, and promotion to 4:4:4. Assumes nothing.
+use mathlib.Core.Bool.{Bool, _&&_, _||_, false, true}
+use mathlib.Core.Path.{_≡_}
+use Prim.Native.Nat.{_%_, ℕ}
+use lib.Dec.{eqb}
+use Rattle.laws.specs.Pick.{pick}
+use Rattle.image.specs.Format.{cover, halfX, halfY, halvesX, halvesY, hasPart, middleOf}
+use Rattle.image.specs.declared.format.Form.{Form}
+use Rattle.image.specs.declared.format.Part.{Part}
+use Rattle.image.specs.declared.format.PixelFormat.{PixelFormat}
+
+-- the sample of a plane at a column and a row of that plane
+pub record Pic : Type 0 where
+  pub form : Form
+  pub at : Part → ℕ → ℕ → ℕ
+
+-- the form with another size
+unfoldable pub sized : Form → ℕ → ℕ → Form
+sized m w h = record { width = w; height = h; format = m .format }
+
+-- the form with another chroma
+unfoldable pub as444 : Form → Form
+as444 m = record { width = m .width; height = m .height; format = record { chroma = 3; depth = m .format .depth; alpha = m .format .alpha } }
+
+-- what a plane reads at a place of the picture: the sample that covers it
+unfoldable pub pixel : Pic → Part → ℕ → ℕ → ℕ
+pixel P p x y = P .at p (cover (halfX (P .form .format) p) x) (cover (halfY (P .form .format) p) y)
+
+-- as pixel, with 2 ^ (depth − 1) for the chroma that mono has not
+unfoldable pub full : Pic → Part → ℕ → ℕ → ℕ
+full P p x y = pick (hasPart (P .form .format) p) (pixel P p x y) (middleOf (P .form .format))
+
+-- promotion to 4:4:4: each pixel takes the chroma sample that covered it
+unfoldable pub promote : Pic → Pic
+promote P = record { form = as444 (P .form); at = full P }
+
+unfoldable pub odd : ℕ → Bool
+odd n = eqb (n % 2) 1
+
+-- whether an odd column or row needs a chroma sample that is not there
+unfoldable pub needs444 : PixelFormat → Bool → Bool → Bool
+needs444 f oddX oddY = halvesX f && oddX || halvesY f && oddY
+
+unfoldable pub ensure : Pic → Bool → Bool → Pic
+ensure P oddX oddY = pick (needs444 (P .form .format) oddX oddY) (promote P) P
+
+-- an even side where it is halved: what turns and mirrors ask of a picture so that its chroma moves with its places
+unfoldable pub Evenly : Bool → ℕ → Type 0
+Evenly true n = n % 2 ≡ 0
+Evenly false n = Unit {0}
+
+-- a halved axis has an even side
+pub record Even (m : Form) : Type 0 where
+  pub evenX : Evenly (halvesX (m .format)) (m .width)
+  pub evenY : Evenly (halvesY (m .format)) (m .height)

@@ -1,0 +1,26 @@
+-- Trays: a count, then that many records, nothing after ("What is handed in"). Assumes nothing.
+use mathlib.Core.List.{List, [], _∷_}
+use Prim.Native.Nat.{ℕ, zero, suc}
+use lib.Dec.{ltb}
+use lib.ListN.{length}
+use Rattle.laws.specs.Out.{Out, refused, done, andThen, refuse}
+use Rattle.numbers.specs.Number.{readNumber, onNumber}
+use Rattle.image.specs.Record.{recordAt}
+use Rattle.image.specs.declared.record.Frame.{Frame}
+use Rattle.image.specs.declared.record.TrayRead.{TrayRead}
+
+-- so many records in turn from a place on, and 5 where bytes are left over after the last
+unfoldable pub framesAt : ℕ → List ℕ → ℕ → Out (List Frame)
+framesAt zero s at = refuse (ltb at (length s)) 5 (done [])
+framesAt (suc n) s at = andThen (recordAt s at) (λ fr. andThen (framesAt n s (fr .end)) (λ frs. done (fr ∷ frs)))
+
+unfoldable pub trayOf : List ℕ → Out (List Frame)
+trayOf s = onNumber (readNumber s 0) (λ n a. framesAt n s a)
+
+-- how many records it has, and what reading it answers
+unfoldable pub trayCount : Out (List Frame) → Out ℕ
+trayCount o = andThen o (λ frs. done (length frs))
+
+abbrev pub trayOut : TrayRead → Out ℕ
+trayOut (TrayRead.Read n) = done n
+trayOut (TrayRead.Refused e) = refused e

@@ -1,0 +1,34 @@
+// Frame records: the pixel format, the record's planes, samples and rows, and the writer of tight records.
+mod format;
+mod record;
+mod samples;
+mod write;
+
+pub use crate::format::Form;
+pub use crate::format::FormatRead;
+pub use crate::format::Part;
+pub use crate::format::PixelFormat;
+pub use crate::format::both;
+pub use crate::format::either;
+pub use crate::record::Frame;
+pub use crate::record::FrameRead;
+pub use crate::record::Head;
+pub use crate::record::HeadRead;
+pub use crate::record::Plane;
+pub use crate::record::PlaneRead;
+pub use crate::record::TrayRead;
+pub use crate::record::check_tray;
+pub use crate::record::parse_record;
+pub use crate::record::read_record;
+pub use crate::samples::Line;
+pub use crate::samples::copy_row;
+pub use crate::samples::covering;
+pub use crate::samples::plane_data;
+pub use crate::samples::promoted;
+pub use crate::samples::put_sample;
+pub use crate::samples::row;
+pub use crate::samples::sample;
+pub use crate::samples::write_line;
+pub use crate::write::record_size;
+pub use crate::write::write_head;
+pub use crate::write::write_plane_head;

@@ -1,0 +1,281 @@
+// Frame records and trays of them, read with every refusal in document 01's order.
+ghost use mathlib.Core.Path.{_≡_};
+ghost use Prim.Native.Nat.{_≤_, _<_, _^_};
+ghost use lib.ListN.{length};
+ghost use Rattle.image.specs.Record.{headOf, headAt, planeAt, partAt, planesAt, recordAt, recordOf, planeOf, headOut, planeOut, frameOut};
+ghost use Rattle.image.specs.Tray.{trayOf, trayOut, trayCount};
+ghost use Rattle.image.specs.Sound.{FormSound};
+use crate::format::Form;
+use crate::format::FormatRead;
+use crate::format::Part;
+use crate::format::PixelFormat;
+use laws::Refusal;
+use numbers::NumberRead;
+
+// What a header says, and the place past it.
+pub struct Head {
+    pub form: Form,
+    pub next: usize,
+}
+
+pub enum HeadRead {
+    Read(Head),
+    Refused(Refusal),
+}
+
+// Where a plane's bytes stand in the slice that holds its record. A part that the picture has not has no bytes.
+pub struct Plane {
+    pub start: usize,
+    pub len: usize,
+    pub stride: usize,
+}
+
+pub enum PlaneRead {
+    Read(Plane),
+    Refused(Refusal),
+}
+
+// A record that was taken: its form, its planes, and the place past it.
+pub struct Frame {
+    pub form: Form,
+    pub luma: Plane,
+    pub cb: Plane,
+    pub cr: Plane,
+    pub alpha: Plane,
+    pub end: usize,
+}
+
+pub enum FrameRead {
+    Read(Frame),
+    Refused(Refusal),
+}
+
+// How many records a tray has.
+pub enum TrayRead {
+    Read(u32),
+    Refused(Refusal),
+}
+
+// The form of a size and a format, and the place past the header.
+fn judge_head(width: u32, height: u32, chroma: u32, depth: u32, alpha: u32, next: usize) -> HeadRead
+    ensures { λ r. ⌜ headOut r ≡ headOf width height chroma depth alpha next ⌝ }
+{
+    match PixelFormat::new(chroma, depth, alpha) {
+        FormatRead::Refused(e) => HeadRead::Refused(e),
+        FormatRead::Read(format) => {
+            if width == 0 {
+                return HeadRead::Refused(Refusal::EMPTY);
+            }
+            if height == 0 {
+                return HeadRead::Refused(Refusal::EMPTY);
+            }
+            if width as u64 * height as u64 > PixelFormat::PIXEL_LIMIT {
+                return HeadRead::Refused(Refusal::LIMIT);
+            }
+            HeadRead::Read(Head {
+                form: Form {
+                    width,
+                    height,
+                    format,
+                },
+                next,
+            })
+        }
+    }
+}
+
+// The header at a place: five numbers, read before any is judged.
+fn read_head(s: &[u8], at: usize) -> HeadRead
+    ensures { λ r. ⌜ headOut r ≡ headAt (now (s .entry)) at ⌝ }
+{
+    let NumberRead::Number {
+        value: width,
+        next: a,
+    } = numbers::read_number(s, at)
+    else {
+        return HeadRead::Refused(Refusal::MALFORMED);
+    };
+    let NumberRead::Number {
+        value: height,
+        next: b,
+    } = numbers::read_number(s, a)
+    else {
+        return HeadRead::Refused(Refusal::MALFORMED);
+    };
+    let NumberRead::Number {
+        value: chroma,
+        next: c,
+    } = numbers::read_number(s, b)
+    else {
+        return HeadRead::Refused(Refusal::MALFORMED);
+    };
+    let NumberRead::Number {
+        value: depth,
+        next: d,
+    } = numbers::read_number(s, c)
+    else {
+        return HeadRead::Refused(Refusal::MALFORMED);
+    };
+    let NumberRead::Number {
+        value: alpha,
+        next: e,
+    } = numbers::read_number(s, d)
+    else {
+        return HeadRead::Refused(Refusal::MALFORMED);
+    };
+    judge_head(width, height, chroma, depth, alpha, e)
+}
+
+// The plane of `rows` rows of `row` bytes at a place.
+fn read_plane(s: &[u8], at: usize, rows: usize, row: usize) -> PlaneRead
+    requires { ⌜ (0 < rows) × (rows < 2 ^ 32) × (row < 2 ^ 33) ⌝ }
+    ensures { λ r. ⌜ planeOut r ≡ planeAt (now (s .entry)) at rows row ⌝ }
+{
+    let NumberRead::Number {
+        value: stride,
+        next: a,
+    } = numbers::read_number(s, at)
+    else {
+        return PlaneRead::Refused(Refusal::MALFORMED);
+    };
+    let NumberRead::Number {
+        value: len,
+        next: b,
+    } = numbers::read_number(s, a)
+    else {
+        return PlaneRead::Refused(Refusal::MALFORMED);
+    };
+    let stride = stride as usize;
+    let len = len as usize;
+    if stride < row {
+        return PlaneRead::Refused(Refusal::MALFORMED);
+    }
+    if len < stride * (rows - 1) + row {
+        return PlaneRead::Refused(Refusal::MALFORMED);
+    }
+    if s.len() - b < len {
+        return PlaneRead::Refused(Refusal::MALFORMED);
+    }
+    PlaneRead::Read(Plane {
+        start: b,
+        len,
+        stride,
+    })
+}
+
+// The plane of a part at a place, if the picture has it.
+fn read_part(s: &[u8], at: usize, form: Form, part: Part) -> PlaneRead
+    requires { ⌜ FormSound form × (at ≤ length (now s)) ⌝ }
+    ensures { λ r. ⌜ planeOut r ≡ partAt (now (s .entry)) at form part ⌝ }
+{
+    let format = form.format;
+    if format.has(part) {
+        let rows = format.rows(form.height, part);
+        return read_plane(s, at, rows, form.row_size(part) as usize);
+    }
+    PlaneRead::Read(Plane {
+        start: at,
+        len: 0,
+        stride: 0,
+    })
+}
+
+// The planes of a form at a place, in turn.
+fn read_planes(s: &[u8], at: usize, form: Form) -> FrameRead
+    requires { ⌜ FormSound form × (at ≤ length (now s)) ⌝ }
+    ensures { λ r. ⌜ frameOut r ≡ planesAt (now (s .entry)) at form ⌝ }
+{
+    match read_part(s, at, form, Part::Luma) {
+        PlaneRead::Refused(e) => FrameRead::Refused(e),
+        PlaneRead::Read(luma) => match read_part(s, luma.start + luma.len, form, Part::Cb) {
+            PlaneRead::Refused(e) => FrameRead::Refused(e),
+            PlaneRead::Read(cb) => match read_part(s, cb.start + cb.len, form, Part::Cr) {
+                PlaneRead::Refused(e) => FrameRead::Refused(e),
+                PlaneRead::Read(cr) => match read_part(s, cr.start + cr.len, form, Part::Alpha) {
+                    PlaneRead::Refused(e) => FrameRead::Refused(e),
+                    PlaneRead::Read(alpha) => FrameRead::Read(Frame {
+                        form,
+                        luma,
+                        cb,
+                        cr,
+                        alpha,
+                        end: alpha.start + alpha.len,
+                    }),
+                },
+            },
+        },
+    }
+}
+
+// The record that stands at a place.
+pub fn read_record(s: &[u8], at: usize) -> FrameRead
+    ensures { λ r. ⌜ frameOut r ≡ recordAt (now (s .entry)) at ⌝ }
+{
+    match read_head(s, at) {
+        HeadRead::Refused(e) => FrameRead::Refused(e),
+        HeadRead::Read(h) => {
+            let next = h.next;
+            let form = h.form;
+            read_planes(s, next, form)
+        }
+    }
+}
+
+// A record and nothing after it.
+pub fn parse_record(s: &[u8]) -> FrameRead
+    ensures { λ r. ⌜ frameOut r ≡ recordOf (now (s .entry)) ⌝ }
+{
+    match read_record(s, 0) {
+        FrameRead::Refused(e) => FrameRead::Refused(e),
+        FrameRead::Read(f) => {
+            let end = f.end;
+            if end < s.len() {
+                return FrameRead::Refused(Refusal::MALFORMED);
+            }
+            FrameRead::Read(f)
+        }
+    }
+}
+
+// A tray: a count, then that many records, nothing after.
+pub fn check_tray(s: &[u8]) -> TrayRead
+    ensures { λ r. ⌜ trayOut r ≡ trayCount (trayOf (now (s .entry))) ⌝ }
+{
+    let NumberRead::Number {
+        value: count,
+        next: first,
+    } = numbers::read_number(s, 0)
+    else {
+        return TrayRead::Refused(Refusal::MALFORMED);
+    };
+    let mut at = first;
+    let mut left = count;
+    while left > 0 {
+        match read_record(s, at) {
+            FrameRead::Refused(e) => {
+                return TrayRead::Refused(e);
+            }
+            FrameRead::Read(f) => {
+                at = f.end;
+            }
+        }
+        left -= 1;
+    }
+    if at < s.len() {
+        return TrayRead::Refused(Refusal::MALFORMED);
+    }
+    TrayRead::Read(count)
+}
+
+impl Frame {
+    pub fn plane(self, part: Part) -> Plane
+        ensures { λ r. ⌜ r ≡ planeOf self part ⌝ }
+    {
+        match part {
+            Part::Luma => self.luma,
+            Part::Cb => self.cb,
+            Part::Cr => self.cr,
+            Part::Alpha => self.alpha,
+        }
+    }
+}

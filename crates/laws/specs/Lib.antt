@@ -1,0 +1,4 @@
+pub mod Pick
+pub mod Out
+pub mod Span
+pub mod Puts

@@ -1,0 +1,9 @@
+-- Bytes stored one after the other in a list. Assumes nothing.
+use mathlib.Core.List.{List, [], _∷_}
+use Prim.Native.Nat.{ℕ, _+_}
+use lib.ListN.{set}
+
+-- d with vs stored from index i on
+unfoldable pub puts : List ℕ → ℕ → List ℕ → List ℕ
+puts d i [] = d
+puts d i (v ∷ vs) = puts (set d i v) (i + 1) vs

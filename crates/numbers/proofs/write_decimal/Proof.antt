@@ -1,0 +1,117 @@
+use Rattle.laws.proofs.Puts.{puts-front}
+use native.Mathlib.Omega.{arith}
+use denote.Ref.{now}
+use borrow.Author.Needs.{needs}
+use Rattle.numbers.proofs.Decimal.{onto-last, onto-more, length-digits}
+use Rattle.numbers.specs.Decimal.{decimal, digitsOnto}
+use Rattle.laws.proofs.Puts.{length-puts, set-puts}
+use Rattle.laws.specs.Puts.{puts}
+use lib.ListN.{length, length-set}
+use Prim.Native.Nat.{ℕ, _+_, _-_, _^_, _≤_, _<_}
+use mathlib.Core.List.{List, [], _∷_}
+use mathlib.Core.Path.{_≡_, refl, sym, ap, _∙_}
+use Rattle.numbers.proofs.write_decimal.Statement.{statement}
+use Rattle.numbers.proofs.write_decimal.Tie as tie
+use Rattle.numbers.proofs.write_decimal.Reads as reads
+use Rattle.numbers.proofs.write_decimal.Lts as lts
+use Rattle.numbers.proofs.decimal_length.Reads as decimal-length-reads
+
+abbrev Inv-loop : tie.InvT-loop
+Inv-loop out₀ at n end i₀ rest₀ out i rest = (after : List ℕ) × (rest < 2 ^ 32) × (decimal n ≡ digitsOnto 9 rest after) × (i + length after ≡ at + length (decimal n)) × (out ≡ puts out₀ i after)
+
+abbrev μ-loop : tie.MeasureT-loop
+μ-loop out₀ at n end i₀ rest₀ out i rest = rest
+
+-- the place of the next digit is inside
+module _ (c : tie.At-loop Inv-loop μ-loop) where
+  inside : (1 ≤ c .loop .i) × (c .loop .i ≤ length (c .loop .out)) × (length (c .loop .out) ≡ length (now (c .before .before .before .args .out)))
+  inside =
+      let r = c .loop in
+      let l = length-digits 9 (r .rest) (r .inv .0) in
+      let e = ap length (r .inv .2) in
+      let k : length (r .out) ≡ length (now (c .before .before .before .args .out)) = ap length (r .inv .4) ∙ simp length-puts in
+      let p : c .before .before .before .args .at + length (decimal (c .before .before .before .args .n)) ≤ length (now (c .before .before .before .args .out)) = c .before .before .before .pre in
+      (omega arith, omega arith, k)
+
+-- src/lib.rt:161:20
+decimal-length-requires : tie.Need-decimal-length-requires Inv-loop μ-loop
+decimal-length-requires c κs = search needs
+
+-- src/lib.rt:161:15
+add-end : tie.Need-add-end Inv-loop μ-loop
+add-end c = search needs
+
+-- src/lib.rt:164:5
+loop-holds : tie.Need-loop-holds Inv-loop μ-loop
+unfolding decimal puts
+loop-holds c = let a = c .before .before .args in ([], omega arith, refl, omega (arith, c .decimal-length .ensures .0), refl)
+
+-- src/lib.rt:165:9
+sub-i : tie.Need-sub-i Inv-loop μ-loop
+sub-i c = omega (arith, inside (c .before))
+
+-- src/lib.rt:166:19
+add-out : tie.Need-add-out Inv-loop μ-loop
+add-out c = search needs
+
+-- src/lib.rt:166:18
+cast-out : tie.Need-cast-out Inv-loop μ-loop
+cast-out c = search needs
+
+-- src/lib.rt:166:9
+slice-write-out : tie.Need-slice-write-out Inv-loop μ-loop
+slice-write-out c = omega (arith, inside (c .before))
+
+-- src/lib.rt:164:5
+loop-less : tie.Need-loop-less Inv-loop μ-loop
+loop-less c = search needs
+
+-- src/lib.rt:164:5
+loop-again : tie.Need-loop-again Inv-loop μ-loop
+loop-again c = let r = c .before .loop in (_, omega arith, r .inv .2 ∙ onto-more (r .rest) (r .inv .0) (c .loop-test .taken) (r .inv .1), omega (arith, inside (c .before)), puts-front _ _ _ _ _ (inside (c .before) .0) (r .inv .4))
+
+-- src/lib.rt:169:5
+sub-i-2 : tie.Need-sub-i-2 Inv-loop μ-loop
+sub-i-2 c = omega (arith, inside (c .before))
+
+-- src/lib.rt:170:15
+add-out-2 : tie.Need-add-out-2 Inv-loop μ-loop
+add-out-2 c = search needs
+
+-- src/lib.rt:170:14
+cast-out-2 : tie.Need-cast-out-2 Inv-loop μ-loop
+cast-out-2 c = search needs
+
+-- src/lib.rt:170:5
+slice-write-out-2 : tie.Need-slice-write-out-2 Inv-loop μ-loop
+slice-write-out-2 c = omega (arith, inside (c .before))
+
+-- src/lib.rt:157:1
+same-length : tie.Need-same-length Inv-loop μ-loop
+same-length c = simp length-set (inside (c .before) .2)
+
+-- src/lib.rt:157:1
+returns : tie.Need-returns Inv-loop μ-loop
+returns c = let r = c .before .loop in let a = c .before .before .before .before .args in let e : decimal (a .n) ≡ _ = r .inv .2 ∙ onto-last (r .rest) (r .inv .0) (c .loop-test .left) in let l = ap length e in let p : r .i - 1 ≡ a .at = omega arith in (omega (arith, c .before .before .decimal-length .ensures .0), puts-front _ _ _ _ _ (inside (c .before) .0) (r .inv .4) ∙ rw (e, p))
+
+pub write-decimal-spec : {M : Type 1} → statement M
+write-decimal-spec =
+    tie.close
+    (tie.spec
+    Inv-loop
+    μ-loop
+    decimal-length-requires
+    add-end
+    loop-holds
+    sub-i
+    add-out
+    cast-out
+    slice-write-out
+    loop-less
+    loop-again
+    sub-i-2
+    add-out-2
+    cast-out-2
+    slice-write-out-2
+    same-length
+    returns)

@@ -1,0 +1,5 @@
+pub mod ApertureLaws
+pub mod ChainLaws
+pub mod SizeLaws
+pub mod Prefix
+pub mod Cases

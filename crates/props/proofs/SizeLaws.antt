@@ -1,0 +1,129 @@
+-- Laws of sizes: scaling rounds up, and a chain keeps within a picture's limits. Assumes nothing.
+use mathlib.Core.Bool.{Bool, _&&_, false, true}
+use mathlib.Core.List.{List}
+use mathlib.Core.Path.{_∙_, _≡_, refl, sym}
+use Prim.Native.Nat.{_%_, _*_, _+_, _-_, _<_, _≤_, suc, ℕ}
+use native.Mathlib.Nat.{div-add-mod', div-lt-iff-lt-mul, le-trans, mod-lt, mul-comm, suc-mul, zero-mul}
+use native.Mathlib.Omega.{arith}
+use lib.Dec.{eqb}
+use borrow.Author.Tests.{eqb-false, ltb-false}
+use Rattle.laws.proofs.Order.{by-order, mul-below, pick-false, pick-true}
+use Rattle.laws.proofs.Out.{Holds, andThen-done, done-holds, done-same, refuse-done}
+use Rattle.laws.specs.Out.{done}
+use Rattle.laws.specs.Pick.{pick}
+use Rattle.image.specs.Picture.{odd}
+use Rattle.props.proofs.ApertureLaws.{resolve-inside}
+use Rattle.props.proofs.ChainLaws.{fold-holds}
+use Rattle.props.specs.Chain.{foldChain}
+use Rattle.props.specs.Scale.{changed, scaleOf, scaled, withinOf}
+use Rattle.props.specs.Size.{judgedSize, sizeAfter, swapped}
+use Rattle.props.specs.Sound.{Inside, SizeSound}
+use Rattle.props.specs.declared.clap.Clap.{Clap}
+use Rattle.props.specs.declared.clap.CropRect.{CropRect}
+use Rattle.props.specs.declared.entry.Property.{Property}
+use Rattle.props.specs.declared.entry.PropertyEntry.{PropertyEntry}
+use Rattle.props.specs.declared.iscl.Iscl.{Iscl}
+use Rattle.props.specs.declared.size.Size.{Size}
+
+-- ---- rounding up
+
+-- the scaled side is the least whole number that is not below side * num / den
+pub scaled-covers : (side num den : ℕ) → 0 < den → side * num ≤ scaled side num den * den
+unfolding scaled
+scaled-covers side num den h = omega (arith, div-add-mod' (side * num + (den - 1)) den, mod-lt (side * num + (den - 1)) h)
+
+pub scaled-least : (side num den m : ℕ) → 0 < den → side * num ≤ m * den → scaled side num den ≤ m
+unfolding scaled
+scaled-least side num den m h g =
+    let a : side * num + (den - 1) < suc m * den = omega (arith, suc-mul m den) in
+    omega (arith, div-lt-iff-lt-mul h .1 a)
+
+-- a part of something is something
+pub scaled-some : (side num den : ℕ) → 1 ≤ side → 1 ≤ num → 0 < den → 1 ≤ scaled side num den
+scaled-some side num den h g l =
+    by-order (scaled side num den) 1
+    (λ o.
+    let z : scaled side num den ≡ 0 = omega arith in
+    let a : side * num ≤ 0 * den = rw z at (scaled-covers side num den l) in
+    absurd (none a))
+    (λ o. o)
+  where
+    none : side * num ≤ 0 * den → ⊥
+    none a = omega (arith, zero-mul den, mul-below side num 1 1 h g)
+
+-- ---- sizes that a picture may have, and what a property makes of them
+
+sound-as : (z y : Size) → z ≡ y → SizeSound z → SizeSound y
+sound-as z y p k = rw p at k
+
+not-zero : (k : ℕ) → eqb k 0 ≡ false → 1 ≤ k
+not-zero k e = go (eqb-false k 0 e)
+  where
+    go : (k ≡ 0 → ⊥) → 1 ≤ k
+    go f = omega arith
+
+pub judged-sound : (w h : ℕ) (y : Size) → judgedSize w h ≡ done y → SizeSound y
+unfolding judgedSize
+judged-sound w h y e =
+    let a = refuse-done _ _ _ y e in
+    let b = refuse-done _ _ _ y (a .1) in
+    let c = refuse-done _ _ _ y (b .1) in
+    sound-as _ y (done-same _ y (c .1)) (record { wide = not-zero w (a .0); tall = not-zero h (b .0); area = ltb-false _ _ (c .0) })
+
+within-sound : (z x y : Size) → 1 ≤ x .width → 1 ≤ x .height → withinOf z x ≡ done y → SizeSound y
+unfolding withinOf
+within-sound z x y w h e =
+    let a = refuse-done _ _ _ y e in
+    let b = refuse-done _ _ _ y (a .1) in
+    let c = refuse-done _ _ _ y (b .1) in
+    let d = refuse-done _ _ _ y (c .1) in
+    let f = refuse-done _ _ _ y (d .1) in
+    sound-as x y (done-same x y (f .1)) (record { wide = w; tall = h; area = ltb-false _ _ (a .0) })
+
+changed-sound : (z x y : Size) → SizeSound z → 1 ≤ x .width → 1 ≤ x .height → changed z x ≡ done y → SizeSound y
+unfolding changed
+changed-sound z x y s w h e = go (eqb (x .width) (z .width) && eqb (x .height) (z .height)) e
+  where
+    go : (b : Bool) → pick b (done z) (withinOf z x) ≡ done y → SizeSound y
+    go true q = sound-as z y (done-same z y (sym (pick-true true (done z) (withinOf z x) refl) ∙ q)) s
+    go false q = within-sound z x y w h (sym (pick-false false (done z) (withinOf z x) refl) ∙ q)
+
+pub scale-sound : (k : Iscl) (z y : Size) → SizeSound z → scaleOf k (z .width) (z .height) ≡ done y → SizeSound y
+unfolding scaleOf
+scale-sound k z y s e =
+    let a = refuse-done _ _ _ y e in
+    let b = refuse-done _ _ _ y (a .1) in
+    let c = refuse-done _ _ _ y (b .1) in
+    let d = refuse-done _ _ _ y (c .1) in
+    let f = refuse-done _ _ _ y (d .1) in
+    let g = refuse-done _ _ _ y (f .1) in
+    changed-sound z _ y s (scaled-some (z .width) _ _ (s .wide) (not-zero _ (a .0)) (not-zero _ (b .0)))
+    (scaled-some (z .height) _ _ (s .tall) (not-zero _ (c .0)) (not-zero _ (d .0))) (g .1)
+
+clap-sound : (c : Clap) (z : Size) (r : CropRect) (y : Size) → SizeSound z → Inside r (z .width) (z .height)
+    → _≡_ {A = Size} (record { width = r .width; height = r .height }) y → SizeSound y
+clap-sound c z r y s i e =
+    sound-as _ y e (record {
+      wide = i .wide;
+      tall = i .tall;
+      area = le-trans (mul-below (z .width) (z .height) (r .width) (r .height) (omega (arith, i .across)) (omega (arith, i .down))) (s .area);
+    })
+
+turn-sound : (z y : Size) (b : Bool) → SizeSound z → pick b (done (swapped z)) (done z) ≡ done y → SizeSound y
+unfolding pick swapped
+turn-sound z y true s e = sound-as _ y (done-same _ y e) (record { wide = s .tall; tall = s .wide; area = rw (mul-comm (z .height) (z .width)) (s .area) })
+turn-sound z y false s e = sound-as z y (done-same z y e) s
+
+pub size-sound : (p : Property) (z y : Size) → SizeSound z → sizeAfter p z ≡ done y → SizeSound y
+unfolding sizeAfter
+size-sound Property.Other z y s e = sound-as z y (done-same z y e) s
+size-sound (Property.Clap c) z y s e =
+    let a = andThen-done _ _ y e in
+    clap-sound c z (a .0) y s (resolve-inside c (z .width) (z .height) (a .0) (a .1)) (done-same _ y (a .2))
+size-sound (Property.Irot t) z y s e = turn-sound z y (odd (t .angle % 4)) s e
+size-sound (Property.Imir m) z y s e = sound-as z y (done-same z y e) s
+size-sound (Property.Iscl k) z y s e = scale-sound k z y s e
+
+-- and a chain of them
+pub chain-sound : (flag : Bool) (es : List PropertyEntry) (z : Size) → SizeSound z → Holds SizeSound (foldChain sizeAfter flag es z)
+chain-sound flag es z s = fold-holds SizeSound sizeAfter (λ p a i. done-holds SizeSound _ (λ y e. size-sound p a y i e)) flag es z s

@@ -1,0 +1,54 @@
+-- The text that `steps` prints, in ASCII (document 01, "Steps program"). Assumes nothing.
+use mathlib.Core.List.{List, [], _++_, _∷_}
+use Prim.Native.Nat.{_+_, ℕ}
+use Rattle.laws.specs.Out.{Out, done, refused}
+use Rattle.laws.specs.declared.Refusal.{Refusal}
+use Rattle.numbers.specs.Decimal.{decimal}
+use Rattle.props.specs.Entry.{kindOf}
+use Rattle.props.specs.Size.{sizeAfter}
+use Rattle.props.specs.declared.entry.PropertyEntry.{PropertyEntry}
+use Rattle.props.specs.declared.size.Size.{Size}
+use Rattle.steps_text.specs.Input.{Steps, stepsOf}
+
+-- "step kind width height" and the end of the line
+unfoldable pub heading : List ℕ
+heading =
+    115 ∷ 116 ∷ 101 ∷ 112 ∷ 32 ∷ 107 ∷ 105 ∷ 110 ∷ 100 ∷ 32 ∷ 119 ∷ 105 ∷ 100 ∷ 116 ∷ 104 ∷ 32
+    ∷ 104 ∷ 101 ∷ 105 ∷ 103 ∷ 104 ∷ 116 ∷ 10 ∷ []
+
+-- "refused "
+unfoldable pub refusedWord : List ℕ
+refusedWord = 114 ∷ 101 ∷ 102 ∷ 117 ∷ 115 ∷ 101 ∷ 100 ∷ 32 ∷ []
+
+-- a number in decimal and what stands after it: a space, 32, or the end of the line, 10
+unfoldable pub fieldText : ℕ → ℕ → List ℕ
+fieldText n after = decimal n ++ (after ∷ [])
+
+-- an entry's index and kind and the size after it
+unfoldable pub lineText : ℕ → ℕ → Size → List ℕ
+lineText i kind z = fieldText i 32 ++ (fieldText kind 32 ++ (fieldText (z .width) 32 ++ fieldText (z .height) 10))
+
+-- `refused` and its number
+unfoldable pub refusalText : Refusal → List ℕ
+refusalText e = refusedWord ++ fieldText (e .number) 10
+
+unfoldable pub refusedLine : ℕ → ℕ → Refusal → List ℕ
+refusedLine i kind e = fieldText i 32 ++ (fieldText kind 32 ++ refusalText e)
+
+-- the line of an entry, and what follows it: a refused entry ends the text
+unfoldable pub lineThen : ℕ → ℕ → Out Size → (Size → List ℕ) → List ℕ
+lineThen i kind (refused e) rest = refusedLine i kind e
+lineThen i kind (done z) rest = lineText i kind z ++ rest z
+
+-- a line for each entry, kind 0 too, from index i on; every entry is applied
+unfoldable pub linesFrom : ℕ → List PropertyEntry → Size → List ℕ
+linesFrom i [] z = []
+linesFrom i (e ∷ es) z = lineThen i (kindOf (e .property)) (sizeAfter (e .property) z) (λ y. linesFrom (i + 1) es y)
+
+-- refused input prints only `refused` and its number
+unfoldable pub outText : Out Steps → List ℕ
+outText (refused e) = refusalText e
+outText (done t) = heading ++ linesFrom 0 (t .entries) (t .size)
+
+unfoldable pub textOf : List ℕ → List ℕ
+textOf s = outText (stepsOf s)

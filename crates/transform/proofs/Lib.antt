@@ -1,0 +1,6 @@
+pub mod Walks
+pub mod Drawn
+pub mod Fits
+pub mod Draws
+pub mod Runs
+pub mod Shown

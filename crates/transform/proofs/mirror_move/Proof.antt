@@ -1,0 +1,28 @@
+use mathlib.Core.Path.{sym}
+use borrow.Author.Needs.{needs}
+use Rattle.transform.specs.Move.{mirrorMove}
+use Rattle.transform.proofs.mirror_move.Statement.{statement}
+use Rattle.transform.proofs.mirror_move.Tie as tie
+use Rattle.transform.proofs.mirror_move.Reads as reads
+use Rattle.transform.proofs.mirror_move.Lts as lts
+use Rattle.transform.proofs.end_axis.Reads as end-axis-reads
+
+-- src/lib.rt:120:17
+end-axis-requires : tie.Need-end-axis-requires
+end-axis-requires c κs = search needs
+
+-- src/lib.rt:121:15
+end-axis-requires-2 : tie.Need-end-axis-requires-2
+end-axis-requires-2 c κs = search needs
+
+-- src/lib.rt:112:1
+returns : tie.Need-returns
+unfolding mirrorMove
+returns c =
+    simp (
+      sym (c .before .end-axis .ensures),
+      sym (c .end-axis2 .ensures),
+    )
+
+pub mirror-move-spec : {M : Type 1} → statement M
+mirror-move-spec = tie.close (tie.spec end-axis-requires end-axis-requires-2 returns)

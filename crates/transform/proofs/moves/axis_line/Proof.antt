@@ -1,0 +1,34 @@
+use mathlib.Core.Path.{sym}
+use borrow.Author.Needs.{needs}
+use Rattle.laws.specs.Pick.{pick}
+use Rattle.transform.specs.Move.{lineOf}
+use Rattle.transform.proofs.moves.axis_line.Statement.{statement}
+use Rattle.transform.proofs.moves.axis_line.Tie as tie
+use Rattle.transform.proofs.moves.axis_line.Reads as reads
+use Rattle.transform.proofs.moves.axis_line.Lts as lts
+use Rattle.transform.proofs.moves.shift.Reads as shift-reads
+
+-- src/moves.rt:71:9
+shift-requires : tie.Need-shift-requires
+shift-requires c κs = search needs
+
+-- src/moves.rt:73:9
+returns : tie.Need-returns
+unfolding lineOf pick
+returns c =
+    simp (
+      sym (c .before .shift .ensures),
+      c .if1 .taken,
+    )
+
+-- src/moves.rt:66:1
+returns-2 : tie.Need-returns-2
+unfolding lineOf pick
+returns-2 c =
+    simp (
+      sym (c .before .shift .ensures),
+      c .if1 .left,
+    )
+
+pub axis-line-spec : {M : Type 1} → statement M
+axis-line-spec = tie.close (tie.spec shift-requires returns returns-2)

@@ -1,0 +1,30 @@
+use mathlib.Core.Path.{sym}
+use borrow.Author.Needs.{needs}
+use Rattle.laws.specs.Pick.{pick}
+use Rattle.transform.specs.Move.{planeAxis}
+use Rattle.transform.proofs.moves.plane_axis.Statement.{statement}
+use Rattle.transform.proofs.moves.plane_axis.Tie as tie
+use Rattle.transform.proofs.moves.plane_axis.Reads as reads
+use Rattle.transform.proofs.moves.plane_axis.Lts as lts
+use Rattle.image.proofs.covering.Reads as covering-reads
+
+-- src/moves.rt:133:9
+returns : tie.Need-returns
+unfolding planeAxis pick
+returns c = simp (c .if1 .taken)
+
+-- src/moves.rt:136:15
+covering-requires : tie.Need-covering-requires
+covering-requires c κs = search needs
+
+-- src/moves.rt:129:1
+returns-2 : tie.Need-returns-2
+unfolding planeAxis pick
+returns-2 c =
+    simp (
+      c .before .if1 .left,
+      sym (c .covering .ensures),
+    )
+
+pub plane-axis-spec : {M : Type 1} → statement M
+plane-axis-spec = tie.close (tie.spec returns covering-requires returns-2)

@@ -1,0 +1,60 @@
+use mathlib.Core.Path.{sym}
+use borrow.Author.Needs.{needs}
+use Rattle.transform.specs.Move.{walkOf}
+use Rattle.transform.proofs.moves.plane_walk.Statement.{statement}
+use Rattle.transform.proofs.moves.plane_walk.Tie as tie
+use Rattle.transform.proofs.moves.plane_walk.Reads as reads
+use Rattle.transform.proofs.moves.plane_walk.Lts as lts
+use Rattle.image.proofs.format.PixelFormat.half_height.Reads as half-height-reads
+use Rattle.image.proofs.format.PixelFormat.half_width.Reads as half-width-reads
+use Rattle.image.proofs.both.Reads as both-reads
+use Rattle.transform.proofs.moves.plane_axis.Reads as plane-axis-reads
+
+-- src/moves.rt:145:9
+half-width-requires : tie.Need-half-width-requires
+half-width-requires c κs = search needs
+
+-- src/moves.rt:146:9
+half-height-requires : tie.Need-half-height-requires
+half-height-requires c κs = search needs
+
+-- src/moves.rt:148:9
+plane-axis-requires : tie.Need-plane-axis-requires
+plane-axis-requires c κs = search needs
+
+-- src/moves.rt:149:9
+plane-axis-requires-2 : tie.Need-plane-axis-requires-2
+plane-axis-requires-2 c κs = search needs
+
+-- src/moves.rt:154:22
+both-requires : tie.Need-both-requires
+both-requires c κs = search needs
+
+-- src/moves.rt:155:20
+both-requires-2 : tie.Need-both-requires-2
+both-requires-2 c κs = search needs
+
+-- src/moves.rt:142:1
+returns : tie.Need-returns
+unfolding walkOf
+returns c =
+    simp (
+      sym (c .before .before .before .before .before .half-width .ensures),
+      sym (c .before .before .before .before .half-height .ensures),
+      sym (c .before .before .before .plane-axis .ensures),
+      sym (c .before .before .plane-axis2 .ensures),
+      sym (c .before .both .ensures),
+      sym (c .both2 .ensures),
+    )
+
+pub plane-walk-spec : {M : Type 1} → statement M
+plane-walk-spec =
+    tie.close
+    (tie.spec
+    half-width-requires
+    half-height-requires
+    plane-axis-requires
+    plane-axis-requires-2
+    both-requires
+    both-requires-2
+    returns)

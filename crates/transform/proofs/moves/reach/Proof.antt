@@ -1,0 +1,48 @@
+use mathlib.Core.Path.{sym}
+use borrow.Author.Needs.{needs}
+use Rattle.laws.specs.Pick.{pick}
+use Rattle.transform.specs.Move.{alongFrom}
+use Rattle.transform.proofs.moves.reach.Statement.{statement}
+use Rattle.transform.proofs.moves.reach.Tie as tie
+use Rattle.transform.proofs.moves.reach.Reads as reads
+use Rattle.transform.proofs.moves.reach.Lts as lts
+use Rattle.image.proofs.covering.Reads as covering-reads
+
+-- src/moves.rt:51:38
+sub-covering : tie.Need-sub-covering
+sub-covering c = c .before .pre .2 (c .if1 .taken)
+
+-- src/moves.rt:51:9
+covering-requires : tie.Need-covering-requires
+covering-requires c κs = search needs
+
+-- src/moves.rt:51:9
+returns : tie.Need-returns
+unfolding alongFrom pick
+returns c =
+    simp (
+      c .before .if1 .taken,
+      sym (c .covering .ensures),
+    )
+
+-- src/moves.rt:53:27
+add-covering : tie.Need-add-covering
+add-covering c = search needs
+
+-- src/moves.rt:53:5
+covering-requires-2 : tie.Need-covering-requires-2
+covering-requires-2 c κs = search needs
+
+-- src/moves.rt:44:1
+returns-2 : tie.Need-returns-2
+unfolding alongFrom pick
+returns-2 c =
+    simp (
+      c .before .if1 .left,
+      sym (c .covering2 .ensures),
+    )
+
+pub reach-spec : {M : Type 1} → statement M
+reach-spec =
+    tie.close
+    (tie.spec sub-covering covering-requires returns add-covering covering-requires-2 returns-2)

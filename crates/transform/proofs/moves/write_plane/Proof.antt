@@ -1,0 +1,145 @@
+use mathlib.Core.Bool.{true}
+use mathlib.Core.List.{List, _++_}
+use mathlib.Core.Path.{_∙_, _≡_, ap, sym}
+use Prim.Native.Nat.{_*_, _+_, ℕ}
+use lib.ListN.{length}
+use denote.Ref.{now}
+use borrow.Author.Needs.{needs}
+use Rattle.laws.proofs.Writing.{Writing, writing-begin, writing-fits, writing-last, writing-none, writing-run}
+use Rattle.laws.specs.Puts.{puts}
+use Rattle.image.proofs.RoundTrip.{plane-none}
+use Rattle.image.specs.Bytes.{dataOf, decode, planeBytes, planeHead}
+use Rattle.image.specs.Format.{bytesOf, columnsOf, hasPart, rowsOf}
+use Rattle.image.specs.Picture.{Pic}
+use Rattle.image.specs.Record.{planeOf}
+use Rattle.image.specs.declared.format.PixelFormat.{PixelFormat}
+use Rattle.image.specs.declared.record.Plane.{Plane}
+use Rattle.props.proofs.Cases.{across}
+use Rattle.transform.proofs.Drawn.{Worked, plane-drawn, walk-inside, worked-bytes, worked-inside, worked-size}
+use Rattle.transform.proofs.Walks.{length-walkBytes}
+use Rattle.transform.specs.Move.{WalkInside, moved, walkBytes, walkOf}
+use Rattle.transform.proofs.moves.write_plane.Statement.{statement}
+use Rattle.transform.proofs.moves.write_plane.Tie as tie
+use Rattle.transform.proofs.moves.write_plane.Reads as reads
+use Rattle.transform.proofs.moves.write_plane.Lts as lts
+use Rattle.image.proofs.format.PixelFormat.bytes_per_sample.Reads as bytes-per-sample-reads
+use Rattle.image.proofs.format.PixelFormat.columns.Reads as columns-reads
+use Rattle.image.proofs.format.PixelFormat.has.Reads as has-reads
+use Rattle.image.proofs.format.PixelFormat.rows.Reads as rows-reads
+use Rattle.image.proofs.record.Frame.plane.Reads as plane-reads
+use Rattle.image.proofs.plane_data.Reads as plane-data-reads
+use Rattle.image.proofs.write_plane_head.Reads as write-plane-head-reads
+use Rattle.transform.proofs.moves.plane_walk.Reads as plane-walk-reads
+use Rattle.transform.proofs.moves.write_rows.Reads as write-rows-reads
+
+-- the plane is there
+module _ (c : tie.Then1) where
+  abbrev P : Pic
+  P = decode (now (c .before .before .before .before .before .before .args .s)) (c .before .before .before .before .before .before .args .fr)
+
+  abbrev f : PixelFormat
+  f = c .before .before .before .before .before .before .args .fr .form .format
+
+  abbrev q : Plane
+  q = planeOf (c .before .before .before .before .before .before .args .fr) (c .before .before .before .before .before .before .args .part)
+
+  abbrev head : List ℕ
+  head = planeHead (c .before .before .before .before .before .before .args .v .form) (c .before .before .before .before .before .before .args .part)
+
+  abbrev rest : List ℕ
+  rest = walkBytes (dataOf (now (c .before .before .before .before .before .before .args .s)) q) (bytesOf f) (q .stride) (walkOf f (c .before .before .before .before .before .before .args .v) (c .before .before .before .before .before .before .args .part)) (columnsOf (c .before .before .before .before .before .before .args .v .form) (c .before .before .before .before .before .before .args .part)) (rowsOf (c .before .before .before .before .before .before .args .v .form) (c .before .before .before .before .before .before .args .part))
+
+  there : hasPart f (c .before .before .before .before .before .before .args .part) ≡ true
+  there = sym (c .before .before .before .before .before .before .pre .1 .parts (c .before .before .before .before .before .before .args .part)) ∙ sym (c .before .has .ensures) ∙ c .if1 .taken
+
+  start : Writing (now (c .before .before .before .before .before .before .args .out)) (c .before .before .before .before .before .before .args .at) (planeBytes (moved (c .before .before .before .before .before .before .args .v) P) (c .before .before .before .before .before .before .args .part)) (now (c .before .before .before .before .before .before .args .out)) (c .before .before .before .before .before .before .args .at) (head ++ rest)
+  start = writing-begin _ _ _ _ (plane-drawn (now (c .before .before .before .before .before .before .args .s)) (c .before .before .before .before .before .before .args .fr) (c .before .before .before .before .before .before .args .v) (c .before .before .before .before .before .before .args .part) there (c .before .before .before .before .before .before .pre .1)) (c .before .before .before .before .before .before .pre .2)
+
+  inside : WalkInside (dataOf (now (c .before .before .before .before .before .before .args .s)) q) (bytesOf f) (q .stride) (walkOf f (c .before .before .before .before .before .before .args .v) (c .before .before .before .before .before .before .args .part)) (columnsOf (c .before .before .before .before .before .before .args .v .form) (c .before .before .before .before .before .before .args .part)) (rowsOf (c .before .before .before .before .before .before .args .v .form) (c .before .before .before .before .before .before .args .part))
+  inside = walk-inside (now (c .before .before .before .before .before .before .args .s)) (c .before .before .before .before .before .before .args .fr) (c .before .before .before .before .before .before .args .v) (c .before .before .before .before .before .before .args .part) there (c .before .before .before .before .before .before .pre .0) (c .before .before .before .before .before .before .pre .1)
+
+  size : length rest ≡ rowsOf (c .before .before .before .before .before .before .args .v .form) (c .before .before .before .before .before .before .args .part) * (columnsOf (c .before .before .before .before .before .before .args .v .form) (c .before .before .before .before .before .before .args .part) * bytesOf f)
+  size = length-walkBytes _ _ _ _ _ _ (inside .some) (inside .few)
+
+first : (c : tie.After-write-plane-head) → Writing (now (c .before .before .before .before .before .before .before .before .args .out)) (c .before .before .before .before .before .before .before .before .args .at) (planeBytes (moved (c .before .before .before .before .before .before .before .before .args .v) (P (c .before .before))) (c .before .before .before .before .before .before .before .before .args .part)) (c .write-plane-head .last .0) (c .write-plane-head .result) (rest (c .before .before))
+first c = writing-run (head (c .before .before)) (start (c .before .before)) (c .write-plane-head .ensures .0) (c .write-plane-head .ensures .1)
+
+-- the numbers that were worked out
+module _ (c : tie.After-bytes-per-sample) where
+  worked : Worked (dataOf (now (c .before .before .before .before .before .before .before .before .before .before .before .before .before .before .before .before .before .before .before .args .s)) (q (c .before .before .before .before .before .before .before .before .before .before .before .before .before))) (now (c .before .before .plane-data .result)) (bytesOf (f (c .before .before .before .before .before .before .before .before .before .before .before .before .before))) (c .bytes-per-sample .result) (q (c .before .before .before .before .before .before .before .before .before .before .before .before .before) .stride) (c .before .before .before .before .before .before .plane .result .stride)
+      (walkOf (f (c .before .before .before .before .before .before .before .before .before .before .before .before .before)) (c .before .before .before .before .before .before .before .before .before .before .before .before .before .before .before .before .before .before .before .args .v) (c .before .before .before .before .before .before .before .before .before .before .before .before .before .before .before .before .before .before .before .args .part)) (c .before .before .before .before .before .plane-walk .result) (columnsOf (c .before .before .before .before .before .before .before .before .before .before .before .before .before .before .before .before .before .before .before .args .v .form) (c .before .before .before .before .before .before .before .before .before .before .before .before .before .before .before .before .before .before .before .args .part)) (c .before .before .before .before .columns .result) (rowsOf (c .before .before .before .before .before .before .before .before .before .before .before .before .before .before .before .before .before .before .before .args .v .form) (c .before .before .before .before .before .before .before .before .before .before .before .before .before .before .before .before .before .before .before .args .part)) (c .before .before .before .rows .result)
+  unfolding columnsOf rowsOf
+  worked = record {
+    bits = c .before .before .plane-data .ensures ∙ ap (dataOf (now (c .before .before .before .before .before .before .before .before .before .before .before .before .before .before .before .before .before .before .before .args .s))) (c .before .before .before .before .before .before .plane .ensures);
+    sample = c .bytes-per-sample .ensures;
+    row = ap (λ (k : Plane). k .stride) (c .before .before .before .before .before .before .plane .ensures);
+    walk = c .before .before .before .before .before .plane-walk .ensures;
+    across = c .before .before .before .before .columns .ensures;
+    down = c .before .before .before .rows .ensures;
+  }
+
+-- src/moves.rt:176:8
+has-requires : tie.Need-has-requires
+has-requires c κs = search needs
+
+-- src/moves.rt:177:13
+write-plane-head-requires : tie.Need-write-plane-head-requires
+write-plane-head-requires c κs = (c .before .before .before .before .before .before .before .pre .1 .sound, writing-fits (head (c .before)) (rest (c .before)) (start (c .before)))
+
+-- src/moves.rt:180:13
+plane-requires : tie.Need-plane-requires
+plane-requires c κs = search needs
+
+-- src/moves.rt:181:13
+plane-walk-requires : tie.Need-plane-walk-requires
+plane-walk-requires c κs = search needs
+
+-- src/moves.rt:182:13
+columns-requires : tie.Need-columns-requires
+columns-requires c κs = search needs
+
+-- src/moves.rt:183:13
+rows-requires : tie.Need-rows-requires
+rows-requires c κs = search needs
+
+-- src/moves.rt:184:13
+plane-data-requires : tie.Need-plane-data-requires
+plane-data-requires c κs = rw (c .before .before .before .plane .ensures) (c .before .before .before .before .before .before .before .before .before .before .before .before .before .before .before .before .pre .0 .planes (c .before .before .before .before .before .before .before .before .before .before .before .before .before .before .before .before .args .part) (there (c .before .before .before .before .before .before .before .before .before .before)) .inside)
+
+-- src/moves.rt:185:46
+bytes-per-sample-requires : tie.Need-bytes-per-sample-requires
+bytes-per-sample-requires c κs = search needs
+
+-- src/moves.rt:185:9
+write-rows-requires : tie.Need-write-rows-requires
+write-rows-requires c κs = (worked-inside (worked c) (inside (c .before .before .before .before .before .before .before .before .before .before .before .before .before)), rw (worked-size (worked c) ∙ sym (size (c .before .before .before .before .before .before .before .before .before .before .before .before .before))) (first (c .before .before .before .before .before .before .before .before .before .before .before) .room))
+
+-- src/moves.rt:185:9
+same-length : tie.Need-same-length
+same-length c = search needs
+
+-- src/moves.rt:185:9
+returns : tie.Need-returns
+returns c = writing-last (first (c .before .before .before .before .before .before .before .before .before .before .before .before .before .before)) (c .before .before .write-rows .ensures .0 ∙ ap (λ (k : ℕ). c .before .before .before .before .before .before .before .before .before .before .before .before .before .before .write-plane-head .result + k) (worked-size (worked (c .before .before .before)) ∙ sym (size (c .before .before .before .before .before .before .before .before .before .before .before .before .before .before .before .before)))) (c .before .before .write-rows .ensures .1 ∙ ap (puts (c .before .before .before .before .before .before .before .before .before .before .before .before .before .before .write-plane-head .last .0) (c .before .before .before .before .before .before .before .before .before .before .before .before .before .before .write-plane-head .result)) (worked-bytes (worked (c .before .before .before))))
+
+-- src/moves.rt:169:1
+returns-2 : tie.Need-returns-2
+unfolding moved
+returns-2 c = writing-none (now (c .before .before .before .before .before .before .args .out)) (c .before .before .before .before .before .before .args .at) _ (plane-none (moved (c .before .before .before .before .before .before .args .v) (decode (now (c .before .before .before .before .before .before .args .s)) (c .before .before .before .before .before .before .args .fr))) (c .before .before .before .before .before .before .args .part) (sym (c .before .has .ensures) ∙ c .if1 .left))
+
+pub write-plane-spec : {M : Type 1} → statement M
+write-plane-spec =
+    tie.close
+    (tie.spec
+    has-requires
+    write-plane-head-requires
+    plane-requires
+    plane-walk-requires
+    columns-requires
+    rows-requires
+    plane-data-requires
+    bytes-per-sample-requires
+    write-rows-requires
+    same-length
+    returns
+    returns-2)

@@ -1,0 +1,81 @@
+use mathlib.Core.Path.{sym}
+use borrow.Author.Needs.{needs}
+use Rattle.transform.specs.Move.{quarterMove, quarterWith}
+use Rattle.transform.specs.Turn.{lopsided}
+use Rattle.transform.proofs.quarter_move.Statement.{statement}
+use Rattle.transform.proofs.quarter_move.Tie as tie
+use Rattle.transform.proofs.quarter_move.Reads as reads
+use Rattle.transform.proofs.quarter_move.Lts as lts
+use Rattle.image.proofs.format.Form.sized.Reads as sized-reads
+use Rattle.image.proofs.format.PixelFormat.needs_444.Reads as needs-444-reads
+use Rattle.image.proofs.either.Reads as either-reads
+use Rattle.transform.proofs.end_axis.Reads as end-axis-reads
+use Rattle.transform.proofs.form_with.Reads as form-with-reads
+use Rattle.transform.proofs.is_odd.Reads as is-odd-reads
+
+-- src/lib.rt:85:41
+is-odd-requires : tie.Need-is-odd-requires
+is-odd-requires c κs = search needs
+
+-- src/lib.rt:85:9
+either-requires : tie.Need-either-requires
+either-requires c κs = search needs
+
+-- src/lib.rt:86:41
+is-odd-requires-2 : tie.Need-is-odd-requires-2
+is-odd-requires-2 c κs = search needs
+
+-- src/lib.rt:86:9
+either-requires-2 : tie.Need-either-requires-2
+either-requires-2 c κs = search needs
+
+-- src/lib.rt:87:9
+needs-444-requires : tie.Need-needs-444-requires
+needs-444-requires c κs = search needs
+
+-- src/lib.rt:89:15
+form-with-requires : tie.Need-form-with-requires
+form-with-requires c κs = search needs
+
+-- src/lib.rt:89:15
+sized-requires : tie.Need-sized-requires
+sized-requires c κs = search needs
+
+-- src/lib.rt:92:17
+end-axis-requires : tie.Need-end-axis-requires
+end-axis-requires c κs = search needs
+
+-- src/lib.rt:93:15
+end-axis-requires-2 : tie.Need-end-axis-requires-2
+end-axis-requires-2 c κs = search needs
+
+-- src/lib.rt:79:1
+returns : tie.Need-returns
+unfolding quarterMove quarterWith lopsided
+returns c =
+    simp (
+      sym (c .before .before .before .before .before .before .before .before .is-odd .ensures),
+      sym (c .before .before .before .before .before .before .before .either .ensures),
+      sym (c .before .before .before .before .before .before .is-odd2 .ensures),
+      sym (c .before .before .before .before .before .either2 .ensures),
+      sym (c .before .before .before .before .needs-444 .ensures),
+      sym (c .before .before .before .form-with .ensures),
+      sym (c .before .before .sized .ensures),
+      sym (c .before .end-axis .ensures),
+      sym (c .end-axis2 .ensures),
+    )
+
+pub quarter-move-spec : {M : Type 1} → statement M
+quarter-move-spec =
+    tie.close
+    (tie.spec
+    is-odd-requires
+    either-requires
+    is-odd-requires-2
+    either-requires-2
+    needs-444-requires
+    form-with-requires
+    sized-requires
+    end-axis-requires
+    end-axis-requires-2
+    returns)

@@ -1,0 +1,4 @@
+pub mod Turn
+pub mod Place
+pub mod Move
+pub mod Run

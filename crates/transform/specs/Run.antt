@@ -1,0 +1,44 @@
+-- What each operation answers and writes (document 01, clap, irot, imir and their refusals). Assumes nothing.
+use mathlib.Core.List.{List}
+use Prim.Native.Nat.{_+_, ℕ}
+use lib.Dec.{eqb, ltb}
+use Rattle.laws.specs.Out.{Out, andThen, fitted, refuse}
+use Rattle.image.specs.Bytes.{decode, encode}
+use Rattle.image.specs.Picture.{odd}
+use Rattle.image.specs.Record.{recordOf}
+use Rattle.image.specs.declared.record.Frame.{Frame}
+use Rattle.props.specs.Aperture.{resolveOf}
+use Rattle.props.specs.declared.clap.CropRect.{CropRect}
+use Rattle.props.specs.declared.entry.Imir.{Imir}
+use Rattle.props.specs.declared.entry.Irot.{Irot}
+use Rattle.props.specs.declared.clap.Clap.{Clap}
+use Rattle.transform.specs.Turn.{Quarter, crop, mirror, q0, q1, q2, q3, quarterOf, turn}
+
+-- crop: the record, then 9 for a rectangle that has no side or is not inside, then 17
+unfoldable pub cropOf : List ℕ → Frame → CropRect → ℕ → Out (List ℕ)
+cropOf s fr r room =
+    refuse (eqb (r .width) 0) 9
+    (refuse (eqb (r .height) 0) 9
+    (refuse (ltb (fr .form .width) (r .x + r .width)) 9
+    (refuse (ltb (fr .form .height) (r .y + r .height)) 9 (fitted room (encode (crop (decode s fr) r))))))
+
+unfoldable pub cropRun : List ℕ → CropRect → ℕ → Out (List ℕ)
+cropRun s r room = andThen (recordOf s) (λ fr. cropOf s fr r room)
+
+-- clap: the record, then the aperture's refusals, then 17
+unfoldable pub clapRun : List ℕ → Clap → ℕ → Out (List ℕ)
+clapRun s c room = andThen (recordOf s) (λ fr. andThen (resolveOf c (fr .form .width) (fr .form .height)) (λ r. fitted room (encode (crop (decode s fr) r))))
+
+-- irot: angle mod 4 quarter turns anticlockwise; 0 hands back the record byte for byte
+unfoldable pub turnBytes : List ℕ → Frame → Quarter → List ℕ
+turnBytes s fr q0 = s
+turnBytes s fr q1 = encode (turn (decode s fr) q1)
+turnBytes s fr q2 = encode (turn (decode s fr) q2)
+turnBytes s fr q3 = encode (turn (decode s fr) q3)
+
+unfoldable pub irotRun : List ℕ → Irot → ℕ → Out (List ℕ)
+irotRun s k room = andThen (recordOf s) (λ fr. fitted room (turnBytes s fr (quarterOf (k .angle))))
+
+-- imir: axis mod 2; 0 exchanges top and bottom, 1 left and right; output tight
+unfoldable pub imirRun : List ℕ → Imir → ℕ → Out (List ℕ)
+imirRun s k room = andThen (recordOf s) (λ fr. fitted room (encode (mirror (decode s fr) (odd (k .axis)))))

@@ -1,0 +1,231 @@
+// Crop, quarter turns and mirrors, each from a record to a tight record in a lent output.
+mod moves;
+
+ghost use mathlib.Core.Path.{_≡_};
+ghost use Prim.Native.Nat.{_≤_};
+ghost use lib.ListN.{length};
+ghost use Rattle.laws.specs.Out.{answerOf, written, fitted};
+ghost use Rattle.image.specs.Picture.{odd};
+ghost use Rattle.image.specs.Sound.{FormSound, Sound};
+ghost use Rattle.image.specs.Bytes.{decode, encode};
+ghost use Rattle.transform.specs.Move.{moved, MoveFits, formWith, endAxis, cropMove, quarterMove, halfMove, mirrorMove};
+ghost use Rattle.transform.specs.Run.{cropRun, clapRun, irotRun, imirRun};
+use crate::moves::Axis;
+use crate::moves::Move;
+use image::Form;
+use image::Frame;
+use image::FrameRead;
+use laws::Answer;
+use laws::Refusal;
+use props::Clap;
+use props::CropRect;
+use props::Imir;
+use props::Irot;
+use props::Resolved;
+
+fn is_odd(n: u32) -> bool
+    ensures { λ r. ⌜ r ≡ odd n ⌝ }
+{
+    n % 2 == 1
+}
+
+fn form_with(promoted: bool, m: Form) -> Form
+    ensures { λ r. ⌜ r ≡ formWith promoted m ⌝ }
+{
+    if promoted {
+        return m.as_444();
+    }
+    m
+}
+
+fn crop_move(m: Form, r: CropRect) -> Move
+    ensures { λ v. ⌜ v ≡ cropMove m r ⌝ }
+{
+    let x_odd = image::either(is_odd(r.x), is_odd(r.width));
+    let y_odd = image::either(is_odd(r.y), is_odd(r.height));
+    let f = m.format;
+    let promoted = f.needs_444(x_odd, y_odd);
+    Move {
+        form: form_with(promoted, m).sized(r.width, r.height),
+        promoted,
+        swapped: false,
+        across: Axis {
+            from: r.x as usize,
+            back: false,
+        },
+        down: Axis {
+            from: r.y as usize,
+            back: false,
+        },
+    }
+}
+
+// From one end of n places to the other.
+fn end_axis(back: bool, n: u32) -> Axis
+    requires { ⌜ 1 ≤ n ⌝ }
+    ensures { λ r. ⌜ r ≡ endAxis back n ⌝ }
+{
+    if back {
+        return Axis {
+            from: n as usize - 1,
+            back: true,
+        };
+    }
+    Axis {
+        from: 0,
+        back: false,
+    }
+}
+
+// A quarter turn: the columns run down, from the bottom where `up`, and the rows across, from the right where `left`.
+fn quarter_move(m: Form, left: bool, up: bool) -> Move
+    requires { ⌜ FormSound m ⌝ }
+    ensures { λ v. ⌜ v ≡ quarterMove m left up ⌝ }
+{
+    let f = m.format;
+    let lopsided = f.chroma == 2;
+    let x_odd = image::either(lopsided, is_odd(m.width));
+    let y_odd = image::either(lopsided, is_odd(m.height));
+    let promoted = f.needs_444(x_odd, y_odd);
+    Move {
+        form: form_with(promoted, m).sized(m.height, m.width),
+        promoted,
+        swapped: true,
+        across: end_axis(left, m.width),
+        down: end_axis(up, m.height),
+    }
+}
+
+fn half_move(m: Form) -> Move
+    requires { ⌜ FormSound m ⌝ }
+    ensures { λ v. ⌜ v ≡ halfMove m ⌝ }
+{
+    let f = m.format;
+    let promoted = f.needs_444(is_odd(m.width), is_odd(m.height));
+    Move {
+        form: form_with(promoted, m).sized(m.width, m.height),
+        promoted,
+        swapped: false,
+        across: end_axis(true, m.width),
+        down: end_axis(true, m.height),
+    }
+}
+
+fn mirror_move(m: Form, sideways: bool) -> Move
+    requires { ⌜ FormSound m ⌝ }
+    ensures { λ v. ⌜ v ≡ mirrorMove m sideways ⌝ }
+{
+    Move {
+        form: m,
+        promoted: false,
+        swapped: false,
+        across: end_axis(sideways, m.width),
+        down: end_axis(!sideways, m.height),
+    }
+}
+
+// Draws a move of a record where there is room for it.
+fn draw(record: &[u8], fr: Frame, v: Move, out: &mut [u8]) -> Answer
+    requires { ⌜ Sound (now «record») fr × MoveFits (fr .form) v ⌝ }
+    ensures { λ r. ⌜ (r ≡ answerOf (fitted (length (now (out .entry))) (encode (moved v (decode (now («record» .entry)) fr)))))
+        × (now (out .exit) ≡ written (fitted (length (now (out .entry))) (encode (moved v (decode (now («record» .entry)) fr)))) (now (out .entry))) ⌝ }
+{
+    let form = v.form;
+    if out.len() < image::record_size(form) {
+        return Answer::Refused(Refusal::ROOM);
+    }
+    Answer::Wrote(moves::write_moved(out, record, fr, v))
+}
+
+// Hands the record back byte for byte where there is room for it.
+fn hand_back(record: &[u8], out: &mut [u8]) -> Answer
+    ensures { λ r. ⌜ (r ≡ answerOf (fitted (length (now (out .entry))) (now («record» .entry))))
+        × (now (out .exit) ≡ written (fitted (length (now (out .entry))) (now («record» .entry))) (now (out .entry))) ⌝ }
+{
+    if out.len() < record.len() {
+        return Answer::Refused(Refusal::ROOM);
+    }
+    Answer::Wrote(image::copy_row(out, 0, record))
+}
+
+// The part of a record's picture in a rectangle.
+pub fn crop(record: &[u8], r: CropRect, out: &mut [u8]) -> Answer
+    ensures { λ a. ⌜ (a ≡ answerOf (cropRun (now («record» .entry)) r (length (now (out .entry)))))
+        × (now (out .exit) ≡ written (cropRun (now («record» .entry)) r (length (now (out .entry)))) (now (out .entry))) ⌝ }
+{
+    match image::parse_record(record) {
+        FrameRead::Refused(e) => Answer::Refused(e),
+        FrameRead::Read(f) => {
+            let m = f.form;
+            if r.width == 0 {
+                return Answer::Refused(Refusal::OUTSIDE);
+            }
+            if r.height == 0 {
+                return Answer::Refused(Refusal::OUTSIDE);
+            }
+            if (m.width as u64) < r.x as u64 + r.width as u64 {
+                return Answer::Refused(Refusal::OUTSIDE);
+            }
+            if (m.height as u64) < r.y as u64 + r.height as u64 {
+                return Answer::Refused(Refusal::OUTSIDE);
+            }
+            draw(record, f, crop_move(m, r), out)
+        }
+    }
+}
+
+// A record's picture cropped by a clap property.
+pub fn apply_clap(record: &[u8], clap: Clap, out: &mut [u8]) -> Answer
+    ensures { λ a. ⌜ (a ≡ answerOf (clapRun (now («record» .entry)) clap (length (now (out .entry)))))
+        × (now (out .exit) ≡ written (clapRun (now («record» .entry)) clap (length (now (out .entry)))) (now (out .entry))) ⌝ }
+{
+    match image::parse_record(record) {
+        FrameRead::Refused(e) => Answer::Refused(e),
+        FrameRead::Read(f) => {
+            let m = f.form;
+            let found = clap.resolve(m.width, m.height);
+            let Resolved::Rect(r) = found else {
+                return Answer::Refused(found.refusal());
+            };
+            draw(record, f, crop_move(m, r), out)
+        }
+    }
+}
+
+// A record's picture turned by an irot property.
+pub fn apply_irot(record: &[u8], irot: Irot, out: &mut [u8]) -> Answer
+    ensures { λ a. ⌜ (a ≡ answerOf (irotRun (now («record» .entry)) irot (length (now (out .entry)))))
+        × (now (out .exit) ≡ written (irotRun (now («record» .entry)) irot (length (now (out .entry)))) (now (out .entry))) ⌝ }
+{
+    match image::parse_record(record) {
+        FrameRead::Refused(e) => Answer::Refused(e),
+        FrameRead::Read(f) => {
+            let m = f.form;
+            let quarter = irot.angle % 4;
+            if quarter == 0 {
+                return hand_back(record, out);
+            }
+            if quarter == 1 {
+                return draw(record, f, quarter_move(m, true, false), out);
+            }
+            if quarter == 2 {
+                return draw(record, f, half_move(m), out);
+            }
+            draw(record, f, quarter_move(m, false, true), out)
+        }
+    }
+}
+
+// A record's picture mirrored by an imir property.
+pub fn apply_imir(record: &[u8], imir: Imir, out: &mut [u8]) -> Answer
+    ensures { λ a. ⌜ (a ≡ answerOf (imirRun (now («record» .entry)) imir (length (now (out .entry)))))
+        × (now (out .exit) ≡ written (imirRun (now («record» .entry)) imir (length (now (out .entry)))) (now (out .entry))) ⌝ }
+{
+    match image::parse_record(record) {
+        FrameRead::Refused(e) => Answer::Refused(e),
+        FrameRead::Read(f) => {
+            let m = f.form;
+            draw(record, f, mirror_move(m, imir.axis % 2 == 1), out)
+        }
+    }
+}

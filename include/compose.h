@@ -1,0 +1,119 @@
+/* The composer's calls for C. Link with target/staticlib/libcapi.a, which `rt staticlib capi` proves and writes.
+ *
+ * Each call has a contract in crates/capi/src, for every input; what is said here is short for it. A call takes any
+ * bytes. It reads and writes only what it is lent, allocates nothing and keeps nothing. A part of length 0 may have
+ * any pointer but NULL, and a part that is written overlaps no other.
+ *
+ * A record is a picture, a tray several of them, as document 01 sets them out ("What is handed in").
+ */
+#ifndef COMPOSE_H
+#define COMPOSE_H
+
+#include <stddef.h>
+#include <stdint.h>
+
+#ifdef __cplusplus
+extern "C" {
+#endif
+
+/* Every call answers a number of 64 bits. Below 2^63 it is a length, a count, or 0 where there is none; from there on
+ * it is 2^63 + the number of a refusal, and then nothing was written. */
+#define COMPOSE_REFUSED UINT64_C(0x8000000000000000)
+
+/* Whether an answer is a refusal. */
+#define COMPOSE_IS_REFUSAL(answer) ((answer) >= COMPOSE_REFUSED)
+
+/* The number of a refusal. */
+#define COMPOSE_REFUSAL(answer) ((int)((answer) & 0xff))
+
+/* The refusals (document 01, "Refusals in order"). */
+enum compose_refusal {
+    COMPOSE_SHORT = 1,      /* a descriptor body is empty or cut short */
+    COMPOSE_VERSION = 2,    /* a descriptor's version is not 0 */
+    COMPOSE_EMPTY = 3,      /* a side is 0 */
+    COMPOSE_LIMIT = 4,      /* above a limit */
+    COMPOSE_MALFORMED = 5,  /* malformed bytes */
+    COMPOSE_DEPTH = 6,      /* a depth outside 8 to 16 */
+    COMPOSE_ZERO = 7,       /* a zero term of a fraction */
+    COMPOSE_FRACTION = 8,   /* a size or an edge that is no whole number */
+    COMPOSE_OUTSIDE = 9,    /* a rectangle outside its picture */
+    COMPOSE_SCALE = 10,     /* a scaled side above 2^32 - 1 */
+    COMPOSE_COUNT = 11,     /* a count or an index that differs */
+    COMPOSE_COVER = 12,     /* tiles that do not cover the canvas */
+    COMPOSE_TILE = 13,      /* a tile of another size */
+    COMPOSE_LAYOUT = 14,    /* another chroma or depth */
+    COMPOSE_MISSING = 15,   /* no inputs, nothing placed, or a cell missing */
+    COMPOSE_OPACITY = 16,   /* an alpha sample above top */
+    COMPOSE_ROOM = 17,      /* a lent buffer that is too short */
+    COMPOSE_POINT = 18      /* no point answer */
+};
+
+/* What a record says, in 17 words: width, height, chroma, depth, alpha; then of luma, Cb, Cr and alpha each where its
+ * bytes start, how many they are, and its stride. Answers 0. Refusals: the record's; 17 an answer below 17 words. */
+uint64_t compose_record(const uint8_t *record, size_t record_len, uint64_t *answer, size_t answer_len);
+
+/* How many records a tray has. Refusals: the tray's. */
+uint64_t compose_tray(const uint8_t *tray, size_t tray_len);
+
+/* What a grid's descriptor body says, in 4 words: rows, columns, width, height. Answers 0. Refusals: the body's; 17 an
+ * answer below 4 words. */
+uint64_t compose_grid_descriptor(const uint8_t *body, size_t body_len, uint64_t *answer, size_t answer_len);
+
+/* What the descriptor body of an overlay of so many inputs says, in 6 words: the fill's red, green, blue and alpha,
+ * width, height. Answers 0. Refusals: the body's; 17 an answer below 6 words. */
+uint64_t compose_overlay_descriptor(const uint8_t *body, size_t body_len, uint32_t count, uint64_t *answer,
+                                    size_t answer_len);
+
+/* Where an input of an overlay goes, in 4 words: how far right and how far left of the canvas edge, then how far below
+ * and how far above it; of each pair one is 0. Answers 0. Refusals: the body's; 11 an index outside; 17 an answer below
+ * 4 words. */
+uint64_t compose_overlay_offset(const uint8_t *body, size_t body_len, uint32_t count, uint32_t index, uint64_t *answer,
+                                size_t answer_len);
+
+/* How many entries a chain has. Refusals: the chain's. */
+uint64_t compose_chain(const uint8_t *chain, size_t chain_len);
+
+/* The rectangle that a clap property cuts out of a size, in 4 words: x, y, width, height. Answers 0. Refusals: clap's;
+ * 17 an answer below 4 words. */
+uint64_t compose_clap_resolve(uint32_t width_n, uint32_t width_d, uint32_t height_n, uint32_t height_d,
+                              uint32_t horiz_off_n, uint32_t horiz_off_d, uint32_t vert_off_n, uint32_t vert_off_d,
+                              uint32_t width, uint32_t height, uint32_t *answer, size_t answer_len);
+
+/* The size that an iscl property makes of a size, in 2 words: width, height. Answers 0. Refusals: iscl's; 17 an answer
+ * below 2 words. */
+uint64_t compose_iscl_size(uint16_t width_num, uint16_t width_den, uint16_t height_num, uint16_t height_den,
+                           uint32_t width, uint32_t height, uint32_t *answer, size_t answer_len);
+
+/* The text that the steps program prints for an input, at the start of `out`. Answers its length. Refusal: 17 an `out`
+ * that is shorter. */
+uint64_t compose_steps(const uint8_t *input, size_t input_len, uint8_t *out, size_t out_len);
+
+/* The samples of a fill colour, in 3 words. Colour 0 is no description, and then matrix and range say nothing; a full
+ * range of 0 is the studio range. Answers 0. Refusals: 6 a depth outside 8 to 16; 17 an answer below 3 words. */
+uint64_t compose_fill(uint16_t red, uint16_t green, uint16_t blue, uint32_t depth, uint8_t colour, uint16_t matrix,
+                      uint8_t full_range, uint16_t *answer, size_t answer_len);
+
+/* One operation on one record. Each writes a record at the start of `out`, leaves what is past it, and answers its
+ * length. 17, the last refusal of each: `out` is shorter than that record. */
+
+/* The part of a record in a rectangle. Refusals: the record's, 9, 17. */
+uint64_t compose_crop(const uint8_t *record, size_t record_len, uint32_t x, uint32_t y, uint32_t width, uint32_t height,
+                      uint8_t *out, size_t out_len);
+
+/* A record cropped by a clap property. An offset's numerator is the unsigned pattern of a signed number. Refusals: the
+ * record's, 7, 8, 9, 17. */
+uint64_t compose_clap(const uint8_t *record, size_t record_len, uint32_t width_n, uint32_t width_d, uint32_t height_n,
+                      uint32_t height_d, uint32_t horiz_off_n, uint32_t horiz_off_d, uint32_t vert_off_n,
+                      uint32_t vert_off_d, uint8_t *out, size_t out_len);
+
+/* A record turned by angle mod 4 quarter turns anticlockwise. Refusals: the record's, 17. */
+uint64_t compose_irot(const uint8_t *record, size_t record_len, uint8_t angle, uint8_t *out, size_t out_len);
+
+/* A record mirrored: axis mod 2, 0 exchanges top and bottom, 1 left and right. Refusals: the record's, 17. */
+uint64_t compose_imir(const uint8_t *record, size_t record_len, uint8_t axis, uint8_t *out, size_t out_len);
+
+#ifdef __cplusplus
+}
+#endif
+
+#endif

@@ -1,0 +1,159 @@
+//! What is timed, a line a case.
+
+use compose::HeifFrame;
+use compose::props::{Imir, Irot};
+use differential::generate::{self, Form};
+use differential::ours::{Answer, Composer, Linked};
+use differential::rng::Rng;
+use model::{Chroma, Clap, Colour, Frame, Operation, Rectangle, Work};
+use std::hint::black_box;
+
+/// A call of the composer, on a lent buffer.
+type Call = Box<dyn Fn(&mut [u8])>;
+
+/// One case: the composer's call on a buffer of `room` bytes, the same work by the crate `compose`
+/// on frames, and the same of the published Rust.
+pub struct Case {
+    pub name: String,
+    pub room: usize,
+    pub call: Call,
+    pub frames: Option<Box<dyn Fn()>>,
+    pub theirs: Work,
+}
+
+/// A square picture of 4:2:0 without alpha, its rows tight and its samples anything up to top.
+fn picture(depth: u8, side: u32) -> Frame {
+    let form = Form {
+        chroma: Chroma::Yuv420,
+        depth,
+        alpha: 0,
+    };
+    generate::even(&mut Rng::new(u64::from(depth)), (side, side), form)
+}
+
+/// What the picture is, behind a case's name.
+fn named(name: &str, frame: &Frame) -> String {
+    let Frame { width, height, .. } = frame;
+    format!("{name}, {width} × {height} 4:2:0, {} bits", frame.depth)
+}
+
+/// An answer that must come.
+fn answered<T>(answer: Option<Answer<T>>) -> T {
+    let answer = answer.expect("the composer has the call");
+    answer.unwrap_or_else(|number| panic!("refused {number}"))
+}
+
+/// An operation on a picture.
+fn operation(name: &str, frame: &Frame, operation: Operation) -> Case {
+    let record = frame.record();
+    // Promotion at most doubles it.
+    let mut ample = vec![0; 2 * record.len() + 64];
+    Case {
+        name: named(name, frame),
+        room: answered(Linked.operation(&record, &operation, &mut ample)),
+        call: Box::new(move |output| {
+            answered(Linked.operation(&record, &operation, output));
+        }),
+        frames: on_frames(frame, operation),
+        theirs: Work::Operation(frame.clone(), operation),
+    }
+}
+
+/// The same operation by the crate `compose`, where it has it: a frame in, a frame out.
+fn on_frames(frame: &Frame, operation: Operation) -> Option<Box<dyn Fn()>> {
+    let frame = HeifFrame::from_record(&frame.record()).expect("a record");
+    let made = move |made: compose::Result<HeifFrame>| drop(black_box(made.expect("a picture")));
+    Some(match operation {
+        Operation::Crop(to) => {
+            Box::new(move || made(compose::crop(&frame, to.x, to.y, to.width, to.height)))
+        }
+        Operation::Irot(angle) => {
+            Box::new(move || made(compose::apply_irot(&frame, &Irot::new(angle))))
+        }
+        Operation::Imir(axis) => {
+            Box::new(move || made(compose::apply_imir(&frame, &Imir::new(axis))))
+        }
+        _ => return None,
+    })
+}
+
+/// Reading one record; the published Rust's counterpart is `validate`.
+fn reading(frame: &Frame) -> Case {
+    let record = frame.record();
+    Case {
+        name: named("read a record", frame),
+        room: 0,
+        call: Box::new(move |_| {
+            answered(Linked.record(&record));
+        }),
+        frames: None,
+        theirs: Work::Validate(frame.clone()),
+    }
+}
+
+/// One fill colour.
+fn fill(name: &str, colour: Option<Colour>) -> Case {
+    let channels = [50_000, 1_000, 65_535];
+    Case {
+        name: format!("fill, {name}, 10 bits"),
+        room: 0,
+        call: Box::new(move |_| {
+            answered(Linked.fill(channels, 10, colour, &mut [0; 3]));
+        }),
+        frames: None,
+        theirs: Work::Fill(channels, 10, colour),
+    }
+}
+
+/// Every case, on square pictures of the given side, a multiple of 8.
+pub fn all(side: u32) -> Vec<Case> {
+    let half = side / 2;
+    let from = |edge| {
+        Operation::Crop(Rectangle {
+            x: edge,
+            y: edge,
+            width: half,
+            height: half,
+        })
+    };
+    let clap = Clap::from_fields([half, 1, half, 1, 0, 1, 0, 1]);
+    let studio = Colour {
+        matrix: 9,
+        full_range: false,
+    };
+    let mut cases = Vec::new();
+    for frame in &[picture(8, side), picture(10, side)] {
+        cases.push(operation("crop, even edges", frame, from(side / 4)));
+        cases.push(operation("crop, odd edges", frame, from(side / 4 - 1)));
+        cases.push(operation("clap", frame, Operation::Clap(clap)));
+        cases.push(operation("irot 1", frame, Operation::Irot(1)));
+        cases.push(operation("irot 2", frame, Operation::Irot(2)));
+        cases.push(operation("irot 3", frame, Operation::Irot(3)));
+        cases.push(operation("imir 0", frame, Operation::Imir(0)));
+        cases.push(operation("imir 1", frame, Operation::Imir(1)));
+        cases.push(reading(frame));
+    }
+    cases.push(fill("no description", None));
+    cases.push(fill("matrix 9, studio range", Some(studio)));
+    cases
+}
+
+#[cfg(test)]
+mod tests {
+    use super::all;
+
+    /// Each case runs on both sides.
+    #[test]
+    fn cases_run() {
+        for case in all(16) {
+            println!("{}", case.name);
+            (case.call)(&mut vec![0; case.room]);
+            if let Some(frames) = case.frames {
+                frames();
+            }
+            if let Some(oracle) = oracle::open() {
+                oracle.ready(case.theirs)();
+            }
+        }
+    }
+}

@@ -1,0 +1,89 @@
+//! Operations on one record.
+
+use super::files::{about, read, write};
+use super::words::Words;
+use super::{Command, Failure};
+use compose::operation::{clap, crop, imir, irot};
+use compose::props::Clap;
+use compose::{HeifFrame, Result as Answer};
+
+pub const CROP: Command = Command {
+    name: "crop",
+    takes: "RECORD X Y WIDTH HEIGHT OUT",
+    about: "the part in a rectangle",
+    more: "\
+X and Y count from 0, from the left and the top. Where the chroma is halved and an edge or a size is
+odd, the picture is promoted to 4:4:4.
+",
+    run: run_crop,
+};
+
+pub const CLAP: Command = Command {
+    name: "clap",
+    takes: "RECORD WN WD HN HD XN XD YN YD OUT",
+    about: "the part in a clean aperture",
+    more: "\
+The aperture is WN/WD wide and HN/HD high; its centre lies XN/XD to the right of the picture's and
+YN/YD below it (XN and YN may be negative). Size and edges must come out whole.
+  compose clap slope.rec 24 1 16 1 0 1 -2 1 part.rec
+",
+    run: run_clap,
+};
+
+pub const IROT: Command = Command {
+    name: "irot",
+    takes: "RECORD ANGLE OUT",
+    about: "turned anticlockwise",
+    more: "ANGLE is the number of quarter turns, 0 to 255; 4 of them are none.\n",
+    run: run_irot,
+};
+
+pub const IMIR: Command = Command {
+    name: "imir",
+    takes: "RECORD AXIS OUT",
+    about: "mirrored",
+    more: "AXIS 0 exchanges top and bottom, 1 left and right.\n",
+    run: run_imir,
+};
+
+/// The last word, then one operation from a record to it.
+fn apply(
+    words: &mut Words,
+    file: &str,
+    operation: impl Fn(&[u8]) -> Answer<Vec<u8>>,
+) -> Result<(), Failure> {
+    let out = words.next("OUT")?;
+    words.end()?;
+    let record = read(file)?;
+    let refused = |refusal| words.refused(refusal);
+    let made = operation(&record).map_err(refused)?;
+    let frame = HeifFrame::from_record(&made).map_err(refused)?;
+    write(&out, &made, &about(&frame))
+}
+
+fn run_crop(words: &mut Words) -> Result<(), Failure> {
+    let file = words.next("RECORD")?;
+    let [x, y, width, height] = words.numbers(["X", "Y", "WIDTH", "HEIGHT"])?;
+    apply(words, &file, |record| crop(record, x, y, width, height))
+}
+
+fn run_clap(words: &mut Words) -> Result<(), Failure> {
+    let file = words.next("RECORD")?;
+    let [width_n, width_d, height_n, height_d] = words.numbers(["WN", "WD", "HN", "HD"])?;
+    let (x_n, x_d) = (words.number("XN")?, words.number("XD")?);
+    let (y_n, y_d) = (words.number("YN")?, words.number("YD")?);
+    let aperture = Clap::new(width_n, width_d, height_n, height_d, x_n, x_d, y_n, y_d);
+    apply(words, &file, |record| clap(record, &aperture))
+}
+
+fn run_irot(words: &mut Words) -> Result<(), Failure> {
+    let file = words.next("RECORD")?;
+    let angle = words.number("ANGLE")?;
+    apply(words, &file, |record| irot(record, angle))
+}
+
+fn run_imir(words: &mut Words) -> Result<(), Failure> {
+    let file = words.next("RECORD")?;
+    let axis = words.number("AXIS")?;
+    apply(words, &file, |record| imir(record, axis))
+}

@@ -1,0 +1,10 @@
+//! The names of oxideav-heif's module `error`. What went wrong is a [`Refusal`] here, one of
+//! document 01's numbers, in place of a class and a text.
+
+pub use crate::{Refusal, Result};
+
+/// The error of every call.
+pub type HeifError = Refusal;
+
+/// The error of every call.
+pub type Error = Refusal;

@@ -1,0 +1,138 @@
+//! `include/compose.h`, held to the source of the library: names, parameters and their types, and
+//! the refusals.
+
+use crate::Refusal;
+use crate::declared::{Function, functions, in_repository};
+use std::fs;
+use std::process::Command;
+
+/// The header without its comments.
+fn header() -> String {
+    let header = fs::read_to_string(in_repository("include/compose.h")).expect("the header");
+    let mut parts = header.split("/*");
+    let mut code = parts.next().expect("a part").to_string();
+    for part in parts {
+        let (_, after) = part.split_once("*/").expect("a comment that ends");
+        code.push_str(after);
+    }
+    code
+}
+
+/// A C type.
+fn in_c(of: &str) -> String {
+    match of {
+        "u8" | "u16" | "u32" | "u64" => format!("uint{}_t", &of[1..]),
+        "usize" => "size_t".into(),
+        other => panic!("{other} has no C type here"),
+    }
+}
+
+/// A function as the header must have it, on one line.
+fn prototype(function: &Function) -> String {
+    let parameter = |(name, of): &(String, String)| {
+        let slice = |of: &str, before: &str| {
+            let item = in_c(of.trim_end_matches(']'));
+            format!("{before}{item} *{name}, size_t {name}_len")
+        };
+        if let Some(of) = of.strip_prefix("&mut [") {
+            slice(of, "")
+        } else if let Some(of) = of.strip_prefix("&[") {
+            slice(of, "const ")
+        } else {
+            format!("{} {name}", in_c(of))
+        }
+    };
+    let parameters: Vec<String> = function.parameters.iter().map(parameter).collect();
+    let parameters = match parameters.is_empty() {
+        true => "void".into(),
+        false => parameters.join(", "),
+    };
+    format!("uint64_t {}({parameters});", function.name)
+}
+
+/// The prototypes of the header, each on one line.
+fn prototypes() -> Vec<String> {
+    let header = header();
+    let starts = header.match_indices("uint64_t compose_").map(|(at, _)| at);
+    let prototype = |at: usize| {
+        let end = header[at..].find(';').expect("an end") + 1;
+        let words: Vec<&str> = header[at..at + end].split_whitespace().collect();
+        words.join(" ")
+    };
+    starts.map(prototype).collect()
+}
+
+#[test]
+fn the_header_has_the_calls_of_the_library() {
+    let (mut ours, theirs) = (prototypes(), functions());
+    let mut theirs: Vec<String> = theirs.iter().map(prototype).collect();
+    ours.sort();
+    theirs.sort();
+    let without = |all: &[String], some: &[String]| -> String {
+        let missing = all.iter().filter(|one| !some.contains(one));
+        missing.map(|one| format!("\n  {one}")).collect()
+    };
+    let (lacks, strange) = (without(&theirs, &ours), without(&ours, &theirs));
+    assert!(lacks.is_empty(), "include/compose.h lacks{lacks}");
+    assert!(
+        strange.is_empty(),
+        "include/compose.h has what crates/capi has not{strange}"
+    );
+    assert_eq!(ours, theirs);
+}
+
+#[test]
+fn the_header_has_the_refusals() {
+    let header = header();
+    let (_, rest) = header.split_once("enum compose_refusal {").expect("them");
+    let (list, _) = rest.split_once('}').expect("an end");
+    let theirs: Vec<String> = list.split(',').map(|one| one.trim().to_string()).collect();
+    let constant = |refusal: &Refusal| {
+        let name = refusal.name().to_uppercase();
+        format!("COMPOSE_{name} = {}", refusal.number())
+    };
+    let ours: Vec<String> = Refusal::ALL.iter().map(constant).collect();
+    assert_eq!(theirs, ours);
+}
+
+/// The header's comments say what the refusals mean in the words that the crate has.
+#[test]
+fn the_header_says_what_refusals_mean() {
+    let header = fs::read_to_string(in_repository("include/compose.h")).expect("the header");
+    for refusal in Refusal::ALL {
+        let (number, meaning) = (refusal.number(), refusal.meaning());
+        let line = header.lines().find(|line| {
+            let line = line.replace([',', ' '], "");
+            line.contains(&format!("={number}/*"))
+        });
+        let line = line.unwrap_or_else(|| panic!("a line for {number}"));
+        assert!(line.ends_with(&format!("/* {meaning} */")), "{line}");
+    }
+}
+
+/// A C program over the header and the library, with every warning an error.
+#[test]
+fn the_example_runs() {
+    let program = std::env::temp_dir().join(format!("compose-example-{}", std::process::id()));
+    let compiled = Command::new("cc")
+        .args(["-std=c99", "-Wall", "-Wextra", "-Werror", "-pedantic", "-I"])
+        .arg(in_repository("include"))
+        .arg(in_repository("include/example.c"))
+        .arg(in_repository("target/staticlib/libcapi.a"))
+        .arg("-o")
+        .arg(&program)
+        .output();
+    let Ok(compiled) = compiled else {
+        println!("no C compiler is here; the example is not run");
+        return;
+    };
+    let complaint = String::from_utf8_lossy(&compiled.stderr);
+    assert!(compiled.status.success(), "{complaint}");
+    let ran = Command::new(&program).output().expect("the example starts");
+    std::fs::remove_file(&program).expect("the example is there");
+    assert!(ran.status.success());
+    assert_eq!(
+        String::from_utf8_lossy(&ran.stdout),
+        "1 x 3: 30 20 10\nrefused 9\n"
+    );
+}

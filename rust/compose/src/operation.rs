@@ -1,0 +1,72 @@
+//! One operation on one record: a record in, a record out. [`crate::transform`] has the same on
+//! frames.
+//!
+//! ```
+//! use compose::operation;
+//!
+//! // 2 × 1, mono, depth 8, no alpha; one plane of stride 2 and 2 bytes: 10, 20.
+//! let record = [2, 1, 0, 8, 0, 2, 2, 10, 20];
+//! assert_eq!(operation::imir(&record, 1)?, [2, 1, 0, 8, 0, 2, 2, 20, 10]);
+//! assert_eq!(operation::irot(&record, 1)?, [1, 2, 0, 8, 0, 1, 2, 20, 10]);
+//! assert_eq!(operation::crop(&record, 1, 0, 1, 1)?, [1, 1, 0, 8, 0, 1, 1, 20]);
+//!
+//! let refusal = operation::crop(&record, 1, 0, 2, 1).unwrap_err();
+//! assert_eq!((refusal.number(), refusal.name()), (9, "outside"));
+//! # Ok::<(), compose::Refusal>(())
+//! ```
+
+use crate::lend::written;
+use crate::props::Clap;
+use crate::record::inspect;
+use crate::{Result, sys};
+
+/// A record's own length and what its numbers may grow by: enough where nothing is promoted or
+/// scaled up.
+fn alike(record: &[u8]) -> usize {
+    record.len() + 64
+}
+
+/// The room that a smaller picture of the record's form takes.
+fn part(record: &[u8], width: u32, height: u32) -> Result<usize> {
+    Ok(inspect(record)?.room(width, height).min(alike(record)))
+}
+
+/// The part of a record in a rectangle. Refusals: the record's; 9 a rectangle outside.
+pub fn crop(record: &[u8], x: u32, y: u32, width: u32, height: u32) -> Result<Vec<u8>> {
+    written(part(record, width, height)?, |out| {
+        sys::compose_crop(record, x, y, width, height, out)
+    })
+}
+
+/// A record cropped by a clap property. Refusals: the record's; 7, 8, 9, the width axis first.
+pub fn clap(record: &[u8], clap: &Clap) -> Result<Vec<u8>> {
+    let side = |n: u32, d: u32| n.checked_div(d).unwrap_or(0);
+    let (width, height) = (
+        side(clap.width_n, clap.width_d),
+        side(clap.height_n, clap.height_d),
+    );
+    written(part(record, width, height)?, |out| {
+        sys::compose_clap(
+            record,
+            clap.width_n,
+            clap.width_d,
+            clap.height_n,
+            clap.height_d,
+            clap.horiz_off_n.cast_unsigned(),
+            clap.horiz_off_d,
+            clap.vert_off_n.cast_unsigned(),
+            clap.vert_off_d,
+            out,
+        )
+    })
+}
+
+/// A record turned by angle mod 4 quarter turns anticlockwise. Refusals: the record's.
+pub fn irot(record: &[u8], angle: u8) -> Result<Vec<u8>> {
+    written(alike(record), |out| sys::compose_irot(record, angle, out))
+}
+
+/// A record mirrored: axis mod 2, 0 top and bottom, 1 left and right. Refusals: the record's.
+pub fn imir(record: &[u8], axis: u8) -> Result<Vec<u8>> {
+    written(alike(record), |out| sys::compose_imir(record, axis, out))
+}

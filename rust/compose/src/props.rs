@@ -1,0 +1,174 @@
+//! Properties that move or describe a picture, with the names and shapes of oxideav-heif's module
+//! `props`.
+
+/// A clean aperture (`clap`, ISO/IEC 14496-12): a size and the offset of its centre, as fractions.
+#[derive(Clone, Copy, Debug, PartialEq, Eq)]
+#[non_exhaustive]
+pub struct Clap {
+    /// The width's numerator.
+    pub width_n: u32,
+    /// The width's denominator.
+    pub width_d: u32,
+    /// The height's numerator.
+    pub height_n: u32,
+    /// The height's denominator.
+    pub height_d: u32,
+    /// The horizontal offset's numerator.
+    pub horiz_off_n: i32,
+    /// The horizontal offset's denominator.
+    pub horiz_off_d: u32,
+    /// The vertical offset's numerator.
+    pub vert_off_n: i32,
+    /// The vertical offset's denominator.
+    pub vert_off_d: u32,
+}
+
+impl Clap {
+    /// An aperture of its eight fields.
+    #[allow(clippy::too_many_arguments)]
+    pub fn new(
+        width_n: u32,
+        width_d: u32,
+        height_n: u32,
+        height_d: u32,
+        horiz_off_n: i32,
+        horiz_off_d: u32,
+        vert_off_n: i32,
+        vert_off_d: u32,
+    ) -> Self {
+        Self {
+            width_n,
+            width_d,
+            height_n,
+            height_d,
+            horiz_off_n,
+            horiz_off_d,
+            vert_off_n,
+            vert_off_d,
+        }
+    }
+
+    /// An aperture of whole numbers.
+    pub fn integer(width: u32, height: u32, horiz_off: i32, vert_off: i32) -> Self {
+        Self::new(width, 1, height, 1, horiz_off, 1, vert_off, 1)
+    }
+
+    /// The aperture that selects `rect` out of a picture of the given size; its offsets are in
+    /// halves, so that any rectangle has one.
+    pub fn for_rect(width: u32, height: u32, rect: CropRect) -> Self {
+        let offset = |edge: u32, size: u32, side: u32| {
+            let halves = 2 * i64::from(edge) - (i64::from(side) - i64::from(size));
+            halves as i32
+        };
+        Self::new(
+            rect.width,
+            1,
+            rect.height,
+            1,
+            offset(rect.x, rect.width, width),
+            2,
+            offset(rect.y, rect.height, height),
+            2,
+        )
+    }
+}
+
+/// A rectangle in pixels of a picture.
+#[derive(Clone, Copy, Debug, PartialEq, Eq)]
+pub struct CropRect {
+    /// The leftmost column.
+    pub x: u32,
+    /// The topmost row.
+    pub y: u32,
+    /// Width.
+    pub width: u32,
+    /// Height.
+    pub height: u32,
+}
+
+/// A rotation (`irot`): quarter turns anticlockwise.
+#[derive(Clone, Copy, Debug, PartialEq, Eq)]
+#[non_exhaustive]
+pub struct Irot {
+    /// How many, taken mod 4.
+    pub angle: u8,
+}
+
+impl Irot {
+    /// A rotation by a number of quarter turns.
+    pub fn new(angle: u8) -> Self {
+        Self { angle }
+    }
+}
+
+/// A mirror (`imir`).
+#[derive(Clone, Copy, Debug, PartialEq, Eq)]
+#[non_exhaustive]
+pub struct Imir {
+    /// Taken mod 2: 0 exchanges top and bottom, 1 left and right.
+    pub axis: u8,
+}
+
+impl Imir {
+    /// A mirror about an axis.
+    pub fn new(axis: u8) -> Self {
+        Self { axis }
+    }
+}
+
+/// A colour description (`colr`).
+#[derive(Clone, Debug, PartialEq, Eq)]
+#[non_exhaustive]
+pub enum Colr {
+    /// Code points of ITU-T H.273.
+    Nclx {
+        /// Colour primaries.
+        primaries: u16,
+        /// Transfer characteristics.
+        transfer: u16,
+        /// Matrix coefficients.
+        matrix: u16,
+        /// Full range, or studio range.
+        full_range: bool,
+    },
+    /// An ICC profile.
+    Icc {
+        /// A restricted one (`rICC`), or any (`prof`).
+        restricted: bool,
+        /// The profile's bytes.
+        profile: Vec<u8>,
+    },
+    /// Any other description.
+    Other {
+        /// Its four letters.
+        colour_type: [u8; 4],
+        /// The bytes after them.
+        payload: Vec<u8>,
+    },
+}
+
+impl Colr {
+    /// What holds where a picture has no description: BT.709 primaries, sRGB transfer, BT.601
+    /// matrix, full range.
+    pub const MIAF_DEFAULT: Colr = Colr::Nclx {
+        primaries: 1,
+        transfer: 13,
+        matrix: 6,
+        full_range: true,
+    };
+
+    /// Whether it is an ICC profile.
+    pub fn is_icc(&self) -> bool {
+        matches!(self, Self::Icc { .. })
+    }
+
+    /// As the calls take it: whether there is an nclx description, its matrix and its range.
+    pub(crate) fn words(colr: Option<&Self>) -> (u8, u16, u8) {
+        match colr {
+            Some(Self::Nclx {
+                matrix, full_range, ..
+            }) => (1, *matrix, u8::from(*full_range)),
+            _ => (0, 0, 0),
+        }
+    }
+}

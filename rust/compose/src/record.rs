@@ -1,0 +1,112 @@
+//! Frame records (document 01, "What is handed in").
+
+use crate::image::Chroma;
+use crate::{Result, sys};
+
+/// Where a plane's bytes stand in its record. A plane that the picture has not has no bytes.
+#[derive(Clone, Copy, Debug, PartialEq, Eq, Hash)]
+pub struct PlaneInfo {
+    pub start: usize,
+    pub len: usize,
+    pub stride: usize,
+}
+
+impl PlaneInfo {
+    /// The plane's part of `record`, the one that was inspected. It panics on a shorter one.
+    pub fn of<'a>(&self, record: &'a [u8]) -> &'a [u8] {
+        &record[self.start..][..self.len]
+    }
+}
+
+/// What a record says.
+#[derive(Clone, Copy, Debug, PartialEq, Eq, Hash)]
+pub struct RecordInfo {
+    pub width: u32,
+    pub height: u32,
+    pub chroma: Chroma,
+    pub depth: u8,
+    /// The alpha number: 1 where the picture has an alpha plane, else 0.
+    pub alpha: u8,
+    /// Luma, Cb, Cr and alpha.
+    pub planes: [PlaneInfo; 4],
+}
+
+/// A word in its own type. The call's contract keeps it in range.
+fn narrow<T: TryFrom<u64>>(word: u64) -> T {
+    T::try_from(word).unwrap_or_else(|_| panic!("the library answered the word {word}"))
+}
+
+impl RecordInfo {
+    fn from_words([width, height, chroma, depth, alpha, planes @ ..]: [u64; 17]) -> Self {
+        let chroma = Chroma::from_idc(narrow(chroma))
+            .unwrap_or_else(|| panic!("the library answered the chroma {chroma}"));
+        let plane = |[start, len, stride]: [u64; 3]| PlaneInfo {
+            start: narrow(start),
+            len: narrow(len),
+            stride: narrow(stride),
+        };
+        let (planes, _) = planes.as_chunks();
+        Self {
+            width: narrow(width),
+            height: narrow(height),
+            chroma,
+            depth: narrow(depth),
+            alpha: narrow(alpha),
+            planes: std::array::from_fn(|part| plane(planes[part])),
+        }
+    }
+}
+
+impl RecordInfo {
+    /// The planes that the picture has.
+    pub fn present(&self) -> impl Iterator<Item = PlaneInfo> {
+        // Each has a row of a byte at least.
+        self.planes.into_iter().filter(|plane| plane.len > 0)
+    }
+
+    /// Room for a tight record of the same layout at another size.
+    pub(crate) fn room(&self, width: u32, height: u32) -> usize {
+        let format = self.format();
+        let planes = (0..format.plane_count()).map(|plane| {
+            let (columns, rows) = format.plane_dims(plane, width, height);
+            let samples = columns as usize * rows as usize;
+            samples.saturating_mul(format.bytes_per_sample())
+        });
+        planes.fold(LONGEST_NUMBERS, usize::saturating_add)
+    }
+}
+
+/// A record's numbers take at most 5 bytes each: five of the header, two a plane.
+const LONGEST_NUMBERS: usize = 5 * (5 + 2 * 4);
+
+/// Appends a house number: groups of seven bits, the lowest first, the top bit set on all but the
+/// last.
+pub(crate) fn push_number(bytes: &mut Vec<u8>, number: u32) {
+    let mut rest = number;
+    while rest > 127 {
+        bytes.push(rest as u8 | 128);
+        rest >>= 7;
+    }
+    bytes.push(rest as u8);
+}
+
+/// Takes a house number off the front; none where there is none whole.
+pub(crate) fn read_number(bytes: &mut &[u8]) -> Option<u32> {
+    let mut number = 0;
+    for group in 0..5 {
+        let byte;
+        (byte, *bytes) = bytes.split_first()?;
+        number |= u32::from(byte & 127).checked_shl(7 * group)?;
+        if *byte < 128 {
+            return Some(number);
+        }
+    }
+    None
+}
+
+/// What `record` says. Refusals: document 01's *Record*.
+pub fn inspect(record: &[u8]) -> Result<RecordInfo> {
+    let mut words = [0; 17];
+    sys::compose_record(record, &mut words)?;
+    Ok(RecordInfo::from_words(words))
+}

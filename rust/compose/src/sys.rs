@@ -1,0 +1,137 @@
+//! The library's C functions (`crates/capi`, which has their contracts), each as a safe function
+//! on slices. The only unsafe code of the workspace is here.
+
+#![allow(unsafe_code)]
+#![allow(clippy::too_many_arguments)]
+
+use crate::{Refusal, Result};
+
+/// What a function's word says: below 2^63 a count, a length, or 0 where there is none; from there
+/// on 2^63 + a refusal's number.
+fn answer(word: u64) -> Result<u64> {
+    let Some(number) = word.checked_sub(1 << 63) else {
+        return Ok(word);
+    };
+    let refusal = Refusal::from_number(number);
+    Err(refusal.unwrap_or_else(|| panic!("the library answered {word:#x}")))
+}
+
+/// Functions of the library, as `crates/capi` declares them.
+macro_rules! library {
+    ($($(#[$about:meta])* fn $name:ident($($parameters:tt)*);)*) => {
+        $(safe! { ($(#[$about])* $name) () () () $($parameters)*, })*
+
+        #[cfg(test)]
+        const DECLARED: &[&str] = &[$(stringify!($name($($parameters)*))),*];
+    };
+}
+
+/// One function, parameter by parameter: as it is here, as it is in C, and as it passes.
+macro_rules! safe {
+    ($head:tt ($($here:tt)*) ($($in_c:tt)*) ($($passes:tt)*)
+        $part:ident: &[$item:ty], $($rest:tt)*) => {
+        safe! { $head
+            ($($here)* $part: &[$item],)
+            ($($in_c)* $part: *const $item, _: usize,)
+            ($($passes)* $part.as_ptr(), $part.len(),)
+            $($rest)*
+        }
+    };
+    ($head:tt ($($here:tt)*) ($($in_c:tt)*) ($($passes:tt)*)
+        $part:ident: &mut [$item:ty], $($rest:tt)*) => {
+        safe! { $head
+            ($($here)* $part: &mut [$item],)
+            ($($in_c)* $part: *mut $item, _: usize,)
+            ($($passes)* $part.as_mut_ptr(), $part.len(),)
+            $($rest)*
+        }
+    };
+    ($head:tt ($($here:tt)*) ($($in_c:tt)*) ($($passes:tt)*)
+        $part:ident: $number:ident, $($rest:tt)*) => {
+        safe! { $head
+            ($($here)* $part: $number,)
+            ($($in_c)* $part: $number,)
+            ($($passes)* $part,)
+            $($rest)*
+        }
+    };
+    (($(#[$about:meta])* $name:ident) ($($here:tt)*) ($($in_c:tt)*) ($($passes:tt)*) $(,)?) => {
+        $(#[$about])*
+        pub fn $name($($here)*) -> $crate::Result<u64> {
+            unsafe extern "C" {
+                fn $name($($in_c)*) -> u64;
+            }
+            // SAFETY: the declaration is the library's (held to it below). Each pointer and length
+            // are one slice's, borrowed until the call ends, and the proved code keeps inside them
+            // whatever they hold.
+            answer(unsafe { $name($($passes)*) })
+        }
+    };
+}
+
+library! {
+    /// What a record says, in 17 words: width, height, chroma, depth, alpha; then of luma, Cb, Cr
+    /// and alpha each where its bytes start, how many they are, and its stride.
+    fn compose_record(record: &[u8], answer: &mut [u64]);
+
+    /// How many records a tray has.
+    fn compose_tray(tray: &[u8]);
+
+    /// A fill's samples of red, green and blue, in 3 words. Colour 0 is no description; a full
+    /// range of 0 is the studio range.
+    fn compose_fill(
+        red: u16,
+        green: u16,
+        blue: u16,
+        depth: u32,
+        colour: u8,
+        matrix: u16,
+        full_range: u8,
+        answer: &mut [u16],
+    );
+
+    /// The part of a record in a rectangle; answers the length that it wrote, as the next ones do.
+    fn compose_crop(record: &[u8], x: u32, y: u32, width: u32, height: u32, out: &mut [u8]);
+
+    /// A record cropped by a clap property, the offsets' numerators as 32-bit patterns.
+    fn compose_clap(
+        record: &[u8],
+        width_n: u32,
+        width_d: u32,
+        height_n: u32,
+        height_d: u32,
+        horiz_off_n: u32,
+        horiz_off_d: u32,
+        vert_off_n: u32,
+        vert_off_d: u32,
+        out: &mut [u8],
+    );
+
+    /// A record turned by angle mod 4 quarter turns anticlockwise.
+    fn compose_irot(record: &[u8], angle: u8, out: &mut [u8]);
+
+    /// A record mirrored: axis mod 2, 0 top and bottom, 1 left and right.
+    fn compose_imir(record: &[u8], axis: u8, out: &mut [u8]);
+}
+
+#[cfg(test)]
+mod tests {
+    use super::{DECLARED, answer};
+    use crate::Refusal;
+    use crate::declared::{Function, functions};
+
+    #[test]
+    fn words_are_answers_or_refusals() {
+        assert_eq!(answer(0), Ok(0));
+        assert_eq!(answer((1 << 63) - 1), Ok((1 << 63) - 1));
+        assert_eq!(answer((1 << 63) + 17), Err(Refusal::ROOM));
+    }
+
+    #[test]
+    fn declarations_are_those_of_the_library() {
+        let theirs = functions();
+        for ours in DECLARED.iter().copied().map(Function::read) {
+            assert!(theirs.contains(&ours), "{ours:?} is none of {theirs:?}");
+        }
+    }
+}

@@ -1,0 +1,67 @@
+//! Crops, turns and mirrors of frames, with oxideav-heif's names.
+//!
+//! ```
+//! use compose::image::{Chroma, HeifFrame, HeifPixelFormat};
+//! use compose::props::{Imir, Irot};
+//! use compose::{apply_imir, apply_irot, crop};
+//!
+//! let format = HeifPixelFormat::new(Chroma::Yuv420, 8, false)?;
+//! let mut frame = HeifFrame::filled(4, 2, format, 128)?;
+//! frame.set_sample(0, 3, 0, 200);
+//!
+//! // A quarter turn anticlockwise: the right side comes to the top.
+//! let turned = apply_irot(&frame, &Irot::new(1))?;
+//! assert_eq!((turned.width, turned.height), (2, 4));
+//! assert_eq!(turned.sample(0, 0, 0), 200);
+//!
+//! let mirrored = apply_imir(&turned, &Imir::new(1))?;
+//! assert_eq!(mirrored.sample(0, 1, 0), 200);
+//!
+//! // An odd edge on a halved axis promotes to 4:4:4.
+//! assert_eq!(crop(&frame, 2, 0, 2, 2)?.format.chroma, Chroma::Yuv420);
+//! assert_eq!(crop(&frame, 1, 0, 2, 2)?.format.chroma, Chroma::Yuv444);
+//! # Ok::<(), compose::Refusal>(())
+//! ```
+
+use crate::image::HeifFrame;
+use crate::props::{Clap, Imir, Irot};
+use crate::{Result, operation};
+
+/// An operation on a record, on a frame.
+fn on_frame(f: &HeifFrame, operation: impl Fn(&[u8]) -> Result<Vec<u8>>) -> Result<HeifFrame> {
+    HeifFrame::from_record(&operation(&f.to_record()?)?)
+}
+
+/// The `w` × `h` part of `f` from (`x`, `y`) on. Refusals: the frame's; 9 a rectangle outside.
+pub fn crop(f: &HeifFrame, x: u32, y: u32, w: u32, h: u32) -> Result<HeifFrame> {
+    on_frame(f, |record| operation::crop(record, x, y, w, h))
+}
+
+/// Applies a clap property. Refusals: the frame's; 7, 8, 9, the width axis first.
+///
+/// ```
+/// use compose::image::{Chroma, HeifFrame, HeifPixelFormat};
+/// use compose::props::Clap;
+/// use compose::apply_clap;
+///
+/// let frame = HeifFrame::zeroed(64, 1, HeifPixelFormat::new(Chroma::Mono, 8, false)?)?;
+/// assert_eq!(apply_clap(&frame, &Clap::integer(62, 1, 0, 0))?.width, 62);
+/// // 63 of 64 has no whole edge.
+/// let refusal = apply_clap(&frame, &Clap::integer(63, 1, 0, 0)).unwrap_err();
+/// assert_eq!((refusal.number(), refusal.name()), (8, "fraction"));
+/// # Ok::<(), compose::Refusal>(())
+/// ```
+pub fn apply_clap(f: &HeifFrame, clap: &Clap) -> Result<HeifFrame> {
+    on_frame(f, |record| operation::clap(record, clap))
+}
+
+/// Applies an irot property: angle mod 4 quarter turns anticlockwise. Refusals: the frame's.
+pub fn apply_irot(f: &HeifFrame, irot: &Irot) -> Result<HeifFrame> {
+    on_frame(f, |record| operation::irot(record, irot.angle))
+}
+
+/// Applies an imir property: axis mod 2, 0 exchanges top and bottom, 1 left and right. Refusals:
+/// the frame's.
+pub fn apply_imir(f: &HeifFrame, imir: &Imir) -> Result<HeifFrame> {
+    on_frame(f, |record| operation::imir(record, imir.axis))
+}

@@ -1,0 +1,60 @@
+//! Trays of records (document 01, "What is handed in").
+//!
+//! ```
+//! let one = [1, 1, 0, 8, 0, 1, 1, 7];
+//! let tray = compose::tray::join(&[one, one])?;
+//! assert_eq!(compose::tray::count(&tray)?, 2);
+//! assert_eq!(compose::tray::records(&tray)?, [one, one]);
+//! # Ok::<(), compose::Refusal>(())
+//! ```
+
+use crate::record::{push_number, read_number};
+use crate::{Refusal, Result, sys};
+
+/// How many records `tray` has. Refusals: 5 a count that is unreadable, then *Record*'s of each in
+/// turn, 5 bytes left over.
+pub fn count(tray: &[u8]) -> Result<u32> {
+    let count = sys::compose_tray(tray)?;
+    Ok(u32::try_from(count).expect("a tray's count is a house number"))
+}
+
+/// The records of `tray`, each as its bytes. Refusals: as [`count`].
+pub fn records(tray: &[u8]) -> Result<Vec<&[u8]>> {
+    let count = count(tray)?;
+    let mut rest = tray;
+    read_number(&mut rest);
+    let record = |_| first_record(&mut rest).expect("a record that the call took");
+    Ok((0..count).map(record).collect())
+}
+
+/// The record at the front, taken off. It is not judged here: the tray was.
+fn first_record<'a>(rest: &mut &'a [u8]) -> Option<&'a [u8]> {
+    let whole = *rest;
+    let mut header = [0; 5];
+    for number in &mut header {
+        *number = read_number(rest)?;
+    }
+    let [_, _, chroma, _, alpha] = header;
+    let colour_planes = if chroma == 0 { 1 } else { 3 };
+    for _ in 0..colour_planes + alpha {
+        read_number(rest)?;
+        let length = read_number(rest)?;
+        *rest = rest.get(length as usize..)?;
+    }
+    Some(&whole[..whole.len() - rest.len()])
+}
+
+/// The tray of `records`. Refusals: *Record*'s of each in turn.
+pub fn join(records: &[impl AsRef<[u8]>]) -> Result<Vec<u8>> {
+    let mut tray = Vec::new();
+    let count = u32::try_from(records.len()).map_err(|_| Refusal::MALFORMED)?;
+    push_number(&mut tray, count);
+    for record in records {
+        tray.extend_from_slice(record.as_ref());
+    }
+    // Bytes that are left over by one record could be taken for the next.
+    for record in records {
+        crate::record::inspect(record.as_ref())?;
+    }
+    Ok(tray)
+}

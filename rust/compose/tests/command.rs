@@ -1,0 +1,328 @@
+//! The command `compose`: what it prints, what it writes, and how it ends.
+
+use compose::operation::{crop, imir, irot};
+use compose::{Chroma, HeifFrame, HeifPixelFormat, Refusal, record, tray};
+use std::fs;
+use std::io::Write;
+use std::path::PathBuf;
+use std::process::{Command, Output, Stdio};
+
+/// A folder of a test's own, empty.
+struct Folder(PathBuf);
+
+impl Folder {
+    fn new(name: &str) -> Self {
+        let path = PathBuf::from(env!("CARGO_TARGET_TMPDIR")).join(name);
+        let _ = fs::remove_dir_all(&path);
+        fs::create_dir_all(&path).expect("a folder for the test");
+        Self(path)
+    }
+
+    /// The folder with a picture in it: 6 × 4, 4:2:0, depth 8.
+    fn with_picture(name: &str) -> Self {
+        let folder = Self::new(name);
+        let format = HeifPixelFormat::new(Chroma::Yuv420, 8, false).expect("a depth");
+        let mut frame = HeifFrame::filled(6, 4, format, 128).expect("a frame");
+        for x in 0..6 {
+            frame.set_sample(0, x, 0, 10 * x as u16);
+        }
+        folder.put("a.rec", &frame.to_record().expect("a record"));
+        folder
+    }
+
+    fn put(&self, file: &str, bytes: &[u8]) {
+        fs::write(self.0.join(file), bytes).expect("a file that can be written");
+    }
+
+    fn get(&self, file: &str) -> Vec<u8> {
+        fs::read(self.0.join(file)).expect("a file that can be read")
+    }
+
+    fn has(&self, file: &str) -> bool {
+        self.0.join(file).exists()
+    }
+
+    /// Runs the command in the folder, the words parted by blanks, and hands it `input`.
+    fn run_with(&self, words: &str, input: &[u8]) -> Output {
+        let mut child = Command::new(env!("CARGO_BIN_EXE_compose"))
+            .args(words.split_whitespace())
+            .current_dir(&self.0)
+            .env_remove("COLUMNS")
+            .stdin(Stdio::piped())
+            .stdout(Stdio::piped())
+            .stderr(Stdio::piped())
+            .spawn()
+            .expect("the command starts");
+        let mut standard_input = child.stdin.take().expect("its input");
+        // It may end without having read all of it.
+        let _ = standard_input.write_all(input);
+        drop(standard_input);
+        child.wait_with_output().expect("the command ends")
+    }
+
+    fn run(&self, words: &str) -> Output {
+        self.run_with(words, &[])
+    }
+
+    /// What the command prints, which must be done.
+    fn done(&self, words: &str) -> String {
+        let output = self.run(words);
+        assert_eq!(status(&output), 0, "{words}: {}", complaint(&output));
+        assert_eq!(complaint(&output), "", "{words}");
+        String::from_utf8(output.stdout).expect("text")
+    }
+
+    /// The command ends with a status and a complaint that begins so; it prints nothing.
+    fn fails(&self, words: &str, with: i32, beginning: &str) {
+        let output = self.run(words);
+        assert_eq!(status(&output), with, "{words}");
+        let complaint = complaint(&output);
+        assert!(complaint.starts_with(beginning), "{words}: {complaint}");
+        assert_eq!(output.stdout, b"", "{words}");
+    }
+}
+
+fn status(output: &Output) -> i32 {
+    output.status.code().expect("an exit status")
+}
+
+fn complaint(output: &Output) -> String {
+    String::from_utf8_lossy(&output.stderr).into_owned()
+}
+
+const COMMANDS: [&str; 11] = [
+    "demo", "view", "record", "tray", "example", "pack", "fill", "crop", "clap", "irot", "imir",
+];
+
+#[test]
+fn the_help_has_every_command() {
+    let folder = Folder::new("help");
+    let help = folder.done("--help");
+    assert_eq!(help, folder.done("help"));
+    assert_eq!(help, folder.done("-h"));
+    for command in COMMANDS {
+        assert!(help.contains(&format!("\n  {command} ")), "{command}");
+        let own = folder.done(&format!("help {command}"));
+        let usage = format!("usage: compose {command}");
+        assert!(own.starts_with(&usage), "{own}");
+        assert_eq!(own, folder.done(&format!("{command} --help")));
+    }
+    let lines = help.lines().filter(|line| line.chars().count() > 100);
+    assert_eq!(lines.count(), 0);
+}
+
+#[test]
+fn the_help_has_every_refusal() {
+    let help = Folder::new("refusals").done("help refusals");
+    for (line, refusal) in help.lines().zip(Refusal::ALL) {
+        assert!(line.contains(&refusal.number().to_string()), "{line}");
+        assert!(line.contains(refusal.name()), "{line}");
+    }
+    assert_eq!(help.lines().count(), Refusal::ALL.len());
+}
+
+/// The lines of the help's first steps are commands that work.
+#[test]
+fn the_first_steps_of_the_help_work() {
+    let folder = Folder::new("first-steps");
+    let help = folder.done("--help");
+    let steps: Vec<&str> = help
+        .lines()
+        .filter_map(|line| line.trim().strip_prefix("compose "))
+        .filter(|line| line.contains(".rec"))
+        .map(|line| line.split("   ").next().unwrap_or(line))
+        .collect();
+    assert_eq!(steps.len(), 4);
+    for step in steps {
+        folder.done(step);
+    }
+    assert!(folder.get("up.ppm").starts_with(b"P6\n32 48\n255\n"));
+}
+
+#[test]
+fn without_a_word_it_is_the_demonstration() {
+    let folder = Folder::new("demo");
+    let shown = folder.done("");
+    assert_eq!(shown, folder.done("demo"));
+    assert!(shown.contains("A slope with a flag on it: 48 × 32, 4:2:0, depth 8"));
+    assert!(shown.contains("A quarter turn anticlockwise: 22 × 28, 4:2:0, depth 8"));
+}
+
+#[test]
+fn records_and_trays_are_shown() {
+    let folder = Folder::with_picture("records");
+    assert_eq!(
+        folder.done("record a.rec"),
+        "6 × 4, 4:2:0, depth 8\n\
+         plane  columns     rows   stride    start    bytes\n\
+         luma         6        4        6        7       24\n\
+         Cb           3        2        3       33        6\n\
+         Cr           3        2        3       41        6\n"
+    );
+    folder.done("irot a.rec 1 b.rec");
+    folder.done("pack a.rec b.rec t.tray");
+    assert_eq!(
+        folder.done("tray t.tray"),
+        "2 records\n    \
+         0  6 × 4, 4:2:0, depth 8, 47 bytes\n    \
+         1  4 × 6, 4:2:0, depth 8, 47 bytes\n"
+    );
+    let tray = folder.get("t.tray");
+    let records = tray::records(&tray).expect("a tray");
+    assert_eq!(records, [folder.get("a.rec"), folder.get("b.rec")]);
+    // A tray of none.
+    folder.done("pack none.tray");
+    assert_eq!(folder.done("tray none.tray"), "0 records\n");
+}
+
+#[test]
+fn operations_write_what_the_library_makes() {
+    let folder = Folder::with_picture("operations");
+    let record = folder.get("a.rec");
+    for (words, made) in [
+        ("crop a.rec 1 0 3 2 out.rec", crop(&record, 1, 0, 3, 2)),
+        ("irot a.rec 3 out.rec", irot(&record, 3)),
+        ("irot a.rec 0 out.rec", irot(&record, 0)),
+        ("imir a.rec 1 out.rec", imir(&record, 1)),
+        // Two columns less on each side, a row less at the bottom.
+        (
+            "clap a.rec 2 1 3 1 0 1 -1 2 out.rec",
+            crop(&record, 2, 0, 2, 3),
+        ),
+    ] {
+        let made = made.expect("a record");
+        let info = record::inspect(&made).expect("a record");
+        let said = folder.done(words);
+        let beginning = format!("out.rec: {} × {}, ", info.width, info.height);
+        assert!(said.starts_with(&beginning), "{said}");
+        assert_eq!(folder.get("out.rec"), made, "{words}");
+    }
+}
+
+#[test]
+fn standard_input_and_output_serve() {
+    let folder = Folder::with_picture("pipes");
+    let record = folder.get("a.rec");
+    let output = folder.run_with("imir - 1 -", &record);
+    assert_eq!(status(&output), 0);
+    assert_eq!(Ok(output.stdout), imir(&record, 1));
+    let ppm = folder.run_with("view - --ppm -", &record);
+    assert!(ppm.stdout.starts_with(b"P6\n6 4\n255\n"));
+    assert_eq!(ppm.stdout.len(), 11 + 3 * 24);
+}
+
+#[test]
+fn pictures_are_shown() {
+    let folder = Folder::with_picture("view");
+    let plain = folder.done("view a.rec");
+    assert_eq!(plain, folder.done("view --plain a.rec"));
+    // 5 times as large, two rows to a line.
+    assert_eq!(plain.lines().count(), 10 + 1);
+    assert_eq!(plain.lines().next().map(str::len), Some(30));
+    let colour = folder.done("view a.rec --colour --columns 6 --matrix 1 --studio");
+    assert_eq!(colour.matches('▀').count(), 6 * 2);
+    assert!(colour.contains("\x1b[38;2;"));
+    assert!(colour.ends_with("6 × 4, 4:2:0, depth 8\n"));
+}
+
+#[test]
+fn fills_are_printed() {
+    let folder = Folder::new("fill");
+    assert_eq!(folder.done("fill 65535 0 0"), "76 85 255\n");
+    assert_eq!(
+        folder.done("fill --studio --depth 10 65535 65535 65535 --matrix 9"),
+        "940 512 512\n"
+    );
+    assert_eq!(
+        folder.done("fill 65535 0 0 --matrix 0 --depth 16"),
+        "0 0 65535\n"
+    );
+    for depth in [7, 17, 264] {
+        let words = format!("fill 1 2 3 --depth {depth}");
+        folder.fails(&words, 2, "compose fill: refused 6 (depth): ");
+    }
+}
+
+#[test]
+fn what_is_refused_writes_nothing() {
+    let folder = Folder::with_picture("refused");
+    let record = folder.get("a.rec");
+    folder.put("cut.rec", &record[..record.len() - 1]);
+    folder.put("old.rec", b"as it was");
+    for (words, beginning) in [
+        ("record cut.rec", "compose record: refused 5 (malformed): "),
+        ("view cut.rec", "compose view: refused 5 (malformed): "),
+        ("tray a.rec", "compose tray: refused "),
+        ("pack a.rec cut.rec new.rec", "compose pack: refused 5 "),
+        ("pack a.rec cut.rec old.rec", "compose pack: refused 5 "),
+        (
+            "crop a.rec 0 0 7 1 new.rec",
+            "compose crop: refused 9 (outside): ",
+        ),
+        ("crop a.rec 0 0 7 1 old.rec", "compose crop: refused 9 "),
+        ("crop cut.rec 0 0 7 1 new.rec", "compose crop: refused 5 "),
+        (
+            "clap a.rec 5 1 4 1 0 1 0 1 new.rec",
+            "compose clap: refused 8 (fraction): ",
+        ),
+        (
+            "clap a.rec 5 0 4 1 0 1 0 1 new.rec",
+            "compose clap: refused 7 (zero): ",
+        ),
+        ("irot cut.rec 1 new.rec", "compose irot: refused 5 "),
+        ("imir cut.rec 1 old.rec", "compose imir: refused 5 "),
+    ] {
+        folder.fails(words, 2, beginning);
+        assert!(!folder.has("new.rec"), "{words}");
+        assert_eq!(folder.get("old.rec"), b"as it was", "{words}");
+    }
+}
+
+#[test]
+fn wrong_words_write_nothing() {
+    let folder = Folder::with_picture("wrong-words");
+    for (words, beginning) in [
+        ("turn a.rec", "compose: turn is no command"),
+        ("help turn", "compose: turn is no command"),
+        ("--version", "compose: --version is no command"),
+        ("record", "compose: record: RECORD is missing"),
+        (
+            "record a.rec b.rec",
+            "compose: record: b.rec is a word too many",
+        ),
+        ("pack", "compose: pack: TRAY is missing"),
+        ("crop a.rec 0 0 2", "compose: crop: HEIGHT is missing"),
+        ("crop a.rec 0 0 2 2", "compose: crop: OUT is missing"),
+        (
+            "crop a.rec 0 0 two 2 new.rec",
+            "compose: crop: WIDTH is a number from 0 to 4294967295, not two",
+        ),
+        (
+            "crop a.rec -1 0 2 2 new.rec",
+            "compose: crop: X is a number from 0 to 4294967295, not -1",
+        ),
+        (
+            "irot a.rec 256 new.rec",
+            "compose: irot: ANGLE is a number from 0 to 255, not 256",
+        ),
+        (
+            "imir a.rec 1 new.rec more",
+            "compose: imir: more is a word too many",
+        ),
+        ("fill 1 2", "compose: fill: BLUE is missing"),
+        ("fill 1 2 3 --depth", "compose: fill: --depth takes a word"),
+        ("fill 1 2 65536", "compose: fill: BLUE is a number from 0 "),
+        (
+            "view a.rec --blue",
+            "compose: view: --blue is a word too many",
+        ),
+        ("record none.rec", "compose: none.rec cannot be read: "),
+        (
+            "irot a.rec 1 none/new.rec",
+            "compose: none/new.rec cannot be written: ",
+        ),
+    ] {
+        folder.fails(words, 1, beginning);
+        assert!(!folder.has("new.rec"), "{words}");
+    }
+}

@@ -1,0 +1,571 @@
+//! The comparisons by name.
+
+use crate::compare::{Comparison, Input, Sides, Verdict};
+use crate::damage::{self, BodyFault};
+use crate::expected::{self, Call, SceneParts, Stop, Want};
+use crate::generate;
+use crate::ours::{self, Answer};
+use crate::rng::Rng;
+use model::{
+    Clap, Colour, Entry, Frame, Iscl, Operation, Outcome, Property, Reader, Rectangle, chain_bytes,
+    fill_samples, number_bytes, parse_record, parse_tray, tray_bytes,
+};
+use std::fmt::Debug;
+
+/// Every comparison.
+pub const ALL: &[Comparison] = &[
+    Comparison {
+        name: "house-number",
+        generate: house_number_input,
+        judge: house_number,
+    },
+    Comparison {
+        name: "record",
+        generate: record_input,
+        judge: record,
+    },
+    Comparison {
+        name: "tray",
+        generate: tray_input,
+        judge: tray,
+    },
+    Comparison {
+        name: "descriptor",
+        generate: descriptor_input,
+        judge: descriptor,
+    },
+    Comparison {
+        name: "crop",
+        generate: |rng| operation_input(rng, Kind::Crop),
+        judge: |sides, input| operation(sides, input, Kind::Crop),
+    },
+    Comparison {
+        name: "clap",
+        generate: |rng| operation_input(rng, Kind::Clap),
+        judge: |sides, input| operation(sides, input, Kind::Clap),
+    },
+    Comparison {
+        name: "irot",
+        generate: |rng| operation_input(rng, Kind::Irot),
+        judge: |sides, input| operation(sides, input, Kind::Irot),
+    },
+    Comparison {
+        name: "imir",
+        generate: |rng| operation_input(rng, Kind::Imir),
+        judge: |sides, input| operation(sides, input, Kind::Imir),
+    },
+    Comparison {
+        name: "iscl",
+        generate: |rng| operation_input(rng, Kind::Iscl),
+        judge: |sides, input| operation(sides, input, Kind::Iscl),
+    },
+    Comparison {
+        name: "nearest",
+        generate: |rng| operation_input(rng, Kind::Nearest),
+        judge: |sides, input| operation(sides, input, Kind::Nearest),
+    },
+    Comparison {
+        name: "depth",
+        generate: |rng| operation_input(rng, Kind::Depth),
+        judge: |sides, input| operation(sides, input, Kind::Depth),
+    },
+    Comparison {
+        name: "attach",
+        generate: attach_input,
+        judge: attach,
+    },
+    Comparison {
+        name: "fill",
+        generate: fill_input,
+        judge: fill,
+    },
+    Comparison {
+        name: "grid",
+        generate: grid_input,
+        judge: grid,
+    },
+    Comparison {
+        name: "session",
+        generate: session_input,
+        judge: session,
+    },
+    Comparison {
+        name: "overlay",
+        generate: overlay_input,
+        judge: overlay,
+    },
+];
+
+/// What both builds want of a call: the same, and no panic. `departs` says how another side does
+/// not answer it.
+fn agree<T: PartialEq + Debug>(
+    [plain, checked]: [Want<T>; 2],
+    departs: impl FnOnce(&Answer<T>) -> Option<String>,
+) -> Verdict {
+    if plain != checked {
+        return Verdict::Different(format!("plain {plain:?}, checked {checked:?}"));
+    }
+    let want = match plain {
+        Ok(answer) => Ok(answer),
+        Err(Stop::Refused(number)) => Err(number),
+        Err(Stop::Large) => return Verdict::PassedOver,
+        Err(Stop::Broke(text)) => return Verdict::Different(format!("both builds: {text}")),
+    };
+    match (departs(&want), want) {
+        (Some(shows), _) => Verdict::Different(shows),
+        (None, Ok(_)) => Verdict::Accepted,
+        (None, Err(number)) => Verdict::Refused(number),
+    }
+}
+
+/// What is written must be a record.
+fn no_record(want: &Answer<impl AsRef<[u8]>>) -> Option<String> {
+    let number = parse_record(want.as_ref().ok()?.as_ref()).err()?;
+    Some(format!("the record written is refused {number}"))
+}
+
+fn house_number_input(rng: &mut Rng) -> Input {
+    Input::new().with_bytes("number", damage::number_form(rng))
+}
+
+/// The model's reader against the paper's words taken one by one; what is read is written back to
+/// the same bytes.
+fn house_number(_: &Sides, input: &Input) -> Verdict {
+    let bytes = input.bytes("number");
+    let mut reader = Reader::new(bytes);
+    let read = reader.number();
+    let last = bytes.iter().take(5).position(|byte| *byte < 128);
+    let wanted = last.and_then(|last| {
+        let groups = &bytes[..=last];
+        let value = groups
+            .iter()
+            .rev()
+            .fold(0u64, |sum, group| sum * 128 + u64::from(group % 128));
+        let shortest = last == 0 || groups[last] != 0;
+        (shortest && value < 1 << 32).then_some((value, last + 1))
+    });
+    match (read, wanted) {
+        (Ok(value), Some((wanted, length)))
+            if u64::from(value) == wanted
+                && number_bytes(value) == bytes[..length]
+                && reader.rest() == &bytes[length..] =>
+        {
+            Verdict::Accepted
+        }
+        (Err(number @ 5), None) => Verdict::Refused(number),
+        _ => Verdict::Different(format!("read {read:?}, wanted {wanted:?}")),
+    }
+}
+
+fn record_input(rng: &mut Rng) -> Input {
+    Input::new().with_bytes("record", damage::any_record(rng))
+}
+
+/// How the model's answer departs from `want`.
+fn model_answers<T: PartialEq + Debug>(want: &Answer<T>, model: &Answer<T>) -> Option<String> {
+    (model != want).then(|| format!("the model {model:?}, wanted {want:?}"))
+}
+
+/// How the model's reading departs from `want`, or is written back to other bytes.
+fn model_departs<T: PartialEq + Debug>(
+    want: &Answer<T>,
+    read: &Answer<T>,
+    bytes: &[u8],
+    write: impl Fn(&T) -> Vec<u8>,
+) -> Option<String> {
+    model_answers(want, read).or_else(|| {
+        let other = read.as_ref().is_ok_and(|read| write(read) != bytes);
+        other.then(|| "the model writes it back to other bytes".into())
+    })
+}
+
+/// Taken where `HeifFrame::validate` takes the frame and the header passes; the model's reading,
+/// and the composer's numbers, form and places.
+fn record(sides: &Sides, input: &Input) -> Verdict {
+    let bytes = input.bytes("record");
+    let wants = sides.wants(|build| expected::record(build, bytes));
+    agree(wants, |want| {
+        let read = parse_record(bytes);
+        model_departs(want, &read, bytes, Frame::record).or_else(|| {
+            let layout = read.map(|frame| frame.layout());
+            ours::answers(&layout, sides.ours.record(bytes))
+        })
+    })
+}
+
+fn tray_input(rng: &mut Rng) -> Input {
+    Input::new().with_bytes("tray", damage::any_tray(rng))
+}
+
+/// As [`record`], for a tray; the composer answers its count.
+fn tray(sides: &Sides, input: &Input) -> Verdict {
+    let bytes = input.bytes("tray");
+    let wants = sides.wants(|build| expected::tray(build, bytes));
+    agree(wants, |want| {
+        let read = parse_tray(bytes);
+        model_departs(want, &read, bytes, |frames| tray_bytes(frames)).or_else(|| {
+            let count = read.map(|frames| frames.len() as u32);
+            ours::answers(&count, sides.ours.tray(bytes))
+        })
+    })
+}
+
+/// A body of either sort: valid, loosened, with known faults or damaged, and a number of inputs.
+fn descriptor_input(rng: &mut Rng) -> Input {
+    let overlay = rng.flag();
+    let mut inputs = 0;
+    let mut body;
+    if rng.once_in(3) {
+        let faults = damage::some_faults(rng, |fault: BodyFault| overlay || fault.in_grid());
+        (body, inputs) = damage::faulty_body(rng, &faults, overlay);
+    } else if overlay {
+        let scene = generate::overlay_scene(rng).0;
+        inputs = scene.offsets.len();
+        body = generate::overlay_body(&scene, rng.flag());
+    } else {
+        body = generate::grid_body(&generate::grid_scene(rng).0, rng.flag());
+    }
+    generate::loosen_body(rng, &mut body);
+    if rng.once_in(8) {
+        damage::damage(rng, &mut body);
+    }
+    Input::new()
+        .with_bytes("body", body)
+        .with_numbers("overlay", vec![i64::from(overlay)])
+        .with_numbers("inputs", vec![inputs as i64])
+}
+
+fn descriptor(sides: &Sides, input: &Input) -> Verdict {
+    let body = input.bytes("body");
+    let inputs = input.numbers("inputs")[0] as usize;
+    if input.flag("overlay") {
+        let wants = sides.wants(|build| expected::settle(build.parse_overlay(body, inputs)));
+        agree(wants, |want| {
+            ours::answers(want, sides.ours.overlay_body(body, inputs))
+        })
+    } else {
+        let wants = sides.wants(|build| expected::settle(build.parse_grid(body)));
+        agree(wants, |want| {
+            ours::answers(want, sides.ours.grid_body(body))
+        })
+    }
+}
+
+/// A property's fields as numbers, after its kind.
+fn property_numbers(property: Property) -> Vec<i64> {
+    let entry = Entry::new(false, property);
+    entry.numbers()[2..]
+        .iter()
+        .map(|field| i64::from(*field))
+        .collect()
+}
+
+/// The operations on one record.
+#[derive(Clone, Copy)]
+enum Kind {
+    Crop,
+    Clap,
+    Irot,
+    Imir,
+    Iscl,
+    Nearest,
+    Depth,
+}
+
+/// The fields of an operation on a picture of the given size.
+fn operation_fields(rng: &mut Rng, kind: Kind, size: (u32, u32)) -> Vec<i64> {
+    match kind {
+        Kind::Crop => {
+            let (across, down) = (generate::span(rng, size.0), generate::span(rng, size.1));
+            let fields = [across.0, down.0, across.1, down.1];
+            fields.map(i64::from).to_vec()
+        }
+        Kind::Clap => property_numbers(Property::Clap(generate::clap(rng, size))),
+        Kind::Irot => vec![i64::from(generate::turn(rng, 3))],
+        Kind::Imir => vec![i64::from(generate::turn(rng, 1))],
+        Kind::Iscl => property_numbers(Property::Iscl(generate::iscl(rng))),
+        Kind::Nearest => {
+            let side = |rng: &mut Rng, same: u32| match rng.below(12) {
+                0 => same,
+                1 => rng.pick(&[0, u32::MAX]),
+                _ => generate::side(rng),
+            };
+            [side(rng, size.0), side(rng, size.1)]
+                .map(i64::from)
+                .to_vec()
+        }
+        Kind::Depth => {
+            vec![rng.pick(&[0, 7, 8, 8, 9, 10, 11, 12, 13, 14, 15, 16, 17, 255, 256, 264])]
+        }
+    }
+}
+
+/// A record, once in eight any but a valid one as a rule, and an operation's fields.
+fn operation_input(rng: &mut Rng, kind: Kind) -> Input {
+    let frame = generate::frame(rng);
+    let fields = operation_fields(rng, kind, (frame.width, frame.height));
+    let record = match rng.below(16) {
+        0 => damage::any_record(rng),
+        1 => {
+            let mut record = frame.record();
+            damage::damage(rng, &mut record);
+            record
+        }
+        _ => frame.record(),
+    };
+    Input::new()
+        .with_bytes("record", record)
+        .with_numbers("fields", fields)
+}
+
+/// The operation of a kind with an input's fields.
+fn operation_of(input: &Input, kind: Kind) -> Operation {
+    let field = |at: usize| input.numbers("fields")[at] as u32;
+    match kind {
+        Kind::Crop => Operation::Crop(Rectangle {
+            x: field(0),
+            y: field(1),
+            width: field(2),
+            height: field(3),
+        }),
+        Kind::Clap => Operation::Clap(Clap::from_fields(std::array::from_fn(field))),
+        Kind::Irot => Operation::Irot(field(0) as u8),
+        Kind::Imir => Operation::Imir(field(0) as u8),
+        Kind::Iscl => Operation::Iscl(Iscl::from_fields(std::array::from_fn(|at| {
+            field(at) as u16
+        }))),
+        Kind::Nearest => Operation::Nearest(field(0), field(1)),
+        Kind::Depth => Operation::Depth(field(0)),
+    }
+}
+
+/// What the model makes of an operation, then what the composer writes.
+fn operation(sides: &Sides, input: &Input, kind: Kind) -> Verdict {
+    let (record, operation) = (input.bytes("record"), operation_of(input, kind));
+    let wants = sides.wants(|build| expected::operation(build, record, &operation));
+    agree(wants, |want| {
+        let model = parse_record(record).and_then(|frame| operation.apply(&frame));
+        let model = model.map(|frame| frame.record());
+        let call = |output: &mut [u8]| sides.ours.operation(record, &operation, output);
+        model_answers(want, &model)
+            .or_else(|| no_record(want))
+            .or_else(|| ours::writes(want, call))
+    })
+}
+
+fn attach_input(rng: &mut Rng) -> Input {
+    let master = generate::frame(rng);
+    let mut form = generate::form(rng);
+    if rng.flag() {
+        form.depth = master.depth;
+    }
+    let size = if rng.flag() {
+        (master.width, master.height)
+    } else {
+        generate::size(rng)
+    };
+    let alpha = generate::frame_of(rng, size, form, true);
+    Input::new()
+        .with_bytes("master", master.record())
+        .with_bytes("alpha", alpha.record())
+}
+
+fn attach(sides: &Sides, input: &Input) -> Verdict {
+    let (master, alpha) = (input.bytes("master"), input.bytes("alpha"));
+    let wants = sides.wants(|build| expected::attach(build, master, alpha));
+    agree(wants, |want| {
+        let call = |output: &mut [u8]| sides.ours.attach(master, alpha, output);
+        no_record(want).or_else(|| ours::writes(want, call))
+    })
+}
+
+fn colour_numbers(colour: Option<Colour>) -> Vec<i64> {
+    colour.map_or(Vec::new(), |colour| {
+        vec![i64::from(colour.matrix), i64::from(colour.full_range)]
+    })
+}
+
+fn colour_of(input: &Input) -> Option<Colour> {
+    match input.numbers("colour") {
+        [matrix, full_range] => Some(Colour {
+            matrix: *matrix as u16,
+            full_range: *full_range != 0,
+        }),
+        _ => None,
+    }
+}
+
+fn fill_input(rng: &mut Rng) -> Input {
+    Input::new()
+        .with_numbers("fill", generate::fill(rng).map(i64::from).to_vec())
+        .with_numbers(
+            "depth",
+            vec![rng.pick(&[7, 8, 9, 10, 11, 12, 13, 14, 15, 16, 17, 264])],
+        )
+        .with_numbers("colour", colour_numbers(generate::colour(rng)))
+}
+
+fn fill(sides: &Sides, input: &Input) -> Verdict {
+    let channels = std::array::from_fn(|at| input.numbers("fill")[at] as u16);
+    let depth = input.numbers("depth")[0] as u32;
+    let colour = colour_of(input);
+    let wants = sides.wants(|build| expected::fill(build, channels, depth, colour));
+    agree(wants, |want| {
+        let call = |words: &mut [u16]| sides.ours.fill(channels, depth, colour, words);
+        model_answers(want, &fill_samples(channels, depth, colour))
+            .or_else(|| ours::fills(want, call))
+    })
+}
+
+/// Body, tray, chain and flag of a scene, each now and then loosened or damaged.
+fn scene_input(rng: &mut Rng, mut body: Vec<u8>, frames: &[Frame], canvas: (u32, u32)) -> Input {
+    let mut tray = tray_bytes(frames);
+    let mut chain = chain_bytes(&generate::chain(rng, canvas));
+    generate::loosen_body(rng, &mut body);
+    for part in [&mut body, &mut tray, &mut chain] {
+        if rng.once_in(16) {
+            damage::damage(rng, part);
+        }
+    }
+    Input::new()
+        .with_bytes("body", body)
+        .with_bytes("tray", tray)
+        .with_bytes("chain", chain)
+        .with_numbers("essential-only", vec![rng.within(0..=1)])
+}
+
+fn grid_input(rng: &mut Rng) -> Input {
+    let (grid, tiles) = generate::grid_scene(rng);
+    let body = generate::grid_body(&grid, rng.flag());
+    scene_input(rng, body, &tiles, (grid.width, grid.height))
+}
+
+/// The parts that both scene calls are handed.
+fn parts_of(input: &Input) -> SceneParts<'_> {
+    SceneParts {
+        body: input.bytes("body"),
+        tray: input.bytes("tray"),
+        chain: input.bytes("chain"),
+        essential_only: input.flag("essential-only"),
+    }
+}
+
+fn grid(sides: &Sides, input: &Input) -> Verdict {
+    let parts = parts_of(input);
+    let wants = sides.wants(|build| expected::grid_scene(build, &parts));
+    agree(wants, |want| {
+        let call =
+            |output: &mut [u8], spare: &mut [u8]| sides.ours.grid_scene(&parts, output, spare);
+        no_record(want).or_else(|| ours::composes(want, call))
+    })
+}
+
+fn overlay_input(rng: &mut Rng) -> Input {
+    let (overlay, inputs) = generate::overlay_scene(rng);
+    let frames: Vec<Frame> = inputs.iter().map(|input| input.frame.clone()).collect();
+    let mut list: Vec<u8> = inputs
+        .iter()
+        .map(|input| {
+            if input.premultiplied {
+                rng.byte() | 1
+            } else {
+                0
+            }
+        })
+        .collect();
+    if rng.once_in(24) {
+        damage::damage(rng, &mut list);
+    }
+    let body = generate::overlay_body(&overlay, rng.flag());
+    scene_input(rng, body, &frames, (overlay.width, overlay.height))
+        .with_bytes("premultiplied", list)
+        .with_numbers("colour", colour_numbers(generate::colour(rng)))
+}
+
+fn overlay(sides: &Sides, input: &Input) -> Verdict {
+    let (parts, colour) = (parts_of(input), colour_of(input));
+    let list = input.bytes("premultiplied");
+    let wants = sides.wants(|build| expected::overlay_scene(build, &parts, list, colour));
+    agree(wants, |want| {
+        let call = |output: &mut [u8], spare: &mut [u8]| {
+            sides
+                .ours
+                .overlay_scene(&parts, list, colour, output, spare)
+        };
+        no_record(want).or_else(|| ours::composes(want, call))
+    })
+}
+
+/// A session: a body, a tray of tiles to take from, one more record, and calls of three bytes
+/// each: what to do, a cell, a tile of the tray.
+fn session_input(rng: &mut Rng) -> Input {
+    let (grid, tiles) = generate::grid_scene(rng);
+    let mut calls = Vec::new();
+    for cell in generate::shuffled(rng, grid.cells()) {
+        let again = rng.once_in(4).then(|| rng.below(grid.cells() + 1));
+        for cell in again.into_iter().chain([cell]) {
+            let call = rng.pick(&[PLACE, PLACE, PLACE, PLACE, BLANK]);
+            calls.extend([call, cell as u8, rng.below(tiles.len()) as u8]);
+        }
+        if rng.once_in(8) {
+            calls.extend([rng.pick(&[FINISH, STRANGER]), cell as u8, 0]);
+        }
+    }
+    calls.extend([FINISH, 0, 0]);
+    Input::new()
+        .with_bytes("body", generate::grid_body(&grid, rng.flag()))
+        .with_bytes("tray", tray_bytes(&tiles))
+        .with_bytes("stranger", damage::any_record(rng))
+        .with_bytes("calls", calls)
+}
+
+const PLACE: u8 = 0;
+const BLANK: u8 = 1;
+const FINISH: u8 = 2;
+/// Place the record that is not of the tray.
+const STRANGER: u8 = 3;
+
+/// The calls that an input names, with `tiles` as records.
+fn calls_of<'a>(input: &'a Input, tiles: &'a [Vec<u8>]) -> Vec<Call<'a>> {
+    let call = |&[kind, cell, tile]: &[u8; 3]| match (kind, tiles.get(usize::from(tile))) {
+        (PLACE, Some(tile)) => Call::Place(u32::from(cell), tile),
+        (PLACE | BLANK, _) => Call::Blank(u32::from(cell)),
+        (FINISH, _) => Call::Finish,
+        _ => Call::Place(u32::from(cell), input.bytes("stranger")),
+    };
+    input
+        .bytes("calls")
+        .as_chunks()
+        .0
+        .iter()
+        .map(call)
+        .collect()
+}
+
+fn session(sides: &Sides, input: &Input) -> Verdict {
+    let (Outcome::Done(grid), Ok(tiles)) = (
+        sides.plain.parse_grid(input.bytes("body")),
+        parse_tray(input.bytes("tray")),
+    ) else {
+        return Verdict::PassedOver;
+    };
+    let tiles: Vec<Vec<u8>> = tiles.iter().map(Frame::record).collect();
+    let calls = calls_of(input, &tiles);
+    let [plain, checked] = sides.wants(|build| expected::session(build, &grid, &calls));
+    let ours = sides.ours.session(input.bytes("body"), &calls);
+    for (at, (plain, checked)) in plain.into_iter().zip(checked).enumerate() {
+        if plain.buffer != checked.buffer || plain.placed != checked.placed {
+            return Verdict::Different(format!("call {at} leaves another canvas"));
+        }
+        let departs = ours.as_ref().filter(|ours| ours[at] != plain);
+        let departs = departs.map(|ours| format!("the composer {:?}", ours[at]));
+        match agree([plain.answer, checked.answer], |_| departs) {
+            Verdict::Different(shows) => {
+                return Verdict::Different(format!("call {at}: {shows}"));
+            }
+            verdict if at + 1 == calls.len() => return verdict,
+            _ => {}
+        }
+    }
+    Verdict::PassedOver
+}

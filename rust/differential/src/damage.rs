@@ -1,0 +1,558 @@
+//! Broken inputs: numbers in forms that document 01 calls malformed, records, trays and chains
+//! with faults whose number is known, and blind damage.
+
+use crate::generate;
+use crate::rng::Rng;
+use model::{Clap, Entry, Frame, Iscl, MAX_ENTRIES, Property, Refusal, number_bytes, refusal};
+use std::ops::Range;
+
+/// Values at each length boundary of a house number.
+pub const BOUNDARIES: [u32; 12] = [
+    0,
+    1,
+    127,
+    128,
+    16_383,
+    16_384,
+    2_097_151,
+    2_097_152,
+    268_435_455,
+    268_435_456,
+    u32::MAX - 1,
+    u32::MAX,
+];
+
+/// A value near a length boundary, or any.
+pub fn boundary(rng: &mut Rng) -> u32 {
+    if rng.once_in(4) {
+        return rng.word() as u32;
+    }
+    rng.pick(&BOUNDARIES)
+}
+
+/// A number that is whole but malformed: a last group of 0 in a longer form, five bytes at or
+/// above 2^32, or six bytes.
+pub fn malformed_number(rng: &mut Rng) -> Vec<u8> {
+    let mut bytes: Vec<u8>;
+    match rng.below(3) {
+        0 => {
+            bytes = number_bytes(rng.pick(&BOUNDARIES[..10]));
+            let last = bytes.len() - 1;
+            bytes[last] |= 128;
+            bytes.push(0);
+        }
+        1 => {
+            bytes = (0..4).map(|_| rng.byte() | 128).collect();
+            bytes.push(rng.number(16..=127) as u8);
+        }
+        _ => {
+            bytes = (0..5).map(|_| rng.byte() | 128).collect();
+            bytes.push(rng.byte() & 127);
+        }
+    }
+    bytes
+}
+
+/// Bytes that begin with a house number in any form, or with none.
+pub fn number_form(rng: &mut Rng) -> Vec<u8> {
+    let mut bytes = match rng.below(4) {
+        0 => malformed_number(rng),
+        1 => {
+            let count = rng.below(7);
+            rng.bytes(count)
+        }
+        _ => number_bytes(boundary(rng)),
+    };
+    match rng.below(4) {
+        0 => bytes.truncate(rng.below(bytes.len() + 1)),
+        1 => bytes.push(rng.byte()),
+        _ => {}
+    }
+    bytes
+}
+
+/// A record or a chain field by field, each as its bytes.
+struct Draft {
+    fields: Vec<Vec<u8>>,
+    /// The field that the bytes end in, and how many of its bytes are left.
+    cut: Option<(usize, usize)>,
+}
+
+impl Draft {
+    fn of_record(frame: &Frame) -> Self {
+        let mut fields: Vec<Vec<u8>> = frame.header().map(number_bytes).to_vec();
+        for plane in &frame.planes {
+            fields.push(number_bytes(plane.stride as u32));
+            fields.push(number_bytes(plane.data.len() as u32));
+            fields.push(plane.data.clone());
+        }
+        Self { fields, cut: None }
+    }
+
+    fn of_chain(entries: &[Entry]) -> Self {
+        let numbers = entries.iter().flat_map(Entry::numbers);
+        let fields = std::iter::once(entries.len() as u32)
+            .chain(numbers)
+            .map(number_bytes)
+            .collect();
+        Self { fields, cut: None }
+    }
+
+    fn set(&mut self, field: usize, value: u32) {
+        self.fields[field] = number_bytes(value);
+    }
+
+    /// Ends the bytes inside one of the given fields.
+    fn cut(&mut self, rng: &mut Rng, fields: Range<usize>) {
+        let field = fields.start + rng.below(fields.len());
+        self.cut = Some((field, rng.below(self.fields[field].len())));
+    }
+
+    fn leave_over(&mut self, rng: &mut Rng) {
+        let count = 1 + rng.below(3);
+        self.fields.push(rng.bytes(count));
+    }
+
+    fn bytes(&self) -> Vec<u8> {
+        let Some((field, left)) = self.cut else {
+            return self.fields.concat();
+        };
+        let mut bytes = self.fields[..field].concat();
+        bytes.extend(self.fields[field].iter().take(left));
+        bytes
+    }
+}
+
+/// A fault that stands at a place of document 01's order and has a number there.
+pub trait Fault: Copy + Ord + 'static {
+    /// Every fault, in the order in which they are judged.
+    const ALL: &'static [Self];
+
+    fn refusal(self) -> Refusal;
+}
+
+/// The number that several faults together are refused with: the first's.
+pub fn first_refusal<F: Fault>(faults: &[F]) -> Refusal {
+    faults.iter().min().expect("a fault at least").refusal()
+}
+
+/// One to three faults of those that `fit`.
+pub fn some_faults<F: Fault>(rng: &mut Rng, fit: impl Fn(F) -> bool) -> Vec<F> {
+    let fitting: Vec<F> = F::ALL.iter().copied().filter(|fault| fit(*fault)).collect();
+    (0..1 + rng.below(3)).map(|_| rng.pick(&fitting)).collect()
+}
+
+/// Every choice of three faults, one and the same included: so each fault alone, each two of them
+/// and each three.
+pub fn triples<F: Fault>() -> Vec<[F; 3]> {
+    let mut triples = Vec::new();
+    for (at, first) in F::ALL.iter().enumerate() {
+        for (next, second) in F::ALL.iter().enumerate().skip(at) {
+            let thirds = F::ALL[next..].iter();
+            triples.extend(thirds.map(|third| [*first, *second, *third]));
+        }
+    }
+    triples
+}
+
+/// Every choice of one, two and three faults, each made `times` times: the faults, the bytes, and
+/// the number that they are refused with.
+pub fn each_choice<F: Fault>(
+    times: usize,
+    make: impl Fn(&mut Rng, &[F]) -> Vec<u8>,
+) -> Vec<([F; 3], Vec<u8>, Refusal)> {
+    let mut rng = Rng::new(1);
+    let mut choices = Vec::new();
+    for faults in triples() {
+        for _ in 0..times {
+            choices.push((faults, make(&mut rng, &faults), first_refusal(&faults)));
+        }
+    }
+    choices
+}
+
+/// The faults from the last judged to the first, so that the first stays as it was made.
+fn last_first<F: Fault>(faults: &[F]) -> Vec<F> {
+    let mut order = faults.to_vec();
+    order.sort();
+    order.reverse();
+    order
+}
+
+/// Faults of a record, in document 01's order.
+#[derive(Clone, Copy, Debug, PartialEq, Eq, PartialOrd, Ord)]
+pub enum RecordFault {
+    HeaderCut,
+    HeaderNumber,
+    Chroma,
+    Alpha,
+    Depth,
+    ZeroSide,
+    Limit,
+    StrideNumber,
+    LengthNumber,
+    StrideBelowRow,
+    DataShort,
+    PastEnd,
+    LeftOver,
+}
+
+impl Fault for RecordFault {
+    const ALL: &'static [Self] = &[
+        Self::HeaderCut,
+        Self::HeaderNumber,
+        Self::Chroma,
+        Self::Alpha,
+        Self::Depth,
+        Self::ZeroSide,
+        Self::Limit,
+        Self::StrideNumber,
+        Self::LengthNumber,
+        Self::StrideBelowRow,
+        Self::DataShort,
+        Self::PastEnd,
+        Self::LeftOver,
+    ];
+
+    fn refusal(self) -> Refusal {
+        match self {
+            Self::Depth => refusal::DEPTH,
+            Self::ZeroSide => refusal::ZERO_SIDE,
+            Self::Limit => refusal::LIMIT,
+            _ => refusal::MALFORMED,
+        }
+    }
+}
+
+impl RecordFault {
+    /// Whether the fault is one wherever the record stands, not at the end of the bytes alone.
+    fn stands_in_tray(self) -> bool {
+        !matches!(self, Self::HeaderCut | Self::LeftOver)
+    }
+
+    fn apply(self, rng: &mut Rng, frame: &Frame, draft: &mut Draft) {
+        let plane = rng.below(frame.planes.len());
+        let (stride, length, data) = (5 + 3 * plane, 6 + 3 * plane, 7 + 3 * plane);
+        match self {
+            Self::HeaderCut => draft.cut(rng, 0..5),
+            Self::HeaderNumber => draft.fields[rng.below(5)] = malformed_number(rng),
+            Self::Chroma => draft.set(2, rng.pick(&[4, 5, 127, 128, 256, 257, u32::MAX])),
+            Self::Alpha => draft.set(4, rng.pick(&[2, 3, 255, 256, 257, u32::MAX])),
+            Self::Depth => draft.set(3, rng.pick(&[0, 1, 7, 17, 32, 255, 256, 264, u32::MAX])),
+            Self::ZeroSide => match rng.below(3) {
+                0 => draft.set(0, 0),
+                1 => draft.set(1, 0),
+                _ => {
+                    draft.set(0, 0);
+                    draft.set(1, 0);
+                }
+            },
+            Self::Limit => {
+                let (width, height) = rng.pick(&[
+                    ((1 << 30) + 1, 1),
+                    (1, (1 << 30) + 1),
+                    (32_769, 32_768),
+                    (65_536, 65_536),
+                    (u32::MAX, u32::MAX),
+                ]);
+                draft.set(0, width);
+                draft.set(1, height);
+            }
+            Self::StrideNumber => draft.fields[stride] = malformed_number(rng),
+            Self::LengthNumber => draft.fields[length] = malformed_number(rng),
+            Self::StrideBelowRow => {
+                let row = frame.row_bytes(plane);
+                draft.set(stride, row as u32 - 1 - rng.below(row) as u32);
+            }
+            Self::DataShort => {
+                let needed = frame.data_needed(plane, frame.planes[plane].stride);
+                let kept = needed - 1 - rng.below(needed.min(3));
+                draft.set(length, kept as u32);
+                draft.fields[data].truncate(kept);
+            }
+            Self::PastEnd => draft.set(length, rng.pick(&[1 << 28, 1 << 31, u32::MAX])),
+            Self::LeftOver => draft.leave_over(rng),
+        }
+    }
+}
+
+/// A record with `faults` in it.
+pub fn faulty_record(rng: &mut Rng, faults: &[RecordFault]) -> Vec<u8> {
+    let size = (generate::side(rng), generate::side(rng));
+    let form = generate::form(rng);
+    let frame = generate::frame_of(rng, size, form, true);
+    let mut draft = Draft::of_record(&frame);
+    for fault in last_first(faults) {
+        fault.apply(rng, &frame, &mut draft);
+    }
+    draft.bytes()
+}
+
+/// A tray with one to three faults, and its number. Records are judged in turn, then what is left.
+pub fn faulty_tray(rng: &mut Rng) -> (Vec<u8>, Refusal) {
+    let mut expected = None;
+    let count = rng.below(4);
+    let mut records = Vec::new();
+    for _ in 0..count {
+        if rng.once_in(3) {
+            let faults = some_faults(rng, RecordFault::stands_in_tray);
+            records.push(faulty_record(rng, &faults));
+            expected = expected.or(Some(first_refusal(&faults)));
+        } else {
+            records.push(generate::frame(rng).record());
+        }
+    }
+    let mut bytes = number_bytes(count as u32);
+    match rng.below(4) {
+        // The count is unreadable, whatever follows.
+        0 => {
+            bytes = malformed_number(rng);
+            expected = Some(refusal::MALFORMED);
+        }
+        // A record is missing, or bytes are left over: judged once the records are read.
+        1 => bytes = number_bytes(count as u32 + 1),
+        _ => records.push(vec![rng.byte() & 127]),
+    }
+    bytes.extend(records.concat());
+    (bytes, expected.unwrap_or(refusal::MALFORMED))
+}
+
+/// Faults of a chain's form, in document 01's order.
+#[derive(Clone, Copy, Debug, PartialEq, Eq, PartialOrd, Ord)]
+pub enum ChainFault {
+    CountNumber,
+    CountAbove,
+    Cut,
+    Kind,
+    Essential,
+    Angle,
+    Axis,
+    Scale,
+    Number,
+    MissingEntry,
+    LeftOver,
+}
+
+impl Fault for ChainFault {
+    const ALL: &'static [Self] = &[
+        Self::CountNumber,
+        Self::CountAbove,
+        Self::Cut,
+        Self::Kind,
+        Self::Essential,
+        Self::Angle,
+        Self::Axis,
+        Self::Scale,
+        Self::Number,
+        Self::MissingEntry,
+        Self::LeftOver,
+    ];
+
+    fn refusal(self) -> Refusal {
+        match self {
+            Self::CountAbove => refusal::LIMIT,
+            _ => refusal::MALFORMED,
+        }
+    }
+}
+
+/// One entry of each kind, with the field where each kind starts: count, then `other`, clap, irot,
+/// imir, iscl.
+fn one_of_each(rng: &mut Rng) -> (Vec<Entry>, [usize; 5]) {
+    let properties = [
+        Property::Other,
+        Property::Clap(Clap::from_fields([0; 8].map(|_: u32| boundary(rng)))),
+        Property::Irot(rng.byte()),
+        Property::Imir(rng.byte()),
+        Property::Iscl(Iscl::from_fields([0; 4].map(|_: u16| rng.word() as u16))),
+    ];
+    let entries = properties.map(|property| Entry::new(rng.flag(), property));
+    (entries.to_vec(), [1, 3, 13, 16, 19])
+}
+
+impl ChainFault {
+    fn apply(self, rng: &mut Rng, starts: &[usize; 5], draft: &mut Draft) {
+        let [.., irot, imir, iscl] = *starts;
+        let above = |rng: &mut Rng, most: u32| rng.pick(&[most + 1, most + 2, 1 << 16, u32::MAX]);
+        let count = starts.len() as u32;
+        match self {
+            Self::CountNumber => draft.fields[0] = malformed_number(rng),
+            Self::CountAbove => draft.set(0, rng.pick(&[MAX_ENTRIES + 1, 512, 65_536, u32::MAX])),
+            Self::Cut => draft.cut(rng, 1..25),
+            Self::Kind => draft.set(rng.pick(starts), above(rng, 4)),
+            Self::Essential => draft.set(rng.pick(starts) + 1, above(rng, 1)),
+            Self::Angle => draft.set(irot + 2, above(rng, 255)),
+            Self::Axis => draft.set(imir + 2, above(rng, 255)),
+            Self::Scale => draft.set(iscl + 2 + rng.below(4), above(rng, 65_535)),
+            Self::Number => draft.fields[1 + rng.below(24)] = malformed_number(rng),
+            Self::MissingEntry => draft.set(0, count + 1),
+            Self::LeftOver => draft.leave_over(rng),
+        }
+    }
+}
+
+/// A chain with `faults` in its form.
+pub fn faulty_chain(rng: &mut Rng, faults: &[ChainFault]) -> Vec<u8> {
+    let (entries, starts) = one_of_each(rng);
+    let mut draft = Draft::of_chain(&entries);
+    for fault in last_first(faults) {
+        fault.apply(rng, &starts, &mut draft);
+    }
+    draft.bytes()
+}
+
+/// Faults of a descriptor body, in document 01's order. The last two are an overlay's alone.
+#[derive(Clone, Copy, Debug, PartialEq, Eq, PartialOrd, Ord)]
+pub enum BodyFault {
+    Empty,
+    Version,
+    Short,
+    ZeroSide,
+    Limit,
+    Inputs,
+    OffsetsShort,
+}
+
+impl Fault for BodyFault {
+    const ALL: &'static [Self] = &[
+        Self::Empty,
+        Self::Version,
+        Self::Short,
+        Self::ZeroSide,
+        Self::Limit,
+        Self::Inputs,
+        Self::OffsetsShort,
+    ];
+
+    fn refusal(self) -> Refusal {
+        match self {
+            Self::Empty | Self::Short | Self::OffsetsShort => refusal::SHORT,
+            Self::Version => refusal::VERSION,
+            Self::ZeroSide => refusal::ZERO_SIDE,
+            Self::Limit | Self::Inputs => refusal::LIMIT,
+        }
+    }
+}
+
+impl BodyFault {
+    /// Whether a grid's body can have it.
+    pub fn in_grid(self) -> bool {
+        !matches!(self, Self::Inputs | Self::OffsetsShort)
+    }
+
+    /// `sides` is where the width's field stands; the height's is the next.
+    fn apply(self, rng: &mut Rng, sides: usize, draft: &mut Draft, inputs: &mut usize) {
+        let all = draft.fields.len();
+        match self {
+            Self::Empty => draft.cut = Some((0, 0)),
+            Self::Version => draft.fields[0][0] = rng.byte().max(1),
+            Self::Short => draft.cut(rng, 1..sides + 2),
+            Self::ZeroSide => draft.fields[sides + rng.below(2)].fill(0),
+            Self::Limit => {
+                draft.fields[sides].fill(255);
+                draft.fields[sides + 1].fill(255);
+            }
+            Self::Inputs => *inputs = rng.pick(&[65_537, 65_538, u32::MAX as usize]),
+            Self::OffsetsShort => draft.cut(rng, sides + 2..all),
+        }
+    }
+}
+
+/// A body with `faults` in it, and the number of inputs that an overlay's is read for.
+pub fn faulty_body(rng: &mut Rng, faults: &[BodyFault], overlay: bool) -> (Vec<u8>, usize) {
+    let wide = rng.flag();
+    let mut inputs = 1 + rng.below(3);
+    let side = if wide { 4 } else { 2 };
+    let number = |bytes: usize| [vec![0; bytes - 1], vec![7]].concat();
+    let mut fields = vec![vec![0], vec![u8::from(wide)]];
+    if overlay {
+        fields.push(rng.bytes(8));
+    } else {
+        fields.extend([rng.bytes(1), rng.bytes(1)]);
+    }
+    let sides = fields.len();
+    let offsets = if overlay { 2 * inputs } else { 0 };
+    fields.extend((0..2 + offsets).map(|_| number(side)));
+    let mut draft = Draft { fields, cut: None };
+    for fault in last_first(faults) {
+        fault.apply(rng, sides, &mut draft, &mut inputs);
+    }
+    (draft.bytes(), inputs)
+}
+
+/// Blind damage, one to three times: an end cut off, a byte changed, put in or taken out.
+pub fn damage(rng: &mut Rng, bytes: &mut Vec<u8>) {
+    for _ in 0..1 + rng.below(3) {
+        if bytes.is_empty() {
+            bytes.push(rng.byte());
+            continue;
+        }
+        // Numbers stand at the front as a rule: half of the damage is done there.
+        let reach = if rng.flag() {
+            bytes.len().min(12)
+        } else {
+            bytes.len()
+        };
+        let at = rng.below(reach);
+        match rng.below(5) {
+            0 => bytes.truncate(at),
+            1 => bytes[at] = rng.byte(),
+            2 => bytes[at] ^= 1 << rng.below(8),
+            3 => bytes.insert(at, rng.byte()),
+            _ => {
+                bytes.remove(at);
+            }
+        }
+    }
+}
+
+/// A record of any sort: valid, with known faults, or damaged blindly.
+pub fn any_record(rng: &mut Rng) -> Vec<u8> {
+    match rng.below(4) {
+        0 => {
+            let faults = some_faults(rng, |_| true);
+            faulty_record(rng, &faults)
+        }
+        1 => {
+            let mut bytes = generate::frame(rng).record();
+            damage(rng, &mut bytes);
+            bytes
+        }
+        2 => loose_record(rng),
+        _ => generate::frame(rng).record(),
+    }
+}
+
+/// A tray of any sort: of valid records, with known faults, damaged blindly, or of loose records.
+pub fn any_tray(rng: &mut Rng) -> Vec<u8> {
+    let sort = rng.below(4);
+    if sort == 0 {
+        return faulty_tray(rng).0;
+    }
+    let count = rng.below(4);
+    let mut bytes = number_bytes(count as u32);
+    for _ in 0..count {
+        bytes.extend(match sort {
+            1 => loose_record(rng),
+            _ => generate::frame(rng).record(),
+        });
+    }
+    if sort == 2 {
+        damage(rng, &mut bytes);
+    }
+    bytes
+}
+
+/// A record whose strides and data lengths lie about the least ones, on both sides.
+fn loose_record(rng: &mut Rng) -> Vec<u8> {
+    let mut frame = generate::frame(rng);
+    for index in 0..frame.planes.len() {
+        let row = frame.row_bytes(index);
+        let stride = (row + rng.below(3)).saturating_sub(rng.below(3));
+        let needed = frame.data_needed(index, stride);
+        let length = (needed + rng.below(3)).saturating_sub(rng.below(3));
+        frame.planes[index].stride = stride;
+        frame.planes[index].data.resize(length, 0);
+    }
+    frame.record()
+}

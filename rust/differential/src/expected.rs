@@ -1,0 +1,331 @@
+//! What document 01 wants of a call, refusals in its order, with the pictures worked by the
+//! oracle. Where the paper adds a refusal that the published Rust lacks, it is judged here.
+
+use crate::refusals;
+use model::{
+    Canvas, CanvasState, Colour, Entry, Frame, Grid, Iscl, Operation, Oracle, Outcome,
+    OverlayInput, Property, Refusal, parse_chain, parse_record, parse_tray, parse_untested,
+    push_number, refusal, tray_count, untested_tray,
+};
+
+/// Why a call wrote nothing.
+#[derive(Clone, Debug, PartialEq, Eq)]
+pub enum Stop {
+    /// A refusal of document 01.
+    Refused(Refusal),
+    /// The oracle panicked, or gave an error that has no number.
+    Broke(String),
+    /// A legal picture that is too large to be worked here.
+    Large,
+}
+
+/// What a call answers.
+pub type Want<T> = Result<T, Stop>;
+
+impl From<Refusal> for Stop {
+    fn from(number: Refusal) -> Self {
+        Self::Refused(number)
+    }
+}
+
+/// The pixel limit L of document 01.
+const MAX_PIXELS: u64 = 1 << 30;
+/// The longest side that a changing iscl admits.
+const MAX_SCALED_SIDE: u32 = 1 << 26;
+/// The most pixels that a comparison works on.
+const LARGE: u64 = 1 << 20;
+
+/// An outcome of the oracle, its errors as numbers.
+pub fn settle<T>(outcome: Outcome<T>) -> Want<T> {
+    match outcome {
+        Outcome::Done(answer) => Ok(answer),
+        Outcome::Error(text) => match refusals::number(&text) {
+            Some(number) => Err(Stop::Refused(number)),
+            None => Err(Stop::Broke(text)),
+        },
+        Outcome::Panic(text) => Err(Stop::Broke(text)),
+    }
+}
+
+/// Passes over a legal size that takes too long or too much memory.
+fn bearable(width: u32, height: u32) -> Want<()> {
+    let pixels = u64::from(width) * u64::from(height);
+    if pixels > LARGE && pixels <= MAX_PIXELS {
+        return Err(Stop::Large);
+    }
+    Ok(())
+}
+
+/// The frame of a record, its planes held to the header by `HeifFrame::validate`.
+pub fn record(oracle: &dyn Oracle, bytes: &[u8]) -> Want<Frame> {
+    let frame = parse_untested(bytes)?;
+    settle(oracle.validate(&frame))?;
+    Ok(frame)
+}
+
+/// The frames of a tray, the planes of each held to its header by `HeifFrame::validate`, in turn.
+pub fn tray(oracle: &dyn Oracle, bytes: &[u8]) -> Want<Vec<Frame>> {
+    let (frames, end) = untested_tray(bytes);
+    for frame in &frames {
+        settle(oracle.validate(frame))?;
+    }
+    end?;
+    Ok(frames)
+}
+
+fn iscl(oracle: &dyn Oracle, frame: &Frame, iscl: &Iscl) -> Want<Frame> {
+    let (width, height) = settle(oracle.iscl_size(iscl, frame.width, frame.height))?;
+    if (width, height) == (frame.width, frame.height) {
+        return Ok(frame.clone());
+    }
+    let sides = [frame.width, frame.height, width, height];
+    if u64::from(width) * u64::from(height) > MAX_PIXELS
+        || sides.iter().any(|side| *side > MAX_SCALED_SIDE)
+    {
+        return Err(Stop::Refused(refusal::LIMIT));
+    }
+    bearable(width, height)?;
+    settle(oracle.apply_iscl(frame, iscl))
+}
+
+/// The picture that `operation` makes of `frame`.
+fn apply(oracle: &dyn Oracle, frame: &Frame, operation: &Operation) -> Want<Frame> {
+    match operation {
+        Operation::Crop(rectangle) => settle(oracle.crop(frame, rectangle)),
+        Operation::Clap(clap) => settle(oracle.apply_clap(frame, clap)),
+        Operation::Irot(angle) => settle(oracle.apply_irot(frame, *angle)),
+        Operation::Imir(axis) => settle(oracle.apply_imir(frame, *axis)),
+        Operation::Iscl(fields) => iscl(oracle, frame, fields),
+        Operation::Nearest(width, height) => {
+            bearable(*width, *height)?;
+            settle(oracle.resize_nearest(frame, *width, *height))
+        }
+        Operation::Depth(depth) => {
+            let depth = u8::try_from(*depth).map_err(|_| refusal::DEPTH)?;
+            settle(oracle.rescale_depth(frame, depth))
+        }
+    }
+}
+
+/// The record that a single operation writes.
+pub fn operation(oracle: &dyn Oracle, record: &[u8], operation: &Operation) -> Want<Vec<u8>> {
+    let frame = parse_record(record)?;
+    Ok(apply(oracle, &frame, operation)?.record())
+}
+
+/// The record that `attach_alpha` writes: the master's refusals, then the alpha's.
+pub fn attach(oracle: &dyn Oracle, master: &[u8], alpha: &[u8]) -> Want<Vec<u8>> {
+    let master = parse_record(master)?;
+    let alpha = parse_record(alpha)?;
+    Ok(settle(oracle.attach_alpha(&master, &alpha))?.record())
+}
+
+/// The three numbers of a fill, or 6.
+pub fn fill(
+    oracle: &dyn Oracle,
+    fill: [u16; 3],
+    depth: u32,
+    colour: Option<Colour>,
+) -> Want<[u16; 3]> {
+    if !(8..=16).contains(&depth) {
+        return Err(Stop::Refused(refusal::DEPTH));
+    }
+    settle(oracle.fill_to_ycbcr(fill, depth as u8, colour))
+}
+
+/// What both scene calls are handed.
+#[derive(Clone, Copy, Debug)]
+pub struct SceneParts<'a> {
+    pub body: &'a [u8],
+    pub tray: &'a [u8],
+    pub chain: &'a [u8],
+    pub essential_only: bool,
+}
+
+/// What a scene call writes.
+#[derive(Clone, Debug, PartialEq, Eq)]
+pub struct Scene {
+    pub record: Vec<u8>,
+    /// The longest of the composed and step records: output and spare must have it.
+    pub room: usize,
+}
+
+impl AsRef<[u8]> for Scene {
+    fn as_ref(&self) -> &[u8] {
+        &self.record
+    }
+}
+
+/// The applied entries of a chain in turn. The whole is held against `apply_transforms`.
+fn run_chain(
+    oracle: &dyn Oracle,
+    composed: Frame,
+    chain: &[Entry],
+    essential_only: bool,
+) -> Want<Scene> {
+    let mut frame = composed.clone();
+    let mut record = frame.record();
+    let mut room = record.len();
+    for entry in chain
+        .iter()
+        .filter(|entry| entry.essential || !essential_only)
+    {
+        let operation = match entry.property {
+            Property::Other => continue,
+            Property::Clap(clap) => Operation::Clap(clap),
+            Property::Irot(angle) => Operation::Irot(angle),
+            Property::Imir(axis) => Operation::Imir(axis),
+            Property::Iscl(fields) => Operation::Iscl(fields),
+        };
+        frame = apply(oracle, &frame, &operation)?;
+        record = frame.record();
+        room = room.max(record.len());
+    }
+    let whole = settle(oracle.apply_transforms(&composed, chain, essential_only))?;
+    if whole != frame {
+        return Err(Stop::Broke(
+            "apply_transforms departs from its steps".into(),
+        ));
+    }
+    Ok(Scene { record, room })
+}
+
+/// The grid scene: 5 tray count, the chain's form, the body, 11, the records, 12 to 14, then the
+/// entries in turn. 17 is the caller's to judge from the room.
+pub fn grid_scene(oracle: &dyn Oracle, parts: &SceneParts) -> Want<Scene> {
+    let count = tray_count(parts.tray)?;
+    let chain = parse_chain(parts.chain)?;
+    let grid = settle(oracle.parse_grid(parts.body))?;
+    if count as usize != grid.cells() {
+        return Err(Stop::Refused(refusal::COUNT));
+    }
+    let tiles = parse_tray(parts.tray)?;
+    bearable(grid.width, grid.height)?;
+    let composed = settle(oracle.composite_grid(&grid, &tiles))?;
+    run_chain(oracle, composed, &chain, parts.essential_only)
+}
+
+/// Whether any alpha sample of `frame` lies above top.
+fn alpha_above_top(frame: &Frame) -> bool {
+    frame.alpha != 0
+        && frame
+            .samples(frame.chroma.colour_planes())
+            .iter()
+            .any(|sample| *sample > frame.top())
+}
+
+/// The overlay scene: 5 tray count, the chain's form, the body with its offsets, 15, 11, the
+/// records, 14 and 16 over all inputs, then the entries in turn.
+pub fn overlay_scene(
+    oracle: &dyn Oracle,
+    parts: &SceneParts,
+    premultiplied: &[u8],
+    colour: Option<Colour>,
+) -> Want<Scene> {
+    let count = tray_count(parts.tray)? as usize;
+    let chain = parse_chain(parts.chain)?;
+    let overlay = settle(oracle.parse_overlay(parts.body, count))?;
+    if count == 0 {
+        return Err(Stop::Refused(refusal::MISSING));
+    }
+    if premultiplied.len() != count {
+        return Err(Stop::Refused(refusal::COUNT));
+    }
+    let inputs: Vec<OverlayInput> = parse_tray(parts.tray)?
+        .into_iter()
+        .zip(premultiplied)
+        .map(|(frame, byte)| OverlayInput {
+            frame,
+            premultiplied: *byte != 0,
+        })
+        .collect();
+    if inputs
+        .iter()
+        .any(|input| input.frame.depth != inputs[0].frame.depth)
+    {
+        return Err(Stop::Refused(refusal::FORM));
+    }
+    if inputs.iter().any(|input| alpha_above_top(&input.frame)) {
+        return Err(Stop::Refused(refusal::ALPHA));
+    }
+    bearable(overlay.width, overlay.height)?;
+    let composed = settle(oracle.composite_overlay(&overlay, &inputs, colour))?;
+    run_chain(oracle, composed, &chain, parts.essential_only)
+}
+
+/// One call of a canvas session.
+#[derive(Clone, Copy, Debug, PartialEq, Eq)]
+pub enum Call<'a> {
+    /// A cell and a record.
+    Place(u32, &'a [u8]),
+    Blank(u32),
+    Finish,
+}
+
+/// What one call of a session answers and leaves.
+#[derive(Clone, Debug, PartialEq, Eq)]
+pub struct Event {
+    /// The record's length from a finish, else 0.
+    pub answer: Want<usize>,
+    /// The lent buffer as far as it is written, once it is.
+    pub buffer: Option<Vec<u8>>,
+    /// The marks of the cells.
+    pub placed: Vec<bool>,
+}
+
+/// Places a tile or a blank: 11 first (after 15 for a blank), then the record, then 12 to 14.
+fn place(canvas: &mut dyn Canvas, grid: &Grid, call: &Call) -> Want<()> {
+    match call {
+        Call::Place(index, _) if *index as usize >= grid.cells() => {
+            Err(Stop::Refused(refusal::COUNT))
+        }
+        Call::Place(index, record) => {
+            let tile = parse_record(record)?;
+            settle(canvas.place(*index as usize, &tile))
+        }
+        Call::Blank(index) => settle(canvas.place_blank(*index as usize)),
+        Call::Finish => Ok(()),
+    }
+}
+
+/// What each call of a session answers and leaves. Finishing takes the oracle's session with it,
+/// so a finish is asked of another one that has had the same calls.
+pub fn session(oracle: &dyn Oracle, grid: &Grid, calls: &[Call]) -> Vec<Event> {
+    let mut canvas = oracle.canvas(grid);
+    let mut events = Vec::new();
+    for (at, call) in calls.iter().enumerate() {
+        let answer = if *call == Call::Finish {
+            let mut again = oracle.canvas(grid);
+            for earlier in &calls[..at] {
+                // Answered already, above.
+                let _ = place(&mut *again, grid, earlier);
+            }
+            settle(again.finish()).map(|picture| picture.record().len())
+        } else {
+            place(&mut *canvas, grid, call).map(|()| 0)
+        };
+        let state = canvas.state();
+        events.push(Event {
+            answer,
+            buffer: canvas_buffer(&state),
+            placed: state.placed,
+        });
+    }
+    events
+}
+
+/// What the session's lent buffer holds from the first accepted place on: the tight canvas record,
+/// and behind one without alpha the reserved alpha plane, its samples at top.
+pub fn canvas_buffer(state: &CanvasState) -> Option<Vec<u8>> {
+    let canvas = state.canvas.as_ref()?;
+    let mut buffer = canvas.record();
+    if canvas.alpha == 0 {
+        let row = canvas.width as usize * canvas.sample_bytes();
+        let length = row * canvas.height as usize;
+        push_number(&mut buffer, row as u32);
+        push_number(&mut buffer, length as u32);
+        let top = canvas.top().to_le_bytes();
+        buffer.extend(top[..canvas.sample_bytes()].iter().cycle().take(length));
+    }
+    Some(buffer)
+}

@@ -1,0 +1,12 @@
+//! The composer and the published Rust on the same bytes: seeded inputs, what document 01 wants of
+//! each call as the oracle works it out, and the comparisons themselves.
+
+pub mod compare;
+pub mod comparisons;
+pub mod damage;
+pub mod expected;
+pub mod generate;
+pub mod ours;
+pub mod refusals;
+pub mod rng;
+mod shrink;

@@ -1,0 +1,330 @@
+//! The composer's side of the comparisons: its calls on plain types, and what they are held to.
+
+use crate::expected::{Call, Event, Scene, SceneParts};
+use compose::sys;
+use model::refusal::ROOM;
+use model::{Colour, Grid, Layout, Operation, Overlay, Place, Refusal};
+use std::fmt::Debug;
+
+/// What a call answers, or the number it refuses with.
+pub type Answer<T> = Result<T, Refusal>;
+
+/// The composer's calls on plain types. One that it does not have yet says `None`, and is not
+/// compared. A call that is lent an output answers how much it wrote.
+pub trait Composer: Sync {
+    fn record(&self, _record: &[u8]) -> Option<Answer<Layout>> {
+        None
+    }
+
+    /// The count of a tray.
+    fn tray(&self, _tray: &[u8]) -> Option<Answer<u32>> {
+        None
+    }
+
+    fn grid_body(&self, _body: &[u8]) -> Option<Answer<Grid>> {
+        None
+    }
+
+    fn overlay_body(&self, _body: &[u8], _inputs: usize) -> Option<Answer<Overlay>> {
+        None
+    }
+
+    /// The three samples at the start of `_words`.
+    fn fill(
+        &self,
+        _: [u16; 3],
+        _depth: u32,
+        _: Option<Colour>,
+        _words: &mut [u16],
+    ) -> Option<Answer<u64>> {
+        None
+    }
+
+    fn operation(
+        &self,
+        _record: &[u8],
+        _: &Operation,
+        _output: &mut [u8],
+    ) -> Option<Answer<usize>> {
+        None
+    }
+
+    fn attach(&self, _master: &[u8], _alpha: &[u8], _output: &mut [u8]) -> Option<Answer<usize>> {
+        None
+    }
+
+    fn grid_scene(
+        &self,
+        _: &SceneParts,
+        _output: &mut [u8],
+        _spare: &mut [u8],
+    ) -> Option<Answer<usize>> {
+        None
+    }
+
+    fn overlay_scene(
+        &self,
+        _: &SceneParts,
+        _premultiplied: &[u8],
+        _: Option<Colour>,
+        _output: &mut [u8],
+        _spare: &mut [u8],
+    ) -> Option<Answer<usize>> {
+        None
+    }
+
+    /// What each call after a start with `_body` answers and leaves.
+    fn session(&self, _body: &[u8], _calls: &[Call]) -> Option<Vec<Event>> {
+        None
+    }
+}
+
+/// The linked library. A call that arrives gets a line in `compose/src/sys.rs`, a safe function in
+/// `compose`, and a method here; its comparison then has one side more.
+pub struct Linked;
+
+impl Composer for Linked {
+    fn record(&self, record: &[u8]) -> Option<Answer<Layout>> {
+        answer(compose::record::inspect(record).map(layout))
+    }
+
+    fn tray(&self, tray: &[u8]) -> Option<Answer<u32>> {
+        answer(compose::tray::count(tray))
+    }
+
+    fn fill(
+        &self,
+        [red, green, blue]: [u16; 3],
+        depth: u32,
+        colour: Option<Colour>,
+        words: &mut [u16],
+    ) -> Option<Answer<u64>> {
+        let (given, matrix, full_range) = colour_words(colour);
+        answer(sys::compose_fill(
+            red, green, blue, depth, given, matrix, full_range, words,
+        ))
+    }
+
+    fn operation(
+        &self,
+        record: &[u8],
+        operation: &Operation,
+        output: &mut [u8],
+    ) -> Option<Answer<usize>> {
+        let written = match *operation {
+            Operation::Crop(to) => {
+                sys::compose_crop(record, to.x, to.y, to.width, to.height, output)
+            }
+            Operation::Clap(clap) => {
+                let [width_n, width_d, height_n, height_d, x_n, x_d, y_n, y_d] = clap.fields();
+                sys::compose_clap(
+                    record, width_n, width_d, height_n, height_d, x_n, x_d, y_n, y_d, output,
+                )
+            }
+            Operation::Irot(angle) => sys::compose_irot(record, angle, output),
+            Operation::Imir(axis) => sys::compose_imir(record, axis, output),
+            Operation::Iscl(_) | Operation::Nearest(..) | Operation::Depth(_) => return None,
+        };
+        answer(written.map(|length| length as usize))
+    }
+}
+
+/// A colour description as the calls take it: 0 where there is none, matrix, range.
+fn colour_words(colour: Option<Colour>) -> (u8, u16, u8) {
+    colour.map_or((0, 0, 0), |colour| {
+        (1, colour.matrix, u8::from(colour.full_range))
+    })
+}
+
+/// An answer of the library, a refusal as its number.
+fn answer<T>(answer: Result<T, compose::Refusal>) -> Option<Answer<T>> {
+    Some(answer.map_err(compose::Refusal::number))
+}
+
+fn layout(info: compose::record::RecordInfo) -> Layout {
+    let [chroma, depth, alpha] = [info.chroma as u8, info.depth, info.alpha].map(u32::from);
+    Layout {
+        header: [info.width, info.height, chroma, depth, alpha],
+        places: info.planes.map(|plane| Place {
+            start: plane.start,
+            length: plane.len,
+            stride: plane.stride,
+        }),
+    }
+}
+
+/// How a call that only answers departs from `want`.
+pub fn answers<T: PartialEq + Debug>(want: &Answer<T>, ours: Option<Answer<T>>) -> Option<String> {
+    let ours = ours?;
+    (ours != *want).then(|| format!("the composer {ours:?}, wanted {want:?}"))
+}
+
+/// What stands in each byte of a lent buffer before the call.
+const BEFORE: u8 = 0xa5;
+
+/// Lends buffers of some lengths. `want` is the answer and what the buffers hold after it; a
+/// refusal leaves them as they were.
+fn lend<T: PartialEq + Clone + From<u8>, A: PartialEq + Debug, const N: usize>(
+    lengths: [usize; N],
+    want: Answer<(A, [Vec<T>; N])>,
+    call: impl Fn([&mut [T]; N]) -> Option<Answer<A>>,
+) -> Option<String> {
+    let before = lengths.map(|length| vec![T::from(BEFORE); length]);
+    let mut lent = before.clone();
+    let ours = call(lent.each_mut().map(Vec::as_mut_slice))?;
+    let (want, after) = match want {
+        Ok((length, after)) => (Ok(length), after),
+        Err(number) => (Err(number), before),
+    };
+    let departs = answers(&want, Some(ours));
+    let departs = departs.or_else(|| (lent != after).then(|| "other bytes are left".into()));
+    departs.map(|shows| format!("lent {lengths:?}: {shows}"))
+}
+
+/// How a call that fills the start of one buffer departs from `want`, which is what it answers and
+/// what it writes. It is lent more than it needs, just that, one less, and nothing: 17. What is
+/// past the part that it writes stays.
+fn fills_start<T: PartialEq + Clone + From<u8>, A: PartialEq + Debug + Clone>(
+    want: Answer<(A, Vec<T>)>,
+    call: impl Fn(&mut [T]) -> Option<Answer<A>>,
+) -> Option<String> {
+    let needed = want.as_ref().map_or(1, |(_, written)| written.len());
+    let lengths = [needed + 3, needed, needed - 1, 0];
+    lengths.into_iter().find_map(|length| {
+        let want = want.clone().and_then(|(answer, mut written)| {
+            if length < needed {
+                return Err(ROOM);
+            }
+            written.resize(length, T::from(BEFORE));
+            Ok((answer, [written]))
+        });
+        lend([length], want, |[output]| call(output))
+    })
+}
+
+/// How a single operation departs from `want`, the record to be written. It answers its length.
+pub fn writes(
+    want: &Answer<Vec<u8>>,
+    call: impl Fn(&mut [u8]) -> Option<Answer<usize>>,
+) -> Option<String> {
+    let want = want.clone().map(|record| (record.len(), record));
+    fills_start(want, call)
+}
+
+/// How a fill departs from `want`, its three samples. It answers 0.
+pub fn fills(
+    want: &Answer<[u16; 3]>,
+    call: impl Fn(&mut [u16]) -> Option<Answer<u64>>,
+) -> Option<String> {
+    let want = want.map(|samples| (0, samples.to_vec()));
+    fills_start(want, call)
+}
+
+/// How a scene call departs from `want`. Output and spare have more than they need, just that, or
+/// one of them a byte less: 17. What is past the record is zero, and so is the spare.
+pub fn composes(
+    want: &Answer<Scene>,
+    call: impl Fn(&mut [u8], &mut [u8]) -> Option<Answer<usize>>,
+) -> Option<String> {
+    let room = want.as_ref().map_or(1, |scene| scene.room);
+    let pairs = [[3, 5], [0, 0], [-1, 0], [0, -1]];
+    pairs.into_iter().find_map(|more| {
+        let lengths = more.map(|more| room.saturating_add_signed(more));
+        let want = want.clone().and_then(|Scene { mut record, .. }| {
+            if lengths.iter().any(|length| *length < room) {
+                return Err(ROOM);
+            }
+            let written = record.len();
+            record.resize(lengths[0], 0);
+            Ok((written, [record, vec![0; lengths[1]]]))
+        });
+        lend(lengths, want, |[output, spare]| call(output, spare))
+    })
+}
+
+#[cfg(test)]
+mod tests {
+    use super::{Answer, answers, composes, writes};
+    use crate::expected::Scene;
+
+    const RECORD: [u8; 3] = [1, 2, 3];
+
+    fn write(output: &mut [u8]) -> Option<Answer<usize>> {
+        output[..3].copy_from_slice(&RECORD);
+        Some(Ok(3))
+    }
+
+    #[test]
+    fn a_call_that_is_not_there_departs_from_nothing() {
+        assert_eq!(answers(&Ok(1), None), None);
+        assert_eq!(writes(&Ok(RECORD.to_vec()), |_| None), None);
+    }
+
+    #[test]
+    fn answers_are_held() {
+        assert_eq!(answers(&Ok(1), Some(Ok(1))), None);
+        for wrong in [Ok(2), Err(5)] {
+            assert!(answers(&Ok(1), Some(wrong)).is_some());
+            assert!(answers(&Err(4), Some(wrong)).is_some());
+        }
+    }
+
+    /// The right call and every wrong one that is made of three faults, by their bits.
+    fn each_call(departs: impl Fn([bool; 3]) -> Option<String>) {
+        for bits in 0..8 {
+            let departs = departs([1, 2, 4].map(|bit| bits & bit != 0));
+            assert_eq!(departs.is_none(), bits == 0, "{bits}: {departs:?}");
+        }
+    }
+
+    #[test]
+    fn writing_is_held() {
+        // Other bytes, bytes past the record, 17 too early.
+        each_call(|[other, past, early]| {
+            writes(&Ok(RECORD.to_vec()), |output| {
+                if output.len() < 3 + usize::from(early) {
+                    return Some(Err(17));
+                }
+                if past {
+                    output.fill(0);
+                }
+                let answer = write(output);
+                output[0] += u8::from(other);
+                answer
+            })
+        });
+        // A byte in front or at the end is written, another number.
+        each_call(|[front, end, other]| {
+            writes(&Err(5), |output| {
+                if let [first, .., last] = output {
+                    *first += u8::from(front);
+                    *last += u8::from(end);
+                }
+                Some(Err(5 + u8::from(other)))
+            })
+        });
+    }
+
+    #[test]
+    fn composing_is_held() {
+        let scene = Scene {
+            record: RECORD.to_vec(),
+            room: 5,
+        };
+        // A spare that is not looked at, or not cleared; an output that is not.
+        each_call(|[blind, spared, past]| {
+            composes(&Ok(scene.clone()), |output, spare| {
+                if output.len() < 5 || (spare.len() < 5 && !blind) {
+                    return Some(Err(17));
+                }
+                if !spared {
+                    spare.fill(0);
+                }
+                if !past {
+                    output.fill(0);
+                }
+                write(output)
+            })
+        });
+    }
+}

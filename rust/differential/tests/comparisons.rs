@@ -1,0 +1,225 @@
+//! Every comparison on a few hundred cases, and the frame that runs them.
+
+use differential::compare::{Comparison, Input, Sides, Verdict};
+use differential::comparisons::ALL;
+use differential::ours::{Answer, Composer, Linked};
+use model::{Colour, Layout, Operation, parse_record};
+
+#[test]
+fn every_comparison_agrees() {
+    let Some(sides) = Sides::open() else { return };
+    for comparison in ALL {
+        let report = comparison.run(&sides, 500, 3);
+        assert!(report.differences.is_empty(), "{report}");
+        assert!(report.accepted > 100, "{report}");
+    }
+}
+
+#[test]
+fn a_difference_is_made_small() {
+    let Some(sides) = Sides::open() else { return };
+    let comparison = Comparison {
+        name: "seven",
+        generate: |rng| {
+            Input::new()
+                .with_bytes("bytes", rng.bytes(40))
+                .with_numbers("numbers", vec![rng.within(-99..=99)])
+        },
+        judge: |_, input| match input.bytes("bytes").iter().any(|byte| *byte >= 7) {
+            true => Verdict::Different("a byte from 7 on".into()),
+            false => Verdict::Accepted,
+        },
+    };
+    let report = comparison.run(&sides, 1, 1);
+    assert_eq!(
+        report.to_string(),
+        "seven: 1 cases, 0 accepted, 0 refused, 1 differences\n  \
+         case 0: a byte from 7 on\n    bytes=07 numbers=[0]"
+    );
+}
+
+/// Judges every record malformed.
+struct Stern;
+
+impl Composer for Stern {
+    fn record(&self, _: &[u8]) -> Option<Answer<Layout>> {
+        Some(Err(5))
+    }
+}
+
+/// Puts a plane one byte too far, and takes a tray at its word.
+struct Lax;
+
+impl Composer for Lax {
+    fn record(&self, record: &[u8]) -> Option<Answer<Layout>> {
+        let mut answer = Linked.record(record)?;
+        if let Ok(layout) = &mut answer {
+            layout.places[3].start += 1;
+        }
+        Some(answer)
+    }
+
+    fn tray(&self, tray: &[u8]) -> Option<Answer<u32>> {
+        Some(model::tray_count(tray))
+    }
+}
+
+/// A wrong operation.
+type Writes = fn(&[u8], Operation, &mut [u8]) -> Option<Answer<usize>>;
+
+/// Writes by a function of its own.
+struct Writer(Writes);
+
+impl Composer for Writer {
+    fn operation(&self, record: &[u8], op: &Operation, out: &mut [u8]) -> Option<Answer<usize>> {
+        (self.0)(record, *op, out)
+    }
+}
+
+/// The right answer to another operation.
+fn other(record: &[u8], op: Operation, out: &mut [u8]) -> Option<Answer<usize>> {
+    Linked.operation(record, &op, out)
+}
+
+const CLOCKWISE: Writer = Writer(|record, op, out| match op {
+    Operation::Irot(angle) => other(record, Operation::Irot(4 - angle % 4), out),
+    _ => None,
+});
+
+/// A crop that shifts an odd edge instead of promoting.
+const SHIFTED: Writer = Writer(|record, op, out| match op {
+    Operation::Crop(mut to) => {
+        to.x &= !1;
+        other(record, Operation::Crop(to), out)
+    }
+    _ => None,
+});
+
+/// An aperture whose edge is rounded to a whole pixel.
+const ROUNDED: Writer = Writer(|record, op, out| match op {
+    Operation::Clap(mut clap) => {
+        if let Ok(frame) = parse_record(record)
+            && clap.resolve(frame.width, frame.height) == Err(8)
+        {
+            clap.horizontal_n = clap.horizontal_n.wrapping_add(1);
+        }
+        other(record, Operation::Clap(clap), out)
+    }
+    _ => None,
+});
+
+/// Odd 4:2:0 mirrored through promotion: a half turn, then the other mirror.
+const PROMOTED: Writer = Writer(|record, op, out| match op {
+    Operation::Imir(axis) => {
+        let mut turned = vec![0; 2 * record.len() + 64];
+        match other(record, Operation::Irot(2), &mut turned)? {
+            Ok(length) => other(&turned[..length], Operation::Imir(axis ^ 1), out),
+            refused => Some(refused),
+        }
+    }
+    _ => None,
+});
+
+/// 17 before any other refusal.
+const HASTY: Writer = Writer(|record, op, out| match out.len() {
+    0 => Some(Err(17)),
+    _ => other(record, op, out),
+});
+
+/// A byte past the record is written.
+const LONG: Writer = Writer(|record, op, out| {
+    let answer = other(record, op, out);
+    if let Some(Ok(length)) = answer
+        && let Some(past) = out.get_mut(length)
+    {
+        *past = 0;
+    }
+    answer
+});
+
+/// A refused call writes.
+const SMEARED: Writer = Writer(|record, op, out| {
+    let answer = other(record, op, out);
+    if let (Some(Err(_)), Some(first)) = (&answer, out.first_mut()) {
+        *first = 0;
+    }
+    answer
+});
+
+/// Wrong in the fill alone: another matrix, or the range flag disregarded.
+struct Painter(fn(Colour) -> Colour);
+
+impl Composer for Painter {
+    fn fill(
+        &self,
+        channels: [u16; 3],
+        depth: u32,
+        colour: Option<Colour>,
+        words: &mut [u16],
+    ) -> Option<Answer<u64>> {
+        Linked.fill(channels, depth, colour.map(self.0), words)
+    }
+}
+
+const RANGELESS: Painter = Painter(|colour| Colour {
+    full_range: true,
+    ..colour
+});
+
+const UNWEIGHTED: Painter = Painter(|colour| Colour {
+    matrix: if colour.matrix == 10 {
+        6
+    } else {
+        colour.matrix
+    },
+    ..colour
+});
+
+/// Writes a fourth sample.
+struct Spiller;
+
+impl Composer for Spiller {
+    fn fill(
+        &self,
+        channels: [u16; 3],
+        depth: u32,
+        colour: Option<Colour>,
+        words: &mut [u16],
+    ) -> Option<Answer<u64>> {
+        let answer = Linked.fill(channels, depth, colour, words);
+        if let Some(fourth) = words.get_mut(3) {
+            *fourth = 0;
+        }
+        answer
+    }
+}
+
+#[test]
+fn a_wrong_composer_is_found() {
+    let Some(sides) = Sides::open() else { return };
+    let wrong: [(&str, &'static dyn Composer, &[&str]); 12] = [
+        ("judges every record malformed", &Stern, &["record"]),
+        ("a plane too far, a tray's word", &Lax, &["record", "tray"]),
+        ("turns clockwise", &CLOCKWISE, &["irot"]),
+        ("shifts instead of promoting", &SHIFTED, &["crop"]),
+        ("rounds an edge", &ROUNDED, &["clap"]),
+        ("mirrors through promotion", &PROMOTED, &["imir"]),
+        ("17 too early", &HASTY, &["crop", "clap", "irot", "imir"]),
+        ("writes too far", &LONG, &["crop", "clap", "irot", "imir"]),
+        (
+            "writes and refuses",
+            &SMEARED,
+            &["crop", "clap", "irot", "imir"],
+        ),
+        ("full range always", &RANGELESS, &["fill"]),
+        ("other weights", &UNWEIGHTED, &["fill"]),
+        ("fills too far", &Spiller, &["fill"]),
+    ];
+    for (what, ours, names) in wrong {
+        for name in names {
+            let comparison = ALL.iter().find(|known| known.name == *name).expect(name);
+            let wrong = Sides { ours, ..sides };
+            assert!(comparison.finds(&wrong, 500, 1), "{name}: {what}");
+        }
+    }
+}

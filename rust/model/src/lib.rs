@@ -1,0 +1,31 @@
+//! Document 01 as plain Rust: house numbers, frame records, trays and chains, with the refusals of
+//! its "Record" paragraph and of a chain's form; the operations on one record, and fill colours.
+//! All of it is written from the paper and shares nothing with the composer or with the published
+//! Rust, so that both can be held against it.
+//!
+//! It also names the calls of the published Rust on these plain types ([`Oracle`]). The crates
+//! `oracle` and `oracle-checked` are two builds of one source; both answer in the types of this
+//! crate, so a comparison can use either.
+
+mod chain;
+mod fill;
+mod number;
+mod operation;
+mod oracle;
+mod outcome;
+mod record;
+pub mod refusal;
+
+pub use chain::{Clap, Entry, Iscl, MAX_ENTRIES, Property, chain_bytes, parse_chain};
+pub use fill::fill_samples;
+pub use number::{Reader, number_bytes, push_number};
+pub use operation::Operation;
+pub use oracle::{
+    Canvas, CanvasState, Colour, Grid, Oracle, Overlay, OverlayInput, Rectangle, TileForm, Work,
+};
+pub use outcome::{Outcome, attempt};
+pub use record::{
+    Chroma, Frame, Layout, Place, Plane, parse_record, parse_tray, parse_untested, tray_bytes,
+    tray_count, untested_tray,
+};
+pub use refusal::Refusal;

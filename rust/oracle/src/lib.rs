@@ -1,0 +1,31 @@
+//! The published Rust (the crate oxideav-heif, MIT), compiled unchanged, behind [`model::Oracle`].
+//!
+//! The source is not part of this repository: `build.rs` says where it is looked for. Where it is
+//! absent this crate still builds, [`PRESENT`] is false and [`open`] answers `None`.
+//!
+//! The package `oracle-checked` is this source again, built with overflow checks.
+
+use model::Oracle;
+
+#[cfg(source_present)]
+include!(concat!(env!("OUT_DIR"), "/modules.rs"));
+
+#[cfg(source_present)]
+mod calls;
+#[cfg(source_present)]
+mod session;
+#[cfg(source_present)]
+mod stubs;
+#[cfg(source_present)]
+use stubs::{avcc, file, hvcc, meta, pixel_transform, vvcc};
+
+/// Whether the published Rust was there when this crate was built.
+pub const PRESENT: bool = cfg!(source_present);
+
+/// The published Rust, where it is present.
+pub fn open() -> Option<&'static dyn Oracle> {
+    #[cfg(source_present)]
+    return Some(&calls::Published);
+    #[cfg(not(source_present))]
+    None
+}
