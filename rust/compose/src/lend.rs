@@ -1,4 +1,4 @@
-//! Lending an output to a call that writes a record.
+//! Lending an output to a call that writes bytes, and taking the words that one answers.
 
 use crate::{Refusal, Result};
 
@@ -21,6 +21,11 @@ pub(crate) fn written(room: usize, call: impl Fn(&mut [u8]) -> Result<u64>) -> R
         }
         room *= 2;
     }
+}
+
+/// A word in its own type. The call's contract keeps it in range.
+pub(crate) fn narrow<T: TryFrom<u64>>(word: u64) -> T {
+    T::try_from(word).unwrap_or_else(|_| panic!("the library answered the word {word}"))
 }
 
 #[cfg(test)]

@@ -7,8 +7,8 @@
 //! # In place of oxideav-heif
 //!
 //! Functions and types have oxideav-heif's names and shapes; a program changes its `use` lines.
-//! Its functions of `compose` stand at the top here, its modules [`image`], [`props`] and [`error`]
-//! where they were.
+//! Its functions of `compose` stand at the top here, its modules [`derived`], [`image`], [`props`]
+//! and [`error`] where they were.
 //!
 //! ```
 //! use compose::image::{Chroma, HeifFrame, HeifPixelFormat, Plane};
@@ -25,7 +25,8 @@
 //! # On records
 //!
 //! The calls work on records, and so can a program: [`record`] says what one holds, [`operation`]
-//! makes another of it, [`tray`] counts several.
+//! makes another of it, [`tray`] counts several, [`chain`] reads what is to be done to one, and
+//! [`steps`] says what sizes that gives.
 //!
 //! ```
 //! let bytes = [2, 1, 0, 8, 0, 2, 2, 10, 20];
@@ -38,8 +39,10 @@
 //! # Ok::<(), compose::Refusal>(())
 //! ```
 
+pub mod chain;
 #[cfg(test)]
 mod declared;
+pub mod derived;
 pub mod error;
 pub mod fill;
 #[cfg(test)]
@@ -50,10 +53,12 @@ pub mod operation;
 pub mod props;
 pub mod record;
 mod refusal;
+pub mod steps;
 pub mod sys;
 pub mod transform;
 pub mod tray;
 
+pub use derived::{GridDescriptor, OverlayDescriptor};
 pub use fill::fill_to_ycbcr;
 pub use image::{Chroma, HeifFrame, HeifPixelFormat, Plane};
 pub use refusal::Refusal;

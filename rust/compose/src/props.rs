@@ -1,6 +1,8 @@
 //! Properties that move or describe a picture, with the names and shapes of oxideav-heif's module
 //! `props`.
 
+use crate::{Result, sys};
+
 /// A clean aperture (`clap`, ISO/IEC 14496-12): a size and the offset of its centre, as fractions.
 #[derive(Clone, Copy, Debug, PartialEq, Eq)]
 #[non_exhaustive]
@@ -46,6 +48,45 @@ impl Clap {
             vert_off_n,
             vert_off_d,
         }
+    }
+
+    /// The rectangle that stays of a picture of the given size. Refusals, the width axis wholly
+    /// before the height: 7 a zero denominator, 8 a size that is not whole, 9 one of 0 or above the
+    /// picture's, 8 an edge that is not whole, 9 one outside.
+    ///
+    /// ```
+    /// use compose::props::{Clap, CropRect};
+    ///
+    /// // 63 of 64 about a centre that lies half a pixel to the right.
+    /// let clap = Clap::new(63, 1, 48, 1, 1, 2, 0, 1);
+    /// let rect = CropRect { x: 1, y: 0, width: 63, height: 48 };
+    /// assert_eq!(clap.resolve(64, 48), Ok(rect));
+    /// // About the middle itself they have no whole edge.
+    /// let refusal = Clap::integer(63, 48, 0, 0).resolve(64, 48).unwrap_err();
+    /// assert_eq!((refusal.number(), refusal.name()), (8, "fraction"));
+    /// ```
+    pub fn resolve(&self, width: u32, height: u32) -> Result<CropRect> {
+        let mut words = [0; 4];
+        sys::compose_clap_resolve(
+            self.width_n,
+            self.width_d,
+            self.height_n,
+            self.height_d,
+            self.horiz_off_n.cast_unsigned(),
+            self.horiz_off_d,
+            self.vert_off_n.cast_unsigned(),
+            self.vert_off_d,
+            width,
+            height,
+            &mut words,
+        )?;
+        let [x, y, width, height] = words;
+        Ok(CropRect {
+            x,
+            y,
+            width,
+            height,
+        })
     }
 
     /// An aperture of whole numbers.
@@ -113,6 +154,113 @@ impl Imir {
     /// A mirror about an axis.
     pub fn new(axis: u8) -> Self {
         Self { axis }
+    }
+}
+
+/// A scaling (`iscl`): two ratios.
+#[derive(Clone, Copy, Debug, PartialEq, Eq)]
+#[non_exhaustive]
+pub struct Iscl {
+    /// The width ratio's numerator.
+    pub width_num: u16,
+    /// The width ratio's denominator.
+    pub width_den: u16,
+    /// The height ratio's numerator.
+    pub height_num: u16,
+    /// The height ratio's denominator.
+    pub height_den: u16,
+}
+
+impl Iscl {
+    /// A scaling of its four fields.
+    pub fn new(width_num: u16, width_den: u16, height_num: u16, height_den: u16) -> Self {
+        Self {
+            width_num,
+            width_den,
+            height_num,
+            height_den,
+        }
+    }
+
+    /// The size that it makes of a size, each side rounded up. Refusals: 7 a zero; 10 a side above
+    /// 2^32 − 1; and where the size changes 4 above 2^30 pixels, or a side above 2^26 before or
+    /// after.
+    ///
+    /// ```
+    /// use compose::{Refusal, props::Iscl};
+    ///
+    /// assert_eq!(Iscl::new(1, 2, 2, 3).output_size(5, 5), Ok((3, 4)));
+    /// assert_eq!(Iscl::new(1, 2, 0, 3).output_size(5, 5), Err(Refusal::ZERO));
+    /// ```
+    pub fn output_size(&self, width: u32, height: u32) -> Result<(u32, u32)> {
+        let mut words = [0; 2];
+        sys::compose_iscl_size(
+            self.width_num,
+            self.width_den,
+            self.height_num,
+            self.height_den,
+            width,
+            height,
+            &mut words,
+        )?;
+        let [width, height] = words;
+        Ok((width, height))
+    }
+}
+
+/// One property of a picture, as far as a chain tells them apart.
+#[derive(Clone, Copy, Debug, PartialEq, Eq)]
+#[non_exhaustive]
+pub enum Property {
+    /// Any other, which is skipped.
+    Other,
+    /// A clean aperture.
+    Clap(Clap),
+    /// A rotation.
+    Irot(Irot),
+    /// A mirror.
+    Imir(Imir),
+    /// A scaling.
+    Iscl(Iscl),
+}
+
+impl Property {
+    /// Its kind in a chain, 0 to 4.
+    pub fn kind(&self) -> u32 {
+        match self {
+            Self::Other => 0,
+            Self::Clap(_) => 1,
+            Self::Irot(_) => 2,
+            Self::Imir(_) => 3,
+            Self::Iscl(_) => 4,
+        }
+    }
+
+    /// Whether it moves a picture: every kind but 0.
+    pub fn is_transformative(&self) -> bool {
+        *self != Self::Other
+    }
+}
+
+/// One property of a picture, and whether a reader must honour it.
+#[derive(Clone, Copy, Debug, PartialEq, Eq)]
+pub struct PropertyEntry {
+    /// Its number in the file that it came from. Chains have none.
+    pub index: u16,
+    /// Whether it is essential.
+    pub essential: bool,
+    /// The property.
+    pub property: Property,
+}
+
+impl PropertyEntry {
+    /// An entry of its three fields.
+    pub fn new(index: u16, essential: bool, property: Property) -> Self {
+        Self {
+            index,
+            essential,
+            property,
+        }
     }
 }
 

@@ -1,6 +1,7 @@
 //! Frame records (document 01, "What is handed in").
 
 use crate::image::Chroma;
+use crate::lend::narrow;
 use crate::{Result, sys};
 
 /// Where a plane's bytes stand in its record. A plane that the picture has not has no bytes.
@@ -29,11 +30,6 @@ pub struct RecordInfo {
     pub alpha: u8,
     /// Luma, Cb, Cr and alpha.
     pub planes: [PlaneInfo; 4],
-}
-
-/// A word in its own type. The call's contract keeps it in range.
-fn narrow<T: TryFrom<u64>>(word: u64) -> T {
-    T::try_from(word).unwrap_or_else(|_| panic!("the library answered the word {word}"))
 }
 
 impl RecordInfo {

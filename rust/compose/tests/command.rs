@@ -1,7 +1,10 @@
 //! The command `compose`: what it prints, what it writes, and how it ends.
 
 use compose::operation::{crop, imir, irot};
-use compose::{Chroma, HeifFrame, HeifPixelFormat, Refusal, record, tray};
+use compose::props::{Clap, Imir, Irot, Iscl, Property, PropertyEntry};
+use compose::{
+    Chroma, HeifFrame, HeifPixelFormat, OverlayDescriptor, Refusal, chain, record, tray,
+};
 use std::fs;
 use std::io::Write;
 use std::path::PathBuf;
@@ -90,8 +93,22 @@ fn complaint(output: &Output) -> String {
     String::from_utf8_lossy(&output.stderr).into_owned()
 }
 
-const COMMANDS: [&str; 11] = [
-    "demo", "view", "record", "tray", "example", "pack", "fill", "crop", "clap", "irot", "imir",
+const COMMANDS: [&str; 15] = [
+    "demo",
+    "view",
+    "record",
+    "tray",
+    "descriptor",
+    "chain",
+    "example",
+    "pack",
+    "fill",
+    "resolve",
+    "steps",
+    "crop",
+    "clap",
+    "irot",
+    "imir",
 ];
 
 #[test]
@@ -244,6 +261,114 @@ fn fills_are_printed() {
 }
 
 #[test]
+fn descriptors_are_shown() {
+    let folder = Folder::new("descriptors");
+    folder.put("grid", &[0, 0, 0, 1, 0, 4, 0, 2]);
+    assert_eq!(
+        folder.done("descriptor grid grid"),
+        "4 × 2, rows 1, columns 2\n"
+    );
+    let overlay = OverlayDescriptor::new([65_535, 0, 1, 2], 70_000, 2, vec![(-1, 0), (7, -70_000)]);
+    folder.put("overlay", &overlay.to_bytes());
+    assert_eq!(
+        folder.done("descriptor overlay overlay 2"),
+        "70000 × 2, fill 65535 0 1, alpha 2, 2 inputs\n    0  -1 0\n    1  7 -70000\n"
+    );
+    for (words, beginning) in [
+        ("overlay overlay 3", "refused 1 (short): "),
+        ("overlay overlay 65537", "refused 4 (limit): "),
+        ("overlay grid 0", "refused 1 (short): "),
+    ] {
+        let beginning = format!("compose descriptor: {beginning}");
+        folder.fails(&format!("descriptor {words}"), 2, &beginning);
+    }
+}
+
+#[test]
+fn chains_are_shown() {
+    let folder = Folder::new("chains");
+    let clap = Property::Clap(Clap::new(62, 1, 48, 2, -1, 2, 0, 1));
+    let entries = [
+        Property::Other,
+        clap,
+        Property::Irot(Irot::new(255)),
+        Property::Imir(Imir::new(1)),
+        Property::Iscl(Iscl::new(1, 2, 65_535, 3)),
+    ];
+    let entries = entries.map(|property| PropertyEntry::new(0, property == clap, property));
+    folder.put("chain", &chain::join(&entries).expect("a chain"));
+    assert_eq!(
+        folder.done("chain chain"),
+        "5 entries\n    0  other\n    1  clap 62 1 48 2 -1 2 0 1, essential\n    \
+         2  irot 255\n    3  imir 1\n    4  iscl 1 2 65535 3\n"
+    );
+    folder.put("long", &[0x81, 2]);
+    folder.fails("chain long", 2, "compose chain: refused 4 (limit): ");
+    folder.put("cut", &[1, 2, 0]);
+    folder.fails("chain cut", 2, "compose chain: refused 5 (malformed): ");
+}
+
+#[test]
+fn sizes_are_worked_out() {
+    let folder = Folder::new("sizes");
+    for (words, numbers) in [
+        ("clap 64 48 62 1 48 1 0 1 0 1", "1 0 62 48\n"),
+        ("clap 64 48 63 1 48 1 -1 2 0 1", "0 0 63 48\n"),
+        (
+            "clap 4294967295 1 4294967295 1 1 1 0 1 0 1",
+            "0 0 4294967295 1\n",
+        ),
+        ("iscl 5 5 1 2 2 3", "3 4\n"),
+    ] {
+        assert_eq!(folder.done(&format!("resolve {words}")), numbers);
+    }
+    for (words, beginning) in [
+        ("clap 64 48 63 1 48 1 0 1 0 1", "refused 8 (fraction): "),
+        ("clap 64 48 64 1 48 1 1 1 0 1", "refused 9 (outside): "),
+        ("iscl 5 5 1 2 0 3", "refused 7 (zero): "),
+        ("iscl 65536 1 65535 1 65535 1", "refused 4 (limit): "),
+        ("iscl 4294967295 1 2 1 1 1", "refused 10 (scale): "),
+    ] {
+        let beginning = format!("compose resolve: {beginning}");
+        folder.fails(&format!("resolve {words}"), 2, &beginning);
+    }
+}
+
+/// What the program prints is printed, refused or not; the status says which.
+#[test]
+fn steps_are_printed() {
+    let folder = Folder::new("steps");
+    for (input, text, beginning) in [
+        (
+            &[6, 4, 2, 2, 1, 1, 3, 0, 1][..],
+            "step kind width height\n0 2 4 6\n1 3 4 6\n",
+            None,
+        ),
+        (&[6, 4, 0], "step kind width height\n", None),
+        (
+            &[6, 4, 1, 4, 0, 0, 1, 1, 1],
+            "step kind width height\n0 4 refused 7\n",
+            Some("compose steps: refused 7 (zero): "),
+        ),
+        (
+            &[0, 4, 0],
+            "refused 3\n",
+            Some("compose steps: refused 3 (empty): "),
+        ),
+    ] {
+        let output = folder.run_with("steps -", input);
+        assert_eq!(String::from_utf8_lossy(&output.stdout), text);
+        match beginning {
+            None => assert_eq!((status(&output), complaint(&output)), (0, String::new())),
+            Some(beginning) => {
+                assert_eq!(status(&output), 2);
+                assert!(complaint(&output).starts_with(beginning));
+            }
+        }
+    }
+}
+
+#[test]
 fn what_is_refused_writes_nothing() {
     let folder = Folder::with_picture("refused");
     let record = folder.get("a.rec");
@@ -310,6 +435,40 @@ fn wrong_words_write_nothing() {
             "compose: imir: more is a word too many",
         ),
         ("fill 1 2", "compose: fill: BLUE is missing"),
+        (
+            "descriptor",
+            "compose: descriptor: grid or overlay is missing",
+        ),
+        (
+            "descriptor iden a.rec",
+            "compose: descriptor: it takes grid or overlay, not iden",
+        ),
+        (
+            "descriptor overlay a.rec",
+            "compose: descriptor: COUNT is missing",
+        ),
+        (
+            "descriptor grid a.rec 2",
+            "compose: descriptor: 2 is a word too many",
+        ),
+        ("chain", "compose: chain: CHAIN is missing"),
+        ("resolve", "compose: resolve: clap or iscl is missing"),
+        (
+            "resolve irot 1 1 1",
+            "compose: resolve: it takes clap or iscl, not irot",
+        ),
+        (
+            "resolve iscl 5 5 1 2 65536 3",
+            "compose: resolve: HN is a number from 0 to 65535, not 65536",
+        ),
+        (
+            "resolve clap 5 5 1 2 1 3 2147483648",
+            "compose: resolve: XN is a number from -2147483648 to 2147483647, not 2147483648",
+        ),
+        (
+            "steps a.rec more",
+            "compose: steps: more is a word too many",
+        ),
         ("fill 1 2 3 --depth", "compose: fill: --depth takes a word"),
         ("fill 1 2 65536", "compose: fill: BLUE is a number from 0 "),
         (

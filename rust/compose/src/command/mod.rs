@@ -2,9 +2,11 @@
 
 mod colour;
 mod demo;
+mod descriptor;
 mod files;
 mod fill;
 mod operation;
+mod properties;
 mod records;
 mod view;
 mod words;
@@ -35,11 +37,22 @@ struct Family {
 const FAMILIES: &[Family] = &[
     Family {
         title: "Look",
-        commands: &[demo::DEMO, view::VIEW, records::RECORD, records::TRAY],
+        commands: &[
+            demo::DEMO,
+            view::VIEW,
+            records::RECORD,
+            records::TRAY,
+            descriptor::DESCRIPTOR,
+            properties::CHAIN,
+        ],
     },
     Family {
         title: "Make",
         commands: &[records::EXAMPLE, records::PACK, fill::FILL],
+    },
+    Family {
+        title: "Work out sizes",
+        commands: &[properties::RESOLVE, properties::STEPS],
     },
     Family {
         title: "Change one record",

@@ -4,7 +4,6 @@ use super::files::{about, read, write};
 use super::words::Words;
 use super::{Command, Failure};
 use compose::operation::{clap, crop, imir, irot};
-use compose::props::Clap;
 use compose::{HeifFrame, Result as Answer};
 
 pub const CROP: Command = Command {
@@ -69,10 +68,7 @@ fn run_crop(words: &mut Words) -> Result<(), Failure> {
 
 fn run_clap(words: &mut Words) -> Result<(), Failure> {
     let file = words.next("RECORD")?;
-    let [width_n, width_d, height_n, height_d] = words.numbers(["WN", "WD", "HN", "HD"])?;
-    let (x_n, x_d) = (words.number("XN")?, words.number("XD")?);
-    let (y_n, y_d) = (words.number("YN")?, words.number("YD")?);
-    let aperture = Clap::new(width_n, width_d, height_n, height_d, x_n, x_d, y_n, y_d);
+    let aperture = words.clap()?;
     apply(words, &file, |record| clap(record, &aperture))
 }
 

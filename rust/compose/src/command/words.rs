@@ -2,6 +2,7 @@
 
 use super::Failure;
 use compose::Refusal;
+use compose::props::Clap;
 use std::fmt::Display;
 use std::str::FromStr;
 
@@ -88,6 +89,16 @@ impl Words {
         }
         let numbers = numbers.try_into().ok();
         Ok(numbers.expect("a number for each name"))
+    }
+
+    /// The next eight words as an aperture.
+    pub fn clap(&mut self) -> Result<Clap, Failure> {
+        let [width_n, width_d, height_n, height_d] = self.numbers(["WN", "WD", "HN", "HD"])?;
+        let (x_n, x_d) = (self.number("XN")?, self.number("XD")?);
+        let (y_n, y_d) = (self.number("YN")?, self.number("YD")?);
+        Ok(Clap::new(
+            width_n, width_d, height_n, height_d, x_n, x_d, y_n, y_d,
+        ))
     }
 
     /// Whether the option stands among the words. It is taken out.

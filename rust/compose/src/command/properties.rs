@@ -1,0 +1,136 @@
+//! Chains, and the sizes that properties give.
+
+use super::files::{read, say};
+use super::words::Words;
+use super::{Command, Failure};
+use compose::props::{Clap, Iscl, Property, PropertyEntry};
+use compose::{chain, steps};
+
+pub const CHAIN: Command = Command {
+    name: "chain",
+    takes: "CHAIN",
+    about: "what a chain of properties holds",
+    more: "\
+Prints how many entries there are, then a line an entry: its index, its property with the fields as
+`compose resolve` takes them, and whether it is essential.
+  printf '\\2\\2\\1\\1\\3\\0\\1' | compose chain -
+",
+    run: run_chain,
+};
+
+pub const RESOLVE: Command = Command {
+    name: "resolve",
+    takes: "clap|iscl WIDTH HEIGHT FIELD..",
+    about: "what a property makes of a size",
+    more: "\
+Of a picture of that size, for
+  clap WN WD HN HD XN XD YN YD   it prints x, y, width and height of the part that stays;
+  iscl WN WD HN HD               it prints the width and the height that the picture is scaled to.
+The fields are fractions: width, height, and how far the part's centre lies to the right of the
+picture's and below it (XN and YN may be negative).
+  compose resolve clap 64 48 62 1 48 1 0 1 0 1     1 0 62 48
+  compose resolve iscl 5 5 1 2 2 3                 3 4
+",
+    run: run_resolve,
+};
+
+pub const STEPS: Command = Command {
+    name: "steps",
+    takes: "INPUT",
+    about: "the size after each entry of a chain",
+    more: "\
+INPUT is a width, a height and a chain. Prints what the program steps does: a heading, then a line an
+entry with its index, its kind and the size after it. A refused entry ends the text, and input that
+is refused has only that; the text is printed all the same, and the exit status is 2.
+  printf '\\6\\4\\2\\2\\1\\1\\3\\0\\1' | compose steps -
+",
+    run: run_steps,
+};
+
+/// A property's name and fields.
+fn about(property: &Property) -> String {
+    match property {
+        Property::Clap(clap) => {
+            let Clap {
+                width_n,
+                width_d,
+                height_n,
+                height_d,
+                ..
+            } = clap;
+            let (x_n, x_d) = (clap.horiz_off_n, clap.horiz_off_d);
+            let (y_n, y_d) = (clap.vert_off_n, clap.vert_off_d);
+            format!("clap {width_n} {width_d} {height_n} {height_d} {x_n} {x_d} {y_n} {y_d}")
+        }
+        Property::Irot(irot) => format!("irot {}", irot.angle),
+        Property::Imir(imir) => format!("imir {}", imir.axis),
+        Property::Iscl(iscl) => {
+            let Iscl {
+                width_num,
+                width_den,
+                height_num,
+                height_den,
+                ..
+            } = iscl;
+            format!("iscl {width_num} {width_den} {height_num} {height_den}")
+        }
+        _ => "other".into(),
+    }
+}
+
+fn run_chain(words: &mut Words) -> Result<(), Failure> {
+    let file = words.next("CHAIN")?;
+    words.end()?;
+    let entries = chain::entries(&read(&file)?).map_err(|refusal| words.refused(refusal))?;
+    let mut text = format!("{} entries\n", entries.len());
+    for (index, entry) in entries.iter().enumerate() {
+        let PropertyEntry {
+            essential,
+            property,
+            ..
+        } = entry;
+        let essential = if *essential { ", essential" } else { "" };
+        text += &format!("{index:>5}  {}{essential}\n", about(property));
+    }
+    say(&text)
+}
+
+fn run_resolve(words: &mut Words) -> Result<(), Failure> {
+    let property = words.next("clap or iscl")?;
+    let numbers = match property.as_str() {
+        "clap" => resolve_clap(words)?,
+        "iscl" => resolve_iscl(words)?,
+        _ => return Err(words.wrong(format!("it takes clap or iscl, not {property}"))),
+    };
+    let numbers: Vec<String> = numbers.iter().map(u32::to_string).collect();
+    say(&format!("{}\n", numbers.join(" ")))
+}
+
+fn resolve_clap(words: &mut Words) -> Result<Vec<u32>, Failure> {
+    let [width, height] = words.numbers(["WIDTH", "HEIGHT"])?;
+    let aperture = words.clap()?;
+    words.end()?;
+    let rect = aperture.resolve(width, height);
+    let rect = rect.map_err(|refusal| words.refused(refusal))?;
+    Ok(vec![rect.x, rect.y, rect.width, rect.height])
+}
+
+fn resolve_iscl(words: &mut Words) -> Result<Vec<u32>, Failure> {
+    let [width, height] = words.numbers(["WIDTH", "HEIGHT"])?;
+    let [width_n, width_d, height_n, height_d] = words.numbers(["WN", "WD", "HN", "HD"])?;
+    words.end()?;
+    let size = Iscl::new(width_n, width_d, height_n, height_d).output_size(width, height);
+    let (width, height) = size.map_err(|refusal| words.refused(refusal))?;
+    Ok(vec![width, height])
+}
+
+fn run_steps(words: &mut Words) -> Result<(), Failure> {
+    let file = words.next("INPUT")?;
+    words.end()?;
+    let text = steps::text(&read(&file)?);
+    say(&text)?;
+    match steps::refusal(&text) {
+        Some(refusal) => Err(words.refused(refusal)),
+        None => Ok(()),
+    }
+}

@@ -1,0 +1,161 @@
+//! Descriptors of derived images, with the names and shapes of oxideav-heif's module `derived`.
+//!
+//! ```
+//! use compose::derived::{GridDescriptor, OverlayDescriptor};
+//!
+//! // One row of two tiles, 4 × 2.
+//! let grid = GridDescriptor::parse(&[0, 0, 0, 1, 0, 4, 0, 2])?;
+//! assert_eq!(grid, GridDescriptor::new(1, 2, 4, 2));
+//!
+//! // A white canvas of 4 × 2, and an input whose corner lies one column left of it.
+//! let overlay = OverlayDescriptor::new([65_535; 4], 4, 2, vec![(-1, 0)]);
+//! assert_eq!(OverlayDescriptor::parse(&overlay.to_bytes(), 1)?, overlay);
+//!
+//! let refusal = OverlayDescriptor::parse(&overlay.to_bytes(), 2).unwrap_err();
+//! assert_eq!((refusal.number(), refusal.name()), (1, "short"));
+//! # Ok::<(), compose::Refusal>(())
+//! ```
+
+use crate::lend::narrow;
+use crate::{Result, sys};
+
+/// An offset of its two parts, of which one is 0.
+fn signed(ahead: u64, behind: u64) -> i32 {
+    let (ahead, behind): (u32, u32) = (narrow(ahead), narrow(behind));
+    ahead.wrapping_sub(behind).cast_signed()
+}
+
+/// A size or an offset of 32 bits or 16.
+fn push_field(body: &mut Vec<u8>, large: bool, field: u32) {
+    let bytes = field.to_be_bytes();
+    body.extend_from_slice(if large { &bytes } else { &bytes[2..] });
+}
+
+/// A grid's descriptor (ISO/IEC 23008-12, 6.6.2.3.2).
+#[derive(Clone, Copy, Debug, PartialEq, Eq)]
+#[non_exhaustive]
+pub struct GridDescriptor {
+    /// Rows of tiles, 1 to 256.
+    pub rows: u16,
+    /// Columns of tiles, 1 to 256.
+    pub columns: u16,
+    /// The canvas's width.
+    pub output_width: u32,
+    /// The canvas's height.
+    pub output_height: u32,
+}
+
+impl GridDescriptor {
+    /// A descriptor of its four fields.
+    pub fn new(rows: u16, columns: u16, output_width: u32, output_height: u32) -> Self {
+        Self {
+            rows,
+            columns,
+            output_width,
+            output_height,
+        }
+    }
+
+    /// The descriptor of a body. Refusals: 1 empty, 2 a version other than 0, 1 short, 3 a side 0,
+    /// 4 above 2^30 pixels.
+    pub fn parse(body: &[u8]) -> Result<Self> {
+        let mut words = [0; 4];
+        sys::compose_grid_descriptor(body, &mut words)?;
+        let [rows, columns, width, height] = words;
+        Ok(Self {
+            rows: narrow(rows),
+            columns: narrow(columns),
+            output_width: narrow(width),
+            output_height: narrow(height),
+        })
+    }
+
+    /// How many tiles it takes.
+    pub fn tile_count(&self) -> usize {
+        usize::from(self.rows) * usize::from(self.columns)
+    }
+
+    /// The body, with sizes of 16 bits where they fit. Rows and columns are cut to 1 to 256.
+    pub fn to_bytes(&self) -> Vec<u8> {
+        let large = self.output_width > 0xffff || self.output_height > 0xffff;
+        let less = |tiles: u16| tiles.wrapping_sub(1) as u8;
+        let mut body = vec![0, u8::from(large), less(self.rows), less(self.columns)];
+        for side in [self.output_width, self.output_height] {
+            push_field(&mut body, large, side);
+        }
+        body
+    }
+}
+
+/// An overlay's descriptor (ISO/IEC 23008-12, 6.6.2.2.2).
+#[derive(Clone, Debug, PartialEq, Eq)]
+#[non_exhaustive]
+pub struct OverlayDescriptor {
+    /// The canvas's red, green, blue and alpha, of 16 bits each.
+    pub canvas_fill: [u16; 4],
+    /// The canvas's width.
+    pub output_width: u32,
+    /// The canvas's height.
+    pub output_height: u32,
+    /// How far right of and below the canvas's corner each input's lies.
+    pub offsets: Vec<(i32, i32)>,
+}
+
+impl OverlayDescriptor {
+    /// A descriptor of its four fields.
+    pub fn new(
+        canvas_fill: [u16; 4],
+        output_width: u32,
+        output_height: u32,
+        offsets: Vec<(i32, i32)>,
+    ) -> Self {
+        Self {
+            canvas_fill,
+            output_width,
+            output_height,
+            offsets,
+        }
+    }
+
+    /// The descriptor of a body that places so many inputs. Refusals: 1 empty, 2 a version other
+    /// than 0, 1 short, 3 a side 0, 4 above 2^30 pixels, 4 above 65,536 inputs, 1 offsets short.
+    pub fn parse(body: &[u8], reference_count: usize) -> Result<Self> {
+        // More than a u32 holds are too many as well.
+        let count = u32::try_from(reference_count).unwrap_or(u32::MAX);
+        let mut words = [0; 6];
+        sys::compose_overlay_descriptor(body, count, &mut words)?;
+        let [fill @ .., width, height] = words;
+        let offset = |index| {
+            let mut words = [0; 4];
+            sys::compose_overlay_offset(body, count, index, &mut words)?;
+            let [right, left, below, above] = words;
+            Ok((signed(right, left), signed(below, above)))
+        };
+        Ok(Self {
+            canvas_fill: fill.map(narrow),
+            output_width: narrow(width),
+            output_height: narrow(height),
+            offsets: (0..count).map(offset).collect::<Result<_>>()?,
+        })
+    }
+
+    /// The body, with sizes and offsets of 16 bits where all fit.
+    pub fn to_bytes(&self) -> Vec<u8> {
+        let long = |offset: i32| i16::try_from(offset).is_err();
+        let large = self.output_width > 0xffff
+            || self.output_height > 0xffff
+            || self.offsets.iter().any(|(x, y)| long(*x) || long(*y));
+        let mut body = vec![0, u8::from(large)];
+        for channel in self.canvas_fill {
+            body.extend_from_slice(&channel.to_be_bytes());
+        }
+        for side in [self.output_width, self.output_height] {
+            push_field(&mut body, large, side);
+        }
+        for (x, y) in &self.offsets {
+            push_field(&mut body, large, x.cast_unsigned());
+            push_field(&mut body, large, y.cast_unsigned());
+        }
+        body
+    }
+}
