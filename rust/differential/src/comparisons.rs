@@ -7,8 +7,9 @@ use crate::generate;
 use crate::ours::{self, Answer};
 use crate::rng::Rng;
 use model::{
-    Clap, Colour, Entry, Frame, Iscl, Operation, Outcome, Property, Reader, Rectangle, chain_bytes,
-    fill_samples, number_bytes, parse_record, parse_tray, tray_bytes,
+    Clap, Colour, Entry, Frame, Grid, Iscl, Operation, Outcome, Overlay, Property, Reader,
+    Rectangle, chain_bytes, fill_samples, number_bytes, parse_chain, parse_grid, parse_overlay,
+    parse_record, parse_steps, parse_tray, steps_text, tray_bytes,
 };
 use std::fmt::Debug;
 
@@ -30,9 +31,34 @@ pub const ALL: &[Comparison] = &[
         judge: tray,
     },
     Comparison {
-        name: "descriptor",
-        generate: descriptor_input,
-        judge: descriptor,
+        name: "grid-descriptor",
+        generate: |rng| descriptor_input(rng, false),
+        judge: grid_descriptor,
+    },
+    Comparison {
+        name: "overlay-descriptor",
+        generate: |rng| descriptor_input(rng, true),
+        judge: overlay_descriptor,
+    },
+    Comparison {
+        name: "chain",
+        generate: chain_input,
+        judge: chain,
+    },
+    Comparison {
+        name: "clap-resolve",
+        generate: clap_resolve_input,
+        judge: clap_resolve,
+    },
+    Comparison {
+        name: "iscl-size",
+        generate: iscl_size_input,
+        judge: iscl_size,
+    },
+    Comparison {
+        name: "steps",
+        generate: steps_input,
+        judge: steps,
     },
     Comparison {
         name: "crop",
@@ -210,44 +236,236 @@ fn tray(sides: &Sides, input: &Input) -> Verdict {
     })
 }
 
-/// A body of either sort: valid, loosened, with known faults or damaged, and a number of inputs.
-fn descriptor_input(rng: &mut Rng) -> Input {
-    let overlay = rng.flag();
+/// A body whose fields are any: small, at the edges of their bits, or far beyond. An overlay's has
+/// the offsets of `inputs`.
+fn wide_body(rng: &mut Rng, overlay: bool, inputs: usize) -> Vec<u8> {
+    let size = generate::wide_size(rng);
+    if overlay {
+        let channels = [0; 4].map(|_: u16| rng.word() as u16);
+        let offset = |rng: &mut Rng| generate::border(rng).cast_signed();
+        let overlay = Overlay {
+            fill: channels,
+            width: size.0,
+            height: size.1,
+            offsets: (0..inputs).map(|_| (offset(rng), offset(rng))).collect(),
+        };
+        return generate::overlay_body(&overlay, rng.flag());
+    }
+    let grid = Grid {
+        rows: rng.number(1..=256) as u16,
+        columns: rng.number(1..=256) as u16,
+        width: size.0,
+        height: size.1,
+    };
+    generate::grid_body(&grid, rng.flag())
+}
+
+/// A body: valid, loosened, with known faults or damaged, and the inputs that an overlay's is read
+/// for, now and then not those that it has.
+fn descriptor_input(rng: &mut Rng, overlay: bool) -> Input {
     let mut inputs = 0;
     let mut body;
-    if rng.once_in(3) {
-        let faults = damage::some_faults(rng, |fault: BodyFault| overlay || fault.in_grid());
-        (body, inputs) = damage::faulty_body(rng, &faults, overlay);
-    } else if overlay {
-        let scene = generate::overlay_scene(rng).0;
-        inputs = scene.offsets.len();
-        body = generate::overlay_body(&scene, rng.flag());
-    } else {
-        body = generate::grid_body(&generate::grid_scene(rng).0, rng.flag());
+    match rng.below(4) {
+        0 => {
+            let faults = damage::some_faults(rng, |fault: BodyFault| overlay || fault.in_grid());
+            (body, inputs) = damage::faulty_body(rng, &faults, overlay);
+        }
+        1 if overlay => {
+            let scene = generate::overlay_scene(rng).0;
+            inputs = scene.offsets.len();
+            body = generate::overlay_body(&scene, rng.flag());
+        }
+        1 => body = generate::grid_body(&generate::grid_scene(rng).0, rng.flag()),
+        _ => {
+            inputs = match rng.below(50) {
+                0 => rng.below(400),
+                _ => rng.below(6),
+            };
+            body = wide_body(rng, overlay, inputs);
+        }
     }
     generate::loosen_body(rng, &mut body);
     if rng.once_in(8) {
         damage::damage(rng, &mut body);
     }
-    Input::new()
-        .with_bytes("body", body)
-        .with_numbers("overlay", vec![i64::from(overlay)])
-        .with_numbers("inputs", vec![inputs as i64])
+    let input = Input::new().with_bytes("body", body);
+    if !overlay {
+        return input;
+    }
+    let inputs = match rng.below(24) {
+        0 => inputs + 1,
+        1 => rng.pick(&[0, 65_535, 65_536, 65_537, u32::MAX as usize]),
+        _ => inputs,
+    };
+    input.with_numbers("inputs", vec![inputs as i64])
 }
 
-fn descriptor(sides: &Sides, input: &Input) -> Verdict {
+fn grid_descriptor(sides: &Sides, input: &Input) -> Verdict {
     let body = input.bytes("body");
-    let inputs = input.numbers("inputs")[0] as usize;
-    if input.flag("overlay") {
-        let wants = sides.wants(|build| expected::settle(build.parse_overlay(body, inputs)));
-        agree(wants, |want| {
-            ours::answers(want, sides.ours.overlay_body(body, inputs))
-        })
+    let wants = sides.wants(|build| expected::settle(build.parse_grid(body)));
+    agree(wants, |want| {
+        let words = want.map(|grid| {
+            let tiles = [grid.rows, grid.columns].map(u64::from);
+            let canvas = [grid.width, grid.height].map(u64::from);
+            [tiles[0], tiles[1], canvas[0], canvas[1]]
+        });
+        let call = |lent: &mut [u64]| sides.ours.grid_descriptor(body, lent);
+        model_answers(want, &parse_grid(body)).or_else(|| ours::fills(&words, call))
+    })
+}
+
+/// How far ahead and how far behind an offset goes.
+fn split(offset: i32) -> [u64; 2] {
+    let far = u64::from(offset.unsigned_abs());
+    if offset < 0 { [0, far] } else { [far, 0] }
+}
+
+/// The descriptor, then each input's offset, then one index past them and the last there is.
+fn overlay_descriptor(sides: &Sides, input: &Input) -> Verdict {
+    let body = input.bytes("body");
+    let inputs = input.numbers("inputs")[0] as u32;
+    let wants = sides.wants(|build| expected::settle(build.parse_overlay(body, inputs as usize)));
+    agree(wants, |want| {
+        let read = want.as_ref();
+        let words = read.map(|overlay| {
+            let [red, green, blue, alpha] = overlay.fill.map(u64::from);
+            let [width, height] = [overlay.width, overlay.height].map(u64::from);
+            [red, green, blue, alpha, width, height]
+        });
+        let words = words.map_err(|number| *number);
+        let call = |lent: &mut [u64]| sides.ours.overlay_descriptor(body, inputs, lent);
+        let offset = |index: u32| {
+            let words = read.map_err(|number| *number).and_then(|overlay| {
+                let (across, down) = overlay
+                    .offsets
+                    .get(index as usize)
+                    .ok_or(model::refusal::COUNT)?;
+                let ([right, left], [below, above]) = (split(*across), split(*down));
+                Ok([right, left, below, above])
+            });
+            let call = |lent: &mut [u64]| sides.ours.overlay_offset(body, inputs, index, lent);
+            ours::fills(&words, call).map(|shows| format!("offset {index}: {shows}"))
+        };
+        let placed = read.map_or(0, |overlay| overlay.offsets.len() as u32);
+        model_answers(want, &parse_overlay(body, inputs as usize))
+            .or_else(|| ours::fills(&words, call))
+            .or_else(|| (0..placed).chain([inputs, u32::MAX]).find_map(offset))
+    })
+}
+
+fn chain_input(rng: &mut Rng) -> Input {
+    Input::new().with_bytes("chain", damage::any_chain(rng))
+}
+
+/// The composer's count against the model's reading, which is written back to the same bytes. The
+/// published Rust has no chains of bytes; `steps` holds what it makes of their entries.
+fn chain(sides: &Sides, input: &Input) -> Verdict {
+    let bytes = input.bytes("chain");
+    let read = parse_chain(bytes);
+    let count = read.as_ref().map(|entries| entries.len() as u32);
+    let count = count.map_err(|number| *number);
+    let departs = ours::answers(&count, sides.ours.chain(bytes)).or_else(|| {
+        let other = read.as_ref().is_ok_and(|read| chain_bytes(read) != bytes);
+        other.then(|| "the model writes it back to other bytes".into())
+    });
+    match (departs, read) {
+        (Some(shows), _) => Verdict::Different(shows),
+        (None, Ok(_)) => Verdict::Accepted,
+        (None, Err(number)) => Verdict::Refused(number),
+    }
+}
+
+/// A size of any sides.
+fn size_input(rng: &mut Rng) -> (u32, u32) {
+    (generate::border(rng), generate::border(rng))
+}
+
+fn with_size(input: Input, (width, height): (u32, u32)) -> Input {
+    input.with_numbers("size", vec![i64::from(width), i64::from(height)])
+}
+
+fn size_of(input: &Input) -> (u32, u32) {
+    let side = |at: usize| input.numbers("size")[at] as u32;
+    (side(0), side(1))
+}
+
+fn clap_resolve_input(rng: &mut Rng) -> Input {
+    let size = size_input(rng);
+    let fields = generate::wide_clap(rng, size).fields();
+    let input = Input::new().with_numbers("fields", fields.map(i64::from).to_vec());
+    with_size(input, size)
+}
+
+fn clap_resolve(sides: &Sides, input: &Input) -> Verdict {
+    let field = |at: usize| input.numbers("fields")[at] as u32;
+    let (clap, size) = (
+        Clap::from_fields(std::array::from_fn(field)),
+        size_of(input),
+    );
+    let wants = sides.wants(|build| expected::settle(build.resolve_clap(&clap, size.0, size.1)));
+    agree(wants, |want| {
+        let words = want.map(|stays| [stays.x, stays.y, stays.width, stays.height]);
+        let call = |lent: &mut [u32]| sides.ours.clap_resolve(&clap, size, lent);
+        model_answers(want, &clap.resolve(size.0, size.1)).or_else(|| ours::fills(&words, call))
+    })
+}
+
+fn iscl_size_input(rng: &mut Rng) -> Input {
+    let size = if rng.flag() {
+        generate::wide_size(rng)
     } else {
-        let wants = sides.wants(|build| expected::settle(build.parse_grid(body)));
-        agree(wants, |want| {
-            ours::answers(want, sides.ours.grid_body(body))
-        })
+        size_input(rng)
+    };
+    let iscl = if rng.flag() {
+        generate::iscl(rng)
+    } else {
+        generate::wide_iscl(rng)
+    };
+    let input = Input::new().with_numbers("fields", iscl.fields().map(i64::from).to_vec());
+    with_size(input, size)
+}
+
+fn iscl_size(sides: &Sides, input: &Input) -> Verdict {
+    let field = |at: usize| input.numbers("fields")[at] as u16;
+    let (iscl, size) = (
+        Iscl::from_fields(std::array::from_fn(field)),
+        size_of(input),
+    );
+    let wants = sides.wants(|build| expected::iscl_size(build, &iscl, size));
+    agree(wants, |want| {
+        let words = want.map(|(width, height)| [width, height]);
+        let call = |lent: &mut [u32]| sides.ours.iscl_size(&iscl, size, lent);
+        model_answers(want, &iscl.output_size(size.0, size.1)).or_else(|| ours::fills(&words, call))
+    })
+}
+
+/// A size and a chain that follows it; now and then damaged, with a chain of faults or of any sort.
+fn steps_input(rng: &mut Rng) -> Input {
+    let size = generate::wide_size(rng);
+    let mut bytes = [number_bytes(size.0), number_bytes(size.1)].concat();
+    bytes.extend(match rng.below(8) {
+        0 => damage::any_chain(rng),
+        _ => chain_bytes(&generate::wide_chain(rng, size)),
+    });
+    if rng.once_in(16) {
+        damage::damage(rng, &mut bytes);
+    }
+    Input::new().with_bytes("input", bytes)
+}
+
+/// The text of the oracle's sizes, of the model's, and the composer's. Input counts as refused where
+/// the text is a refusal and no more.
+fn steps(sides: &Sides, input: &Input) -> Verdict {
+    let bytes = input.bytes("input");
+    let wants = sides.wants(|build| expected::steps(build, bytes));
+    let verdict = agree(wants, |want| {
+        let model = steps_text(bytes, |entry, size| Ok(entry.size_after(size)));
+        let call = |output: &mut [u8]| sides.ours.steps(bytes, output);
+        model_answers(want, &model.map(String::into_bytes)).or_else(|| ours::writes(want, call))
+    });
+    match (verdict, parse_steps(bytes)) {
+        (Verdict::Accepted, Err(number)) => Verdict::Refused(number),
+        (verdict, _) => verdict,
     }
 }
 

@@ -3,7 +3,9 @@
 
 use crate::generate;
 use crate::rng::Rng;
-use model::{Clap, Entry, Frame, Iscl, MAX_ENTRIES, Property, Refusal, number_bytes, refusal};
+use model::{
+    Clap, Entry, Frame, Iscl, MAX_ENTRIES, Property, Refusal, chain_bytes, number_bytes, refusal,
+};
 use std::ops::Range;
 
 /// Values at each length boundary of a house number.
@@ -399,6 +401,28 @@ pub fn faulty_chain(rng: &mut Rng, faults: &[ChainFault]) -> Vec<u8> {
         fault.apply(rng, &starts, &mut draft);
     }
     draft.bytes()
+}
+
+/// A chain of any sort: of entries with any fields, with known faults, or damaged blindly.
+pub fn any_chain(rng: &mut Rng) -> Vec<u8> {
+    match rng.below(6) {
+        0 => {
+            let faults = some_faults(rng, |_| true);
+            faulty_chain(rng, &faults)
+        }
+        1 => {
+            let (entries, _) = one_of_each(rng);
+            chain_bytes(&entries)
+        }
+        sort => {
+            let size = generate::wide_size(rng);
+            let mut bytes = chain_bytes(&generate::wide_chain(rng, size));
+            if sort == 2 {
+                damage(rng, &mut bytes);
+            }
+            bytes
+        }
+    }
 }
 
 /// Faults of a descriptor body, in document 01's order. The last two are an overlay's alone.

@@ -4,9 +4,10 @@
 use crate::refusals;
 use model::{
     Canvas, CanvasState, Colour, Entry, Frame, Grid, Iscl, Operation, Oracle, Outcome,
-    OverlayInput, Property, Refusal, parse_chain, parse_record, parse_tray, parse_untested,
-    push_number, refusal, tray_count, untested_tray,
+    OverlayInput, Property, Refusal, Size, parse_chain, parse_record, parse_steps, parse_tray,
+    parse_untested, push_number, refusal, steps_text, tray_count, untested_tray,
 };
+use std::cell::Cell;
 
 /// Why a call wrote nothing.
 #[derive(Clone, Debug, PartialEq, Eq)]
@@ -73,19 +74,65 @@ pub fn tray(oracle: &dyn Oracle, bytes: &[u8]) -> Want<Vec<Frame>> {
     Ok(frames)
 }
 
-fn iscl(oracle: &dyn Oracle, frame: &Frame, iscl: &Iscl) -> Want<Frame> {
-    let (width, height) = settle(oracle.iscl_size(iscl, frame.width, frame.height))?;
-    if (width, height) == (frame.width, frame.height) {
-        return Ok(frame.clone());
-    }
-    let sides = [frame.width, frame.height, width, height];
-    if u64::from(width) * u64::from(height) > MAX_PIXELS
-        || sides.iter().any(|side| *side > MAX_SCALED_SIDE)
-    {
+/// A size that an iscl made of another: 4, only where it changes, above L or where a side before or
+/// after exceeds 2^26.
+fn scaled(before: Size, after: Size) -> Want<Size> {
+    let sides = [before.0, before.1, after.0, after.1];
+    let above = u64::from(after.0) * u64::from(after.1) > MAX_PIXELS
+        || sides.iter().any(|side| *side > MAX_SCALED_SIDE);
+    if before != after && above {
         return Err(Stop::Refused(refusal::LIMIT));
+    }
+    Ok(after)
+}
+
+/// The size that an iscl makes of a size.
+pub fn iscl_size(oracle: &dyn Oracle, iscl: &Iscl, before: Size) -> Want<Size> {
+    scaled(before, settle(oracle.iscl_size(iscl, before.0, before.1))?)
+}
+
+fn iscl(oracle: &dyn Oracle, frame: &Frame, iscl: &Iscl) -> Want<Frame> {
+    let before = (frame.width, frame.height);
+    let (width, height) = iscl_size(oracle, iscl, before)?;
+    if (width, height) == before {
+        return Ok(frame.clone());
     }
     bearable(width, height)?;
     settle(oracle.apply_iscl(frame, iscl))
+}
+
+/// The size after one entry by `ItemProperties::output_size`, which lacks iscl's 4.
+fn size_after(oracle: &dyn Oracle, entry: &Entry, before: Size) -> Want<Size> {
+    let after = settle(oracle.chain_size(&[*entry], before, false))?;
+    match entry.property {
+        Property::Iscl(_) => scaled(before, after),
+        _ => Ok(after),
+    }
+}
+
+/// The text that the steps program prints. The sizes of a whole chain that has no 4 are held against
+/// `ItemProperties::output_size`.
+pub fn steps(oracle: &dyn Oracle, input: &[u8]) -> Want<Vec<u8>> {
+    let last = Cell::new(None);
+    let text = steps_text(input, |entry, before| {
+        let after = match size_after(oracle, entry, before) {
+            Ok(size) => Ok(size),
+            Err(Stop::Refused(number)) => Err(number),
+            Err(other) => return Err(other),
+        };
+        last.set(Some(after));
+        Ok(after)
+    })?;
+    if let Ok((size, chain)) = parse_steps(input)
+        && let Some(last) = last.get()
+        && last != Err(refusal::LIMIT)
+    {
+        let whole = settle(oracle.chain_size(&chain, size, false));
+        if whole != last.map_err(Stop::Refused) {
+            return Err(Stop::Broke("output_size departs from its steps".into()));
+        }
+    }
+    Ok(text.into_bytes())
 }
 
 /// The picture that `operation` makes of `frame`.

@@ -3,7 +3,7 @@
 
 use crate::rng::Rng;
 use model::{
-    Chroma, Clap, Colour, Entry, Frame, Grid, Iscl, Overlay, OverlayInput, Plane, Property,
+    Chroma, Clap, Colour, Entry, Frame, Grid, Iscl, Overlay, OverlayInput, Plane, Property, Size,
 };
 
 /// A frame's chroma, depth and alpha number.
@@ -19,6 +19,19 @@ pub fn form(rng: &mut Rng) -> Form {
         chroma: rng.pick(&Chroma::ALL),
         depth: rng.pick(&[8, 8, 8, 9, 10, 11, 12, 13, 14, 15, 16]),
         alpha: rng.number(0..=1) as u8,
+    }
+}
+
+/// A number at the edge of some count of bits, small, or any of 32 bits.
+pub fn border(rng: &mut Rng) -> u32 {
+    match rng.below(8) {
+        0 | 1 => rng.number(0..=20),
+        2 => rng.word() as u32,
+        3 => rng.word() as u32 >> rng.below(32),
+        _ => {
+            let power = 1i64 << rng.pick(&[0, 8, 15, 16, 26, 30, 31, 32, 32]);
+            (power + rng.within(-2..=2)).clamp(0, i64::from(u32::MAX)) as u32
+        }
     }
 }
 
@@ -307,6 +320,112 @@ pub fn clap(rng: &mut Rng, (width, height): (u32, u32)) -> Clap {
         };
     }
     Clap::from_fields(fields)
+}
+
+/// One axis of an aperture in an input of any side: n, d, offset n as its pattern, offset d. Of
+/// four, three keep some whole pixels; the fourth, or one that cannot, is of any numbers.
+fn wide_aperture(rng: &mut Rng, input: u32) -> [u32; 4] {
+    if input == 0 || rng.once_in(4) {
+        let below = |rng: &mut Rng| if rng.flag() { 1 } else { border(rng) };
+        return [border(rng), below(rng), border(rng), below(rng)];
+    }
+    let size = match rng.below(3) {
+        0 => input,
+        1 => rng.number(1..=input),
+        _ => border(rng).clamp(1, input),
+    };
+    let scale = border(rng).clamp(1, u32::MAX / size);
+    let gap = i64::from(input - size);
+    // Twice the offset of an edge that lies within 2^30 of the middle.
+    let edge = (gap / 2 + rng.within(-(1 << 30) + 1..=(1 << 30) - 1)).clamp(0, gap);
+    let twice = 2 * edge - gap;
+    let most = match twice {
+        0 => (1 << 31) - 1,
+        _ => i64::from(i32::MAX) / twice.abs(),
+    };
+    let times = i64::from(border(rng)).clamp(1, most);
+    [
+        size * scale,
+        scale,
+        (twice * times) as i32 as u32,
+        2 * times as u32,
+    ]
+}
+
+/// An aperture of an input of any size; once in four one of its fields is another.
+pub fn wide_clap(rng: &mut Rng, (width, height): Size) -> Clap {
+    let [width_n, width_d, x_n, x_d] = wide_aperture(rng, width);
+    let [height_n, height_d, y_n, y_d] = wide_aperture(rng, height);
+    let mut fields = [width_n, width_d, height_n, height_d, x_n, x_d, y_n, y_d];
+    if rng.once_in(4) {
+        let field = &mut fields[rng.below(8)];
+        *field = match rng.below(4) {
+            0 => 0,
+            1 => field.wrapping_sub(1),
+            2 => field.wrapping_add(1),
+            _ => border(rng),
+        };
+    }
+    Clap::from_fields(fields)
+}
+
+/// An iscl of any fields: small ratios, equal terms, and terms at the ends of 16 bits.
+pub fn wide_iscl(rng: &mut Rng) -> Iscl {
+    let ratio = |rng: &mut Rng| match rng.below(4) {
+        0 => [rng.number(1..=9), rng.number(1..=9)],
+        1 => [rng.number(1..=65_535); 2],
+        _ => [border(rng) % 65_536, border(rng) % 65_536],
+    };
+    let ([width_n, width_d], [height_n, height_d]) = (ratio(rng), ratio(rng));
+    Iscl::from_fields([width_n, width_d, height_n, height_d].map(|term| term as u16))
+}
+
+/// A picture's size of any area; now and then above the limit, or of a side 0.
+pub fn wide_size(rng: &mut Rng) -> Size {
+    match rng.below(6) {
+        0 => (border(rng), border(rng)),
+        1 | 2 => (side(rng), side(rng)),
+        _ => {
+            let width = border(rng).clamp(1, 1 << 30);
+            // The longest that the limit leaves, or less.
+            let most = (1 << 30) / width;
+            let height = if rng.flag() {
+                most
+            } else {
+                border(rng).clamp(1, most)
+            };
+            if rng.flag() {
+                (width, height)
+            } else {
+                (height, width)
+            }
+        }
+    }
+}
+
+/// A chain of any length for a picture of any size; its entries follow the size as it changes.
+pub fn wide_chain(rng: &mut Rng, size: Size) -> Vec<Entry> {
+    let mut size = size;
+    let count = match rng.below(40) {
+        0 => rng.pick(&[255, 256, 257]),
+        1 => rng.number(9..=40),
+        _ => rng.number(0..=8),
+    };
+    (0..count)
+        .map(|_| {
+            let property = match rng.below(6) {
+                0 => Property::Other,
+                1 => Property::Clap(wide_clap(rng, size)),
+                2 => Property::Irot(turn(rng, 3)),
+                3 => Property::Imir(turn(rng, 1)),
+                4 => Property::Iscl(iscl(rng)),
+                _ => Property::Iscl(wide_iscl(rng)),
+            };
+            let entry = Entry::new(rng.flag(), property);
+            size = entry.size_after(size).unwrap_or(size);
+            entry
+        })
+        .collect()
 }
 
 /// An iscl that keeps small sizes small; once in eight a field is 0, large or off by one.

@@ -3,7 +3,7 @@
 use crate::expected::{Call, Event, Scene, SceneParts};
 use compose::sys;
 use model::refusal::ROOM;
-use model::{Colour, Grid, Layout, Operation, Overlay, Place, Refusal};
+use model::{Clap, Colour, Iscl, Layout, Operation, Place, Refusal, Size};
 use std::fmt::Debug;
 
 /// What a call answers, or the number it refuses with.
@@ -21,11 +21,48 @@ pub trait Composer: Sync {
         None
     }
 
-    fn grid_body(&self, _body: &[u8]) -> Option<Answer<Grid>> {
+    /// Rows, columns, width and height at the start of `_words`.
+    fn grid_descriptor(&self, _body: &[u8], _words: &mut [u64]) -> Option<Answer<u64>> {
         None
     }
 
-    fn overlay_body(&self, _body: &[u8], _inputs: usize) -> Option<Answer<Overlay>> {
+    /// The fill's red, green, blue and alpha, width and height at the start of `_words`.
+    fn overlay_descriptor(
+        &self,
+        _body: &[u8],
+        _count: u32,
+        _words: &mut [u64],
+    ) -> Option<Answer<u64>> {
+        None
+    }
+
+    /// How far right, left, below and above an input goes, at the start of `_words`.
+    fn overlay_offset(
+        &self,
+        _body: &[u8],
+        _count: u32,
+        _index: u32,
+        _words: &mut [u64],
+    ) -> Option<Answer<u64>> {
+        None
+    }
+
+    /// The count of a chain.
+    fn chain(&self, _chain: &[u8]) -> Option<Answer<u32>> {
+        None
+    }
+
+    /// X, y, width and height at the start of `_words`.
+    fn clap_resolve(&self, _: &Clap, _: Size, _words: &mut [u32]) -> Option<Answer<u64>> {
+        None
+    }
+
+    /// Width and height at the start of `_words`.
+    fn iscl_size(&self, _: &Iscl, _: Size, _words: &mut [u32]) -> Option<Answer<u64>> {
+        None
+    }
+
+    fn steps(&self, _input: &[u8], _output: &mut [u8]) -> Option<Answer<usize>> {
         None
     }
 
@@ -90,6 +127,52 @@ impl Composer for Linked {
 
     fn tray(&self, tray: &[u8]) -> Option<Answer<u32>> {
         answer(compose::tray::count(tray))
+    }
+
+    fn grid_descriptor(&self, body: &[u8], words: &mut [u64]) -> Option<Answer<u64>> {
+        answer(sys::compose_grid_descriptor(body, words))
+    }
+
+    fn overlay_descriptor(
+        &self,
+        body: &[u8],
+        count: u32,
+        words: &mut [u64],
+    ) -> Option<Answer<u64>> {
+        answer(sys::compose_overlay_descriptor(body, count, words))
+    }
+
+    fn overlay_offset(
+        &self,
+        body: &[u8],
+        count: u32,
+        index: u32,
+        words: &mut [u64],
+    ) -> Option<Answer<u64>> {
+        answer(sys::compose_overlay_offset(body, count, index, words))
+    }
+
+    fn chain(&self, chain: &[u8]) -> Option<Answer<u32>> {
+        answer(compose::chain::count(chain))
+    }
+
+    fn clap_resolve(&self, clap: &Clap, size: Size, words: &mut [u32]) -> Option<Answer<u64>> {
+        let [width_n, width_d, height_n, height_d, x_n, x_d, y_n, y_d] = clap.fields();
+        answer(sys::compose_clap_resolve(
+            width_n, width_d, height_n, height_d, x_n, x_d, y_n, y_d, size.0, size.1, words,
+        ))
+    }
+
+    fn iscl_size(&self, iscl: &Iscl, size: Size, words: &mut [u32]) -> Option<Answer<u64>> {
+        let [width_n, width_d, height_n, height_d] = iscl.fields();
+        answer(sys::compose_iscl_size(
+            width_n, width_d, height_n, height_d, size.0, size.1, words,
+        ))
+    }
+
+    fn steps(&self, input: &[u8], output: &mut [u8]) -> Option<Answer<usize>> {
+        let written = sys::compose_steps(input, output);
+        answer(written.map(|length| length as usize))
     }
 
     fn fill(
@@ -211,13 +294,13 @@ pub fn writes(
     fills_start(want, call)
 }
 
-/// How a fill departs from `want`, its three samples. It answers 0.
-pub fn fills(
-    want: &Answer<[u16; 3]>,
-    call: impl Fn(&mut [u16]) -> Option<Answer<u64>>,
+/// How a call departs from `want`, the words that it puts at the start. It answers 0.
+pub fn fills<T: PartialEq + Clone + From<u8>, const N: usize>(
+    want: &Answer<[T; N]>,
+    call: impl Fn(&mut [T]) -> Option<Answer<u64>>,
 ) -> Option<String> {
-    let want = want.map(|samples| (0, samples.to_vec()));
-    fills_start(want, call)
+    let want = want.as_ref().map(|words| (0, words.to_vec()));
+    fills_start(want.map_err(|number| *number), call)
 }
 
 /// How a scene call departs from `want`. Output and spare have more than they need, just that, or

@@ -3,7 +3,7 @@
 use differential::compare::{Comparison, Input, Sides, Verdict};
 use differential::comparisons::ALL;
 use differential::ours::{Answer, Composer, Linked};
-use model::{Colour, Layout, Operation, parse_record};
+use model::{Clap, Colour, Iscl, Layout, Operation, Size, parse_record};
 
 #[test]
 fn every_comparison_agrees() {
@@ -194,10 +194,112 @@ impl Composer for Spiller {
     }
 }
 
+/// Wrong in what it reads of descriptors and chains.
+struct Reader;
+
+impl Composer for Reader {
+    /// Rows and columns exchanged.
+    fn grid_descriptor(&self, body: &[u8], words: &mut [u64]) -> Option<Answer<u64>> {
+        let answer = Linked.grid_descriptor(body, words);
+        if answer == Some(Ok(0)) {
+            words.swap(0, 1);
+        }
+        answer
+    }
+
+    /// Blue put where alpha belongs.
+    fn overlay_descriptor(
+        &self,
+        body: &[u8],
+        count: u32,
+        words: &mut [u64],
+    ) -> Option<Answer<u64>> {
+        let answer = Linked.overlay_descriptor(body, count, words);
+        if answer == Some(Ok(0)) {
+            words[3] = words[2];
+        }
+        answer
+    }
+
+    /// A chain of 257 entries taken.
+    fn chain(&self, chain: &[u8]) -> Option<Answer<u32>> {
+        match Linked.chain(chain) {
+            Some(Err(4)) if chain[..2] == [0x81, 2] => Some(Ok(257)),
+            answer => answer,
+        }
+    }
+}
+
+/// Wrong in the offsets alone: the second input's is the first's.
+struct Stacker;
+
+impl Composer for Stacker {
+    fn overlay_offset(
+        &self,
+        body: &[u8],
+        count: u32,
+        index: u32,
+        words: &mut [u64],
+    ) -> Option<Answer<u64>> {
+        let index = if index == 1 && count > 1 { 0 } else { index };
+        Linked.overlay_offset(body, count, index, words)
+    }
+}
+
+/// Wrong in 11 alone: an index outside is the last one's.
+struct Clamper;
+
+impl Composer for Clamper {
+    fn overlay_offset(
+        &self,
+        body: &[u8],
+        count: u32,
+        index: u32,
+        words: &mut [u64],
+    ) -> Option<Answer<u64>> {
+        let index = index.min(count.saturating_sub(1));
+        Linked.overlay_offset(body, count, index, words)
+    }
+}
+
+/// Wrong in sizes: an aperture's height axis first, a scaled side without its limit of 2^26, the
+/// sizes after it in another order.
+struct Sizer;
+
+impl Composer for Sizer {
+    fn clap_resolve(&self, clap: &Clap, size: Size, words: &mut [u32]) -> Option<Answer<u64>> {
+        let [wn, wd, hn, hd, xn, xd, yn, yd] = clap.fields();
+        let turned = Clap::from_fields([hn, hd, wn, wd, yn, yd, xn, xd]);
+        let answer = Linked.clap_resolve(&turned, (size.1, size.0), words);
+        if answer == Some(Ok(0)) {
+            words.swap(0, 1);
+            words.swap(2, 3);
+        }
+        answer
+    }
+
+    fn iscl_size(&self, iscl: &Iscl, size: Size, words: &mut [u32]) -> Option<Answer<u64>> {
+        let longest = size.0.max(size.1);
+        match Linked.iscl_size(iscl, size, words) {
+            Some(Err(4)) if longest > 1 << 26 && words.len() >= 2 => Some(Ok(0)),
+            answer => answer,
+        }
+    }
+
+    fn steps(&self, input: &[u8], output: &mut [u8]) -> Option<Answer<usize>> {
+        let answer = Linked.steps(input, output);
+        if let Some(Ok(length)) = answer {
+            // The last line's end.
+            output[length - 1] = b' ';
+        }
+        answer
+    }
+}
+
 #[test]
 fn a_wrong_composer_is_found() {
     let Some(sides) = Sides::open() else { return };
-    let wrong: [(&str, &'static dyn Composer, &[&str]); 12] = [
+    let wrong: [(&str, &'static dyn Composer, &[&str]); 16] = [
         ("judges every record malformed", &Stern, &["record"]),
         ("a plane too far, a tray's word", &Lax, &["record", "tray"]),
         ("turns clockwise", &CLOCKWISE, &["irot"]),
@@ -214,6 +316,18 @@ fn a_wrong_composer_is_found() {
         ("full range always", &RANGELESS, &["fill"]),
         ("other weights", &UNWEIGHTED, &["fill"]),
         ("fills too far", &Spiller, &["fill"]),
+        (
+            "other fields, a longer chain",
+            &Reader,
+            &["grid-descriptor", "overlay-descriptor", "chain"],
+        ),
+        ("one offset for another", &Stacker, &["overlay-descriptor"]),
+        ("an index outside", &Clamper, &["overlay-descriptor"]),
+        (
+            "height first, no limit, no end of line",
+            &Sizer,
+            &["clap-resolve", "iscl-size", "steps"],
+        ),
     ];
     for (what, ours, names) in wrong {
         for name in names {

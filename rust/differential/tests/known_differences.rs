@@ -6,7 +6,7 @@
 //! | the same on a white canvas | fill `ffffffffffffffff` | 16 | accepts; the wrapped product is held to top, sample 511 | panics there |
 //! | an alpha sample above top, cut off | offset (1, 0): body `0000000000000000ffff0001000100010000` | 16 | accepts, sample 0 | accepts, sample 0 |
 //! | a tile's origin at or above 2^32 | session body `000000ff012c0001`, mono tile 16,843,010 × 1 placed at cell 255 | accepts; the tile is cut | accepts; origin 254, so columns 254 to 299 are overwritten | panics at `c * tw`, "attempt to multiply with overflow" (compose.rs:522); the canvas is there, all 0, the cell not marked |
-//! | a scaled side above 2^26 | 67,108,865 × 1, iscl 1/65535, 1/1 | 4 | accepts, 1,025 × 1 | accepts, 1,025 × 1 |
+//! | a scaled side above 2^26 | 67,108,865 × 1, iscl 1/65535, 1/1 | 4 | `apply_iscl` and `Iscl::output_size` accept, 1,025 × 1 | the same |
 //! | fill at depth 0 | red, no nclx | 6 | 0 0 0 | panics at `depth - 1` (compose.rs:621) |
 //! | fill at depths 1 to 7 | red, no nclx, depth 7 | 6 | 38 43 127 | panics at `depth - 8` (compose.rs:622) |
 //! | the same, not full range | red, matrix 6, depth 7 | 6 | 127 127 127 (2^(7 − 8) is 2^31) | panics there |
@@ -16,18 +16,21 @@
 //! | a chain of 257 entries | 257 × imir 1 on `020100080002020102` | 4 | accepts, `02 01` | accepts, `02 01` |
 //! | a record that is never validated | imir 1 of `0201000800020105` | 5 | panics, "range end index 2 out of range for slice of length 1" (image.rs:358) | the same |
 //! | a depth that `validate` does not look at | `0101000700010105` and `010100110002020500` | 6 | `validate` accepts | `validate` accepts |
-//! | the size after an iscl | 1 × 1, iscl 65535/1, 65535/1 | 4 | `ItemProperties::output_size` accepts, 65,535 × 65,535; `apply_iscl` says "limit exceeded" | the same |
+//! | the size after an iscl | 1 × 1, iscl 65535/1, 65535/1 | 4 | `Iscl::output_size` and `ItemProperties::output_size` accept, 65,535 × 65,535; `apply_iscl` says "limit exceeded" | the same |
 //!
 //! A premultiplied list of another length (11) has no counterpart: the Rust keeps the flag with
 //! each input. 17, 18, the point call and the steps program have none either.
+//!
+//! Where the composer has the call, it is held to document 01's number here too.
 
 mod common;
 
 use common::{bytes, on_each_build};
 use differential::compare::Sides;
+use differential::ours::{Composer, Linked};
 use model::{
-    Chroma, Colour, Entry, Frame, Iscl, Oracle, Outcome, OverlayInput, Plane, Property, parse_tray,
-    parse_untested,
+    Chroma, Colour, Entry, Frame, Iscl, Operation, Oracle, Outcome, OverlayInput, Plane, Property,
+    chain_bytes, parse_tray, parse_untested,
 };
 
 /// Runs `plain` on the plain build and `checked` on the checked one, where they are present.
@@ -125,12 +128,16 @@ fn a_tile_origin_above_32_bits() {
 
 #[test]
 fn a_scaled_side_above_2_to_26() {
-    let frame = strip((1 << 26) + 1);
+    let size = ((1 << 26) + 1, 1);
+    let frame = strip(size.0);
     let iscl = Iscl::from_fields([1, 65_535, 1, 1]);
     on_each_build(|oracle| {
         let scaled = oracle.apply_iscl(&frame, &iscl).done().expect("a picture");
         assert_eq!((scaled.width, scaled.height), (1_025, 1));
+        let scaled = oracle.iscl_size(&iscl, size.0, size.1);
+        assert_eq!(scaled, Outcome::Done((1_025, 1)));
     });
+    assert_eq!(Linked.iscl_size(&iscl, size, &mut [0; 2]), Some(Err(4)));
 }
 
 #[test]
@@ -154,7 +161,10 @@ fn fills_at_depths_outside_8_to_16() {
         (32, colour(0, true), [0, 0, 0], Some(SHIFT)),
     ];
     for (depth, colour, numbers, panic) in cases {
-        let red = |oracle: &dyn Oracle| oracle.fill_to_ycbcr([65_535, 0, 0], depth, colour);
+        let fill = [65_535, 0, 0];
+        let ours = Linked.fill(fill, u32::from(depth), colour, &mut [0; 3]);
+        assert_eq!(ours, Some(Err(6)), "depth {depth}");
+        let red = |oracle: &dyn Oracle| oracle.fill_to_ycbcr(fill, depth, colour);
         on_the_builds(
             |plain| assert_eq!(red(plain), Outcome::Done(numbers), "depth {depth}"),
             |checked| match panic {
@@ -172,12 +182,18 @@ fn a_chain_of_257_entries() {
         let frame = Frame::mono(2, 1, &[1, 2]);
         let picture = oracle.apply_transforms(&frame, &[mirror; 257], false);
         assert_eq!(picture, Outcome::Done(Frame::mono(2, 1, &[2, 1])));
+        let size = oracle.chain_size(&[mirror; 257], (2, 1), false);
+        assert_eq!(size, Outcome::Done((2, 1)));
     });
+    assert_eq!(Linked.chain(&chain_bytes(&[mirror; 257])), Some(Err(4)));
 }
 
 #[test]
 fn a_record_that_is_never_validated() {
-    let short = parse_untested(&bytes("0201000800020105")).expect("a header that passes");
+    let record = bytes("0201000800020105");
+    let short = parse_untested(&record).expect("a header that passes");
+    let mirrored = Linked.operation(&record, &Operation::Imir(1), &mut [0; 9]);
+    assert_eq!(mirrored, Some(Err(5)));
     on_each_build(|oracle| {
         assert!(matches!(oracle.validate(&short), Outcome::Error(_)));
         for axis in [0, 1] {
@@ -193,6 +209,7 @@ fn a_depth_that_validate_does_not_look_at() {
         for depth in [7, 17] {
             let frame = Frame::tight((1, 1), Chroma::Mono, depth, 0, &[&[5]]);
             assert_eq!(oracle.validate(&frame), Outcome::Done(()));
+            assert_eq!(Linked.record(&frame.record()), Some(Err(6)));
         }
     });
 }
@@ -204,9 +221,15 @@ fn the_size_after_an_iscl() {
     on_each_build(|oracle| {
         let size = oracle.chain_size(&[entry], (1, 1), false);
         assert_eq!(size, Outcome::Done((65_535, 65_535)));
+        let size = oracle.iscl_size(&iscl, 1, 1);
+        assert_eq!(size, Outcome::Done((65_535, 65_535)));
         let Outcome::Error(text) = oracle.apply_iscl(&Frame::mono(1, 1, &[0]), &iscl) else {
             panic!("an error");
         };
         assert!(text.starts_with("heif: limit exceeded: "), "{text}");
     });
+    assert_eq!(Linked.iscl_size(&iscl, (1, 1), &mut [0; 2]), Some(Err(4)));
+    let input = compose::steps::input(1, 1, &chain_bytes(&[entry]));
+    let text = compose::steps::text(&input);
+    assert_eq!(text, "step kind width height\n0 4 refused 4\n");
 }

@@ -1,5 +1,6 @@
-//! Document 01 as plain Rust: house numbers, frame records, trays and chains, with the refusals of
-//! its "Record" paragraph and of a chain's form; the operations on one record, and fill colours.
+//! Document 01 as plain Rust: house numbers, frame records, trays, chains and descriptor bodies, with
+//! the refusals of each; the operations on one record, fill colours, and the text of the steps
+//! program.
 //! All of it is written from the paper and shares nothing with the composer or with the published
 //! Rust, so that both can be held against it.
 //!
@@ -8,6 +9,7 @@
 //! crate, so a comparison can use either.
 
 mod chain;
+mod derived;
 mod fill;
 mod number;
 mod operation;
@@ -15,8 +17,10 @@ mod oracle;
 mod outcome;
 mod record;
 pub mod refusal;
+mod steps;
 
 pub use chain::{Clap, Entry, Iscl, MAX_ENTRIES, Property, chain_bytes, parse_chain};
+pub use derived::{parse_grid, parse_overlay};
 pub use fill::fill_samples;
 pub use number::{Reader, number_bytes, push_number};
 pub use operation::Operation;
@@ -29,3 +33,4 @@ pub use record::{
     tray_count, untested_tray,
 };
 pub use refusal::Refusal;
+pub use steps::{Size, parse_steps, steps_text};

@@ -160,8 +160,9 @@ fn mirror(frame: &Frame, axis: u8) -> Frame {
 }
 
 impl Iscl {
-    /// The size after scaling a picture.
-    pub fn size(&self, width: u32, height: u32) -> Result<(u32, u32), Refusal> {
+    /// The size after scaling a picture: 7 any zero, 10 a side above 2^32 − 1, and only where the
+    /// size changes 4 above L or where a side before or after exceeds 2^26.
+    pub fn output_size(&self, width: u32, height: u32) -> Result<(u32, u32), Refusal> {
         if self.fields().contains(&0) {
             return Err(refusal::ZERO_DENOMINATOR);
         }
@@ -169,23 +170,24 @@ impl Iscl {
             let scaled = (u64::from(side) * u64::from(n)).div_ceil(u64::from(d));
             u32::try_from(scaled).map_err(|_| refusal::SIDE_OVERFLOW)
         };
-        Ok((
+        let after = (
             side(width, self.width_n, self.width_d)?,
             side(height, self.height_n, self.height_d)?,
-        ))
+        );
+        let sides = [width, height, after.0, after.1];
+        let above = u64::from(after.0) * u64::from(after.1) > MAX_PIXELS
+            || sides.iter().any(|side| *side > MAX_SCALED_SIDE);
+        if after != (width, height) && above {
+            return Err(refusal::LIMIT);
+        }
+        Ok(after)
     }
 }
 
 fn scale(frame: &Frame, iscl: Iscl) -> Result<Frame, Refusal> {
-    let (width, height) = iscl.size(frame.width, frame.height)?;
+    let (width, height) = iscl.output_size(frame.width, frame.height)?;
     if (width, height) == (frame.width, frame.height) {
         return Ok(frame.clone());
-    }
-    let sides = [frame.width, frame.height, width, height];
-    if u64::from(width) * u64::from(height) > MAX_PIXELS
-        || sides.iter().any(|side| *side > MAX_SCALED_SIDE)
-    {
-        return Err(refusal::LIMIT);
     }
     Ok(area(frame, (width, height)))
 }

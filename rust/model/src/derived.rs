@@ -1,0 +1,94 @@
+//! Descriptor bodies (document 01, "What is handed in"; ISO/IEC 23008-12, 6.6.2), big-endian.
+
+use crate::oracle::{Grid, Overlay};
+use crate::record::MAX_PIXELS;
+use crate::refusal::{self, Refusal};
+
+/// The most inputs that an overlay may have.
+const MAX_INPUTS: usize = 65_536;
+
+/// Fields from the front of a body. One that is not whole is refusal 1.
+struct Fields<'a>(&'a [u8]);
+
+impl Fields<'_> {
+    /// The next `bytes` bytes as an unsigned number.
+    fn number(&mut self, bytes: usize) -> Result<u32, Refusal> {
+        let (field, rest) = self.0.split_at_checked(bytes).ok_or(refusal::SHORT)?;
+        self.0 = rest;
+        let number = field
+            .iter()
+            .fold(0, |sum: u64, byte| sum * 256 + u64::from(*byte));
+        Ok(number as u32)
+    }
+
+    /// The next `bytes` bytes as a signed number.
+    fn signed(&mut self, bytes: usize) -> Result<i32, Refusal> {
+        let number = i64::from(self.number(bytes)?);
+        let range = 1i64 << (8 * bytes);
+        let signed = if number < range / 2 {
+            number
+        } else {
+            number - range
+        };
+        Ok(signed as i32)
+    }
+
+    /// Version and flags: how many bytes a size or an offset has.
+    fn start(&mut self) -> Result<usize, Refusal> {
+        if self.number(1)? != 0 {
+            return Err(refusal::VERSION);
+        }
+        let flags = self.number(1)?;
+        Ok(if flags % 2 == 1 { 4 } else { 2 })
+    }
+
+    /// The canvas's sides.
+    fn canvas(&mut self, bytes: usize) -> Result<(u32, u32), Refusal> {
+        let (width, height) = (self.number(bytes)?, self.number(bytes)?);
+        if width == 0 || height == 0 {
+            return Err(refusal::ZERO_SIDE);
+        }
+        if u64::from(width) * u64::from(height) > MAX_PIXELS {
+            return Err(refusal::LIMIT);
+        }
+        Ok((width, height))
+    }
+}
+
+/// What a grid's body says; bytes after the last field are ignored.
+pub fn parse_grid(body: &[u8]) -> Result<Grid, Refusal> {
+    let mut fields = Fields(body);
+    let bytes = fields.start()?;
+    let (rows, columns) = (fields.number(1)? + 1, fields.number(1)? + 1);
+    let (width, height) = fields.canvas(bytes)?;
+    Ok(Grid {
+        rows: rows as u16,
+        columns: columns as u16,
+        width,
+        height,
+    })
+}
+
+/// What the body of an overlay of so many inputs says; bytes after the last field are ignored.
+pub fn parse_overlay(body: &[u8], inputs: usize) -> Result<Overlay, Refusal> {
+    let mut fields = Fields(body);
+    let bytes = fields.start()?;
+    let mut fill = [0; 4];
+    for channel in &mut fill {
+        *channel = fields.number(2)? as u16;
+    }
+    let (width, height) = fields.canvas(bytes)?;
+    if inputs > MAX_INPUTS {
+        return Err(refusal::LIMIT);
+    }
+    let mut offsets = Vec::new();
+    for _ in 0..inputs {
+        offsets.push((fields.signed(bytes)?, fields.signed(bytes)?));
+    }
+    Ok(Overlay {
+        fill,
+        width,
+        height,
+        offsets,
+    })
+}
