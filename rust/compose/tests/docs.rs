@@ -1,9 +1,11 @@
-//! `docs/DESIGN.md`, held to the crates: every file that it links to is there and has the names that
-//! follow the link; every edit that must fail is named, and every edit that is named is there.
+//! The documents, held to what is there. `docs/DESIGN.md`: every file that it links to has the names
+//! that follow the link; every edit that must fail is named, and every edit that is named is there.
+//! `README.md`: every command.
 
 use std::collections::BTreeSet;
 use std::fs;
 use std::path::{Path, PathBuf};
+use std::process::Command;
 
 fn docs() -> PathBuf {
     PathBuf::from(concat!(env!("CARGO_MANIFEST_DIR"), "/../../docs"))
@@ -91,4 +93,22 @@ fn the_map_names_every_crate() {
         let (name, _) = line.split_once(':').expect("a name");
         assert!(design.contains(&format!("\n| `{name}` |")), "{name}");
     }
+}
+
+#[test]
+fn the_first_page_names_every_command() {
+    let readme = fs::read_to_string(docs().join("../README.md")).expect("the first page");
+    let help = Command::new(env!("CARGO_BIN_EXE_compose"))
+        .arg("--help")
+        .output()
+        .expect("the command starts");
+    let help = String::from_utf8(help.stdout).expect("text");
+    let listed = help.lines().filter_map(|line| line.strip_prefix("  "));
+    let listed = listed.filter(|line| !line.starts_with("compose"));
+    let mut count = 0;
+    for name in listed.filter_map(|line| line.split_whitespace().next()) {
+        assert!(names(&readme).any(|one| one == name), "{name}");
+        count += 1;
+    }
+    assert!(count >= 15, "{count} commands");
 }

@@ -15,6 +15,18 @@ fn every_comparison_agrees() {
     }
 }
 
+/// The first page names every comparison.
+#[test]
+fn the_comparisons_are_named() {
+    let path = concat!(env!("CARGO_MANIFEST_DIR"), "/../../README.md");
+    let readme = std::fs::read_to_string(path).expect("the first page");
+    let (_, names) = readme.split_once("The names:").expect("them");
+    let (names, _) = names.split_once('.').expect("an end");
+    let names: Vec<&str> = names.split(',').map(str::trim).collect();
+    let all: Vec<&str> = ALL.iter().map(|comparison| comparison.name).collect();
+    assert_eq!(names, all);
+}
+
 #[test]
 fn a_difference_is_made_small() {
     let Some(sides) = Sides::open() else { return };
