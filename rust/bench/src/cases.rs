@@ -1,11 +1,11 @@
 //! What is timed, a line a case.
 
-use compose::HeifFrame;
 use compose::props::{Imir, Irot};
+use compose::{GridDescriptor, HeifFrame, OverlayDescriptor};
 use differential::generate::{self, Form};
 use differential::ours::{Answer, Composer, Linked};
 use differential::rng::Rng;
-use model::{Chroma, Clap, Colour, Frame, Operation, Rectangle, Work};
+use model::{Chroma, Clap, Colour, Frame, Iscl, Operation, Rectangle, Work};
 use std::hint::black_box;
 
 /// A call of the composer, on a lent buffer.
@@ -105,6 +105,76 @@ fn fill(name: &str, colour: Option<Colour>) -> Case {
     }
 }
 
+/// A grid's body.
+fn grid_body() -> Case {
+    let body = GridDescriptor::new(16, 16, 8_192, 8_192).to_bytes();
+    let (lent, read) = (body.clone(), body.clone());
+    Case {
+        name: "grid descriptor".into(),
+        room: 0,
+        call: Box::new(move |_| {
+            answered(Linked.grid_descriptor(black_box(&lent), &mut [0; 4]));
+        }),
+        frames: Some(Box::new(move || {
+            let grid = GridDescriptor::parse(black_box(&read));
+            black_box(grid.expect("a grid"));
+        })),
+        theirs: Work::GridBody(body),
+    }
+}
+
+/// An overlay's body and the offset of each input.
+fn overlay_body(inputs: u32) -> Case {
+    let offsets = (0..inputs as i32).map(|at| (at, -at)).collect();
+    let body = OverlayDescriptor::new([65_535; 4], 8_192, 8_192, offsets).to_bytes();
+    let (lent, read) = (body.clone(), body.clone());
+    Case {
+        name: format!("overlay descriptor, {inputs} inputs"),
+        room: 0,
+        call: Box::new(move |_| {
+            answered(Linked.overlay_descriptor(black_box(&lent), inputs, &mut [0; 6]));
+            for index in 0..inputs {
+                let mut words = [0; 4];
+                answered(Linked.overlay_offset(&lent, inputs, index, &mut words));
+                black_box(words);
+            }
+        }),
+        frames: Some(Box::new(move || {
+            let overlay = OverlayDescriptor::parse(black_box(&read), inputs as usize);
+            drop(black_box(overlay.expect("an overlay")));
+        })),
+        theirs: Work::OverlayBody(body, inputs as usize),
+    }
+}
+
+/// An aperture of a size.
+fn resolve() -> Case {
+    let clap = Clap::from_fields([1_921, 1, 1_080, 1, 1, 2, 0, 1]);
+    Case {
+        name: "clap resolve".into(),
+        room: 0,
+        call: Box::new(move |_| {
+            answered(Linked.clap_resolve(black_box(&clap), (4_000, 3_000), &mut [0; 4]));
+        }),
+        frames: None,
+        theirs: Work::Resolve(clap, 4_000, 3_000),
+    }
+}
+
+/// A scaled size.
+fn scale() -> Case {
+    let iscl = Iscl::from_fields([2, 3, 2, 3]);
+    Case {
+        name: "iscl size".into(),
+        room: 0,
+        call: Box::new(move |_| {
+            answered(Linked.iscl_size(black_box(&iscl), (4_000, 3_000), &mut [0; 2]));
+        }),
+        frames: None,
+        theirs: Work::Scale(iscl, 4_000, 3_000),
+    }
+}
+
 /// Every case, on square pictures of the given side, a multiple of 8.
 pub fn all(side: u32) -> Vec<Case> {
     let half = side / 2;
@@ -133,6 +203,11 @@ pub fn all(side: u32) -> Vec<Case> {
         cases.push(operation("imir 1", frame, Operation::Imir(1)));
         cases.push(reading(frame));
     }
+    cases.push(grid_body());
+    cases.push(overlay_body(8));
+    cases.push(overlay_body(65_536));
+    cases.push(resolve());
+    cases.push(scale());
     cases.push(fill("no description", None));
     cases.push(fill("matrix 9, studio range", Some(studio)));
     cases

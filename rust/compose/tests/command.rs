@@ -10,8 +10,16 @@ use std::io::Write;
 use std::path::PathBuf;
 use std::process::{Command, Output, Stdio};
 
-/// A folder of a test's own, empty.
+/// A folder of a test's own, empty; it goes when the test has passed.
 struct Folder(PathBuf);
+
+impl Drop for Folder {
+    fn drop(&mut self) {
+        if !std::thread::panicking() {
+            let _ = fs::remove_dir_all(&self.0);
+        }
+    }
+}
 
 impl Folder {
     fn new(name: &str) -> Self {

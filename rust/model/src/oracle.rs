@@ -97,6 +97,13 @@ pub trait Canvas {
 pub enum Work {
     Validate(Frame),
     Fill([u16; 3], u8, Option<Colour>),
+    GridBody(Vec<u8>),
+    /// A body, and how many inputs it has.
+    OverlayBody(Vec<u8>, usize),
+    /// `Clap::resolve` on a size.
+    Resolve(Clap, u32, u32),
+    /// `Iscl::output_size` on a size.
+    Scale(Iscl, u32, u32),
     Operation(Frame, Operation),
     Attach(Frame, Frame),
     /// `apply_transforms`, every entry.

@@ -170,6 +170,18 @@ impl Oracle for Published {
                     ))
                 })
             }
+            Work::GridBody(body) => made(move || GridDescriptor::parse(black_box(&body))),
+            Work::OverlayBody(body, inputs) => {
+                made(move || OverlayDescriptor::parse(black_box(&body), inputs))
+            }
+            Work::Resolve(fields, width, height) => {
+                let clap = clap(&fields);
+                made(move || black_box(&clap).resolve(width, height))
+            }
+            Work::Scale(fields, width, height) => {
+                let iscl = iscl(&fields);
+                made(move || black_box(&iscl).output_size(width, height))
+            }
             Work::Operation(frame, operation) => {
                 let frame = published(&frame);
                 made(move || operate(&frame, &operation))
