@@ -1,0 +1,4 @@
+pub mod Quarters
+pub mod Turns
+pub mod Steps
+pub mod Agreement

@@ -1,0 +1,212 @@
+-- What the tests and numbers of the code say of a sight and of a place. Assumes nothing.
+use mathlib.Core.Bool.{Bool, false, not, true}
+use mathlib.Core.List.{List}
+use mathlib.Core.Path.{_∙_, _≡_, ap, ap₂, refl, sym}
+use Prim.Native.Nat.{_%_, _+_, _-_, _<_, _^_, _≤_, ℕ}
+use native.Mathlib.Omega.{arith}
+use borrow.Author.Tests.{le-leb, lt-leb}
+use Rattle.laws.proofs.Out.{Holds, holds-done, pick-holds, refuse-no, refuse-yes, then-holds}
+use Rattle.laws.specs.Out.{Out, done, reason, refused}
+use Rattle.laws.specs.Pick.{pick}
+use Rattle.image.specs.Picture.{odd}
+use Rattle.props.proofs.ApertureLaws.{resolve-holds, resolve-inside}
+use Rattle.props.proofs.ChainLaws.{fold-holds}
+use Rattle.props.specs.Aperture.{resolveOf}
+use Rattle.props.specs.Chain.{applies, foldChain}
+use Rattle.props.specs.Sound.{Inside}
+use Rattle.props.specs.declared.clap.Clap.{Clap}
+use Rattle.props.specs.declared.clap.CropRect.{CropRect}
+use Rattle.props.specs.declared.entry.Property.{Property}
+use Rattle.props.specs.declared.entry.PropertyEntry.{PropertyEntry}
+use Rattle.transform.specs.Place.{Place, sideways, swaps, unturn}
+use Rattle.transform.specs.Turn.{Quarter, quarterOf}
+use Rattle.sight.proofs.Quarters.{by-quarter, mirror-below, quarter-0, quarter-1, quarter-2, quarter-3}
+use Rattle.sight.proofs.Turns.{crop-inside, exchange-inside, exchange-row, place-path, unturn-in, unturn-inside}
+use Rattle.sight.specs.Sight.{Bounded, Lies, back, backFrom, cropFrom, exchange, exchangeRect, finalHeight, finalWidth, highOf, mirrorTurns, placeOf, sightAfter, sightOf, thenCrop, thenMirror, thenTurn, unturnRect, whole, wideOf, within}
+use Rattle.sight.specs.declared.CanvasPlace.{CanvasPlace}
+use Rattle.sight.specs.declared.Sight.{Sight}
+
+-- ---- the final size, by an odd or an even number of turns
+
+odd-swaps : (t : ℕ) → t % 2 ≡ 1 → swaps (quarterOf t) ≡ true
+unfolding swaps
+odd-swaps t h = by-quarter t (λ e. absurd (omega arith)) (λ e. ap swaps (quarter-1 t e)) (λ e. absurd (omega arith)) (λ e. ap swaps (quarter-3 t e))
+
+even-swaps : (t : ℕ) → (t % 2 ≡ 1 → ⊥) → swaps (quarterOf t) ≡ false
+unfolding swaps
+even-swaps t h = by-quarter t (λ e. ap swaps (quarter-0 t e)) (λ e. absurd (h (omega arith))) (λ e. ap swaps (quarter-2 t e)) (λ e. absurd (h (omega arith)))
+
+pub final-swapped : (s : Sight) → s .turns % 2 ≡ 1 → (finalWidth s ≡ s .area .height) × (finalHeight s ≡ s .area .width)
+unfolding finalWidth finalHeight wideOf highOf sideways
+final-swapped s h = let e = odd-swaps (s .turns) h in (ap (λ b. sideways b (s .area .width) (s .area .height)) e, ap (λ b. sideways b (s .area .height) (s .area .width)) e)
+
+pub final-straight : (s : Sight) → (s .turns % 2 ≡ 1 → ⊥) → (finalWidth s ≡ s .area .width) × (finalHeight s ≡ s .area .height)
+unfolding finalWidth finalHeight wideOf highOf sideways
+final-straight s h = let e = even-swaps (s .turns) h in (ap (λ b. sideways b (s .area .width) (s .area .height)) e, ap (λ b. sideways b (s .area .height) (s .area .width)) e)
+
+-- ---- before the turns
+
+module _ (s : Sight) (q : Quarter) (e : quarterOf (s .turns) ≡ q) where
+  pub inside-by : (c : CropRect) → Inside c (finalWidth s) (finalHeight s) → Inside c (sideways (swaps q) (s .area .width) (s .area .height)) (sideways (swaps q) (s .area .height) (s .area .width))
+  unfolding finalWidth finalHeight wideOf highOf
+  inside-by c i = rw e at i
+
+  pub below-by : (x y : ℕ) → (x < finalWidth s) × (y < finalHeight s) → (x < sideways (swaps q) (s .area .width) (s .area .height)) × (y < sideways (swaps q) (s .area .height) (s .area .width))
+  unfolding finalWidth finalHeight wideOf highOf
+  below-by x y i = rw e at i
+
+  pub rect-by : (c : CropRect) → unturnRect q (s .area .width) (s .area .height) c ≡ unturnRect (quarterOf (s .turns)) (s .area .width) (s .area .height) c
+  rect-by c = ap (λ k. unturnRect k (s .area .width) (s .area .height) c) (sym e)
+
+  pub place-by : (x y : ℕ) (r : CanvasPlace) → Lies r (unturn q (s .area .width) (s .area .height) x y) → Lies r (unturn (quarterOf (s .turns)) (s .area .width) (s .area .height) x y)
+  place-by x y r l = rw e l
+
+pub unturned-inside : (s : Sight) (c d : CropRect) → d ≡ unturnRect (quarterOf (s .turns)) (s .area .width) (s .area .height) c → Inside c (finalWidth s) (finalHeight s)
+    → Inside d (s .area .width) (s .area .height)
+unfolding finalWidth finalHeight wideOf highOf
+unturned-inside s c d e i = rw e (unturn-inside (quarterOf (s .turns)) (s .area .width) (s .area .height) c i)
+
+pub unturned-below : (s : Sight) (x y : ℕ) (r : CanvasPlace) → Lies r (unturn (quarterOf (s .turns)) (s .area .width) (s .area .height) x y) → x < finalWidth s → y < finalHeight s
+    → (r .x + 1 ≤ s .area .width) × (r .y + 1 ≤ s .area .height)
+unfolding finalWidth finalHeight wideOf highOf
+unturned-below s x y r l i j =
+    let k = unturn-in (quarterOf (s .turns)) (s .area .width) (s .area .height) x y i j in
+    (omega (arith, l .x, k .0), omega (arith, l .y, k .1))
+
+-- ---- before the exchange
+
+pub unexchanged-in : (b : Bool) (w edge size x : ℕ) → edge + size ≤ w → x ≡ pick b (w - edge - size) edge → x + size ≤ w
+unfolding pick
+unexchanged-in true w edge size x h e = omega arith
+unexchanged-in false w edge size x h e = omega arith
+
+exchange-rect : (b : Bool) (w : ℕ) (d : CropRect) → _≡_ {A = CropRect} (record { x = pick b (w - d .x - d .width) (d .x); y = d .y; width = d .width; height = d .height }) (exchangeRect b w d)
+unfolding pick exchangeRect
+exchange-rect true w d = refl
+exchange-rect false w d = refl
+
+exchange-column : (b : Bool) (w : ℕ) (l : Place) → pick b (w - l .x - 1) (l .x) ≡ exchange b w l .x
+unfolding pick exchange
+exchange-column true w l = omega arith
+exchange-column false w l = refl
+
+-- ---- what each step makes
+
+-- a sight of another rectangle
+abbrev seenAt : Sight → CropRect → Sight
+seenAt s r = record { area = r; exchanged = s .exchanged; turns = s .turns }
+
+pub cropped-is : (s : Sight) (c d : CropRect) (x : ℕ) → d ≡ unturnRect (quarterOf (s .turns)) (s .area .width) (s .area .height) c → x ≡ pick (s .exchanged) (s .area .width - d .x - d .width) (d .x)
+    → _≡_ {A = Sight} (record { area = record { x = s .area .x + x; y = s .area .y + d .y; width = d .width; height = d .height }; exchanged = s .exchanged; turns = s .turns }) (thenCrop s c)
+unfolding thenCrop cropFrom within
+cropped-is s c d x e f =
+    ap (λ (k : ℕ). seenAt s (within (s .area) (record { x = k; y = d .y; width = d .width; height = d .height }))) f
+    ∙ ap (λ t. seenAt s (within (s .area) t)) (exchange-rect (s .exchanged) (s .area .width) d)
+    ∙ ap (λ t. seenAt s (within (s .area) (exchangeRect (s .exchanged) (s .area .width) t))) e
+
+pub turned-is : (s : Sight) (a : ℕ) → _≡_ {A = Sight} (record { area = s .area; exchanged = s .exchanged; turns = (s .turns % 4 + a) % 4 }) (thenTurn s a)
+unfolding thenTurn
+turned-is s a = ap (λ (t : ℕ). record { area = s .area; exchanged = s .exchanged; turns = t }) (omega arith)
+
+pub sideways-is : (s : Sight) (b : Bool) → b ≡ true → _≡_ {A = Sight} (record { area = s .area; exchanged = not (s .exchanged); turns = (4 - s .turns % 4) % 4 }) (thenMirror s b)
+unfolding thenMirror mirrorTurns
+sideways-is s b e = ap (thenMirror s) (sym e)
+
+pub upright-is : (s : Sight) (b : Bool) → b ≡ false → _≡_ {A = Sight} (record { area = s .area; exchanged = not (s .exchanged); turns = (6 - s .turns % 4) % 4 }) (thenMirror s b)
+unfolding thenMirror mirrorTurns
+upright-is s b e = ap (thenMirror s) (sym e)
+
+-- ---- a clap, resolved in the final size
+
+pub clap-at : (s : Sight) (c : Clap) (w h : ℕ) (o : Out CropRect) → w ≡ finalWidth s → h ≡ finalHeight s → resolveOf c w h ≡ o → resolveOf c (finalWidth s) (finalHeight s) ≡ o
+clap-at s c w h o p q e = ap₂ (resolveOf c) (sym p) (sym q) ∙ e
+
+pub clap-inside : (s : Sight) (c : Clap) (w h : ℕ) (r : CropRect) → w ≡ finalWidth s → h ≡ finalHeight s → resolveOf c w h ≡ done r → Inside r (finalWidth s) (finalHeight s)
+clap-inside s c w h r p q e = resolve-inside c _ _ r (clap-at s c w h (done r) p q e)
+
+-- ---- a place
+
+pub place-across : (s : Sight) (x y w : ℕ) → w ≡ finalWidth s → w ≤ x → refused (reason 18) ≡ placeOf s x y
+unfolding placeOf
+place-across s x y w e h = sym (refuse-yes _ _ (le-leb (finalWidth s) x (omega arith)))
+
+pub place-down : (s : Sight) (x y w h : ℕ) → w ≡ finalWidth s → x < w → h ≡ finalHeight s → h ≤ y → refused (reason 18) ≡ placeOf s x y
+unfolding placeOf
+place-down s x y w h e i f j = sym (refuse-no _ _ (lt-leb (finalWidth s) x (omega arith)) ∙ refuse-yes _ _ (le-leb (finalHeight s) y (omega arith)))
+
+pub place-in : (s : Sight) (x y : ℕ) → x < finalWidth s → y < finalHeight s → placeOf s x y ≡ done (back s x y)
+unfolding placeOf
+place-in s x y i j = refuse-no _ _ (lt-leb (finalWidth s) x i) ∙ refuse-no _ _ (lt-leb (finalHeight s) y j)
+
+pub place-found : (s : Sight) (x y k : ℕ) (r : CanvasPlace) → x < finalWidth s → y < finalHeight s → Lies r (unturn (quarterOf (s .turns)) (s .area .width) (s .area .height) x y)
+    → k ≡ pick (s .exchanged) (s .area .width - r .x - 1) (r .x) → _≡_ {A = Out Place} (done (record { x = s .area .x + k; y = s .area .y + r .y })) (placeOf s x y)
+unfolding back backFrom
+place-found s x y k r i j l e =
+    let u = unturn (quarterOf (s .turns)) (s .area .width) (s .area .height) x y in
+    let p : k ≡ exchange (s .exchanged) (s .area .width) u .x = e ∙ ap (λ (n : ℕ). pick (s .exchanged) (s .area .width - n - 1) n) (l .x) ∙ exchange-column (s .exchanged) (s .area .width) u in
+    let q : r .y ≡ exchange (s .exchanged) (s .area .width) u .y = l .y ∙ sym (exchange-row (s .exchanged) (s .area .width) u) in
+    ap done (place-path (ap (λ (n : ℕ). s .area .x + n) p) (ap (λ (n : ℕ). s .area .y + n) q)) ∙ sym (place-in s x y i j)
+
+-- ---- a sight's numbers stay 32-bit, and its rectangle inside
+
+bounded-within : (r d : CropRect) → Bounded r → Inside d (r .width) (r .height) → Bounded (within r d)
+unfolding within
+bounded-within r d b i = record { across = omega (arith, b .across, i .across); down = omega (arith, b .down, i .down) }
+
+crop-bounded : (s : Sight) (c : CropRect) → Bounded (s .area) → Inside c (finalWidth s) (finalHeight s) → Bounded (thenCrop s c .area)
+unfolding finalWidth finalHeight wideOf highOf thenCrop cropFrom
+crop-bounded s c b i =
+    bounded-within (s .area) _ b (exchange-inside (s .exchanged) (s .area .width) (s .area .height) _ (unturn-inside (quarterOf (s .turns)) (s .area .width) (s .area .height) c i))
+
+-- what a crop keeps of the rectangle, an entry keeps
+after-keeps : (I : CropRect → Type 0) → ((s : Sight) (c : CropRect) → I (s .area) → Inside c (finalWidth s) (finalHeight s) → I (thenCrop s c .area))
+    → (p : Property) (s : Sight) → I (s .area) → Holds (λ u. I (u .area)) (sightAfter p s)
+unfolding sightAfter Holds thenTurn thenMirror
+after-keeps I k Property.Other s i = i
+after-keeps I k (Property.Clap c) s i = then-holds (λ r. Inside r (finalWidth s) (finalHeight s)) _ _ _ (resolve-holds c (finalWidth s) (finalHeight s)) (λ r j. k s r i j)
+after-keeps I k (Property.Irot t) s i = i
+after-keeps I k (Property.Imir m) s i = i
+after-keeps I k (Property.Iscl t) s i = tt
+
+pub after-bounded : (p : Property) (s : Sight) → Bounded (s .area) → Holds (λ u. Bounded (u .area)) (sightAfter p s)
+after-bounded p s b = after-keeps Bounded crop-bounded p s b
+
+pub whole-bounded : (w h : ℕ) → w < 2 ^ 32 → h < 2 ^ 32 → Bounded (whole w h .area)
+unfolding whole
+whole-bounded w h i j = record { across = omega arith; down = omega arith }
+
+-- an entry, applied or not
+pub entry-bounded : (flag : Bool) (e : PropertyEntry) (s u : Sight) → Bounded (s .area) → pick (applies flag e) (sightAfter (e .property) s) (done s) ≡ done u → Bounded (u .area)
+unfolding Holds
+entry-bounded flag e s u b q = holds-done (λ k. Bounded (k .area)) _ u (pick-holds (λ k. Bounded (k .area)) (applies flag e) _ (done s) (after-bounded (e .property) s b) b) q
+
+-- where a chain begins
+pub sight-start : (es : List PropertyEntry) (flag : Bool) (w h : ℕ) (s : Sight) → s ≡ whole w h → sightOf es flag w h ≡ foldChain sightAfter flag es s
+unfolding sightOf
+sight-start es flag w h s e = ap (foldChain sightAfter flag es) (sym e)
+
+pub start-bounded : (w h : ℕ) (s : Sight) → s ≡ whole w h → w < 2 ^ 32 → h < 2 ^ 32 → Bounded (s .area)
+start-bounded w h s e i j = rw e (whole-bounded w h i j)
+
+-- whatever the chain
+pub sight-bounded : (es : List PropertyEntry) (flag : Bool) (w h : ℕ) → w < 2 ^ 32 → h < 2 ^ 32 → Holds (λ s. Bounded (s .area)) (sightOf es flag w h)
+unfolding sightOf
+sight-bounded es flag w h i j = fold-holds (λ s. Bounded (s .area)) sightAfter after-bounded flag es _ (whole-bounded w h i j)
+
+pub sight-inside : (es : List PropertyEntry) (flag : Bool) (w h : ℕ) → 1 ≤ w → 1 ≤ h → Holds (λ s. Inside (s .area) w h) (sightOf es flag w h)
+unfolding sightOf whole
+sight-inside es flag w h i j =
+    fold-holds (λ s. Inside (s .area) w h) sightAfter (after-keeps (λ r. Inside r w h) (λ s c a b. crop-inside s c w h a b)) flag es _ (record { across = omega arith; down = omega arith; wide = i; tall = j })
+
+-- the turns stay below 4
+after-turns : (p : Property) (s : Sight) → s .turns < 4 → Holds (λ u. u .turns < 4) (sightAfter p s)
+unfolding sightAfter Holds thenTurn thenMirror thenCrop
+after-turns Property.Other s i = i
+after-turns (Property.Clap c) s i = then-holds (λ r. Inside r (finalWidth s) (finalHeight s)) _ _ _ (resolve-holds c (finalWidth s) (finalHeight s)) (λ r j. i)
+after-turns (Property.Irot k) s i = omega arith
+after-turns (Property.Imir k) s i = mirror-below (odd (k .axis)) (s .turns)
+after-turns (Property.Iscl k) s i = tt
+
+pub sight-turns : (es : List PropertyEntry) (flag : Bool) (w h : ℕ) → Holds (λ s. s .turns < 4) (sightOf es flag w h)
+unfolding sightOf whole
+sight-turns es flag w h = fold-holds (λ s. s .turns < 4) sightAfter after-turns flag es _ (omega arith)

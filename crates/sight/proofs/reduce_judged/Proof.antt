@@ -1,0 +1,88 @@
+use mathlib.Core.List.{List}
+use mathlib.Core.Path.{_∙_, _≡_, ap, sym}
+use native.Mathlib.Omega.{arith}
+use borrow.Author.Needs.{needs}
+use Rattle.laws.proofs.Out.{then-done}
+use Rattle.laws.specs.Out.{andThen, done}
+use Rattle.props.proofs.ChainLaws.{along-end, along-refused, along-step, entries-read}
+use Rattle.props.specs.Chain.{entriesAt, foldChain}
+use Rattle.props.specs.Entry.{entryOut}
+use Rattle.props.specs.declared.entry.PropertyEntry.{PropertyEntry}
+use Rattle.sight.proofs.Steps.{entry-bounded, sight-start, start-bounded}
+use Rattle.sight.proofs.reduce_judged.Statement.{statement}
+use Rattle.sight.specs.Sight.{Bounded, sightAfter, sightOf, sightOut}
+use Rattle.sight.proofs.reduce_judged.Tie as tie
+use Rattle.sight.proofs.reduce_judged.Reads as reads
+use Rattle.sight.proofs.reduce_judged.Lts as lts
+use Rattle.props.proofs.read_entry.Reads as read-entry-reads
+use Rattle.sight.proofs.Sight.after_entry.Reads as after-entry-reads
+use Rattle.sight.proofs.Sight.new.Reads as new-reads
+
+abbrev Inv-loop : tie.InvT-loop
+Inv-loop s essential-only width height next₀ left₀ reached₀ next left reached = (rest : List PropertyEntry) × (entriesAt left s next ≡ done rest) × (andThen (entriesAt left₀ s next₀) (λ es. sightOf es essential-only width height) ≡ foldChain sightAfter essential-only rest reached) × Bounded (reached .area)
+
+abbrev μ-loop : tie.MeasureT-loop
+μ-loop s essential-only width height next₀ left₀ reached₀ next left reached = left
+
+new-requires : tie.Need-new-requires Inv-loop μ-loop
+new-requires c κs = search needs
+
+loop-holds : tie.Need-loop-holds Inv-loop μ-loop
+loop-holds c = (c .before .before .pre .entries, c .before .before .pre .read, then-done _ (c .before .before .pre .read) ∙ sight-start (c .before .before .pre .entries) _ _ _ _ (c .new .ensures), start-bounded _ _ _ (c .new .ensures) (omega (arith, c .before .before .fits .width)) (omega (arith, c .before .before .fits .height)))
+
+read-entry-requires : tie.Need-read-entry-requires Inv-loop μ-loop
+read-entry-requires c κs = search needs
+
+enum-known-e : tie.Need-enum-known-e Inv-loop μ-loop
+enum-known-e c = search needs
+
+enum-told : tie.Need-enum-told Inv-loop μ-loop
+enum-told c = search needs
+
+returns : tie.Need-returns Inv-loop μ-loop
+returns c = entries-read _ _ _ _ _ (c .before .before .before .loop-test .taken) (c .before .before .before .before .loop .inv .1) (sym (c .before .before .read-entry .ensures) ∙ ap entryOut (c .enum-told .given .1))
+
+after-entry-requires : tie.Need-after-entry-requires Inv-loop μ-loop
+after-entry-requires c κs = c .before .before .before .before .before .before .loop .inv .3
+
+enum-known-r : tie.Need-enum-known-r Inv-loop μ-loop
+enum-known-r c = search needs
+
+returns-2 : tie.Need-returns-2 Inv-loop μ-loop
+returns-2 c = sym (c .before .before .before .before .before .before .before .before .before .before .loop .inv .2 ∙ along-refused _ _ _ _ _ _ _ (c .before .before .before .before .before .before .before .before .before .before .loop .inv .1) _ _ (c .before .before .before .before .before .before .before .before .before .loop-test .taken) (sym (c .before .before .before .before .before .before .before .before .read-entry .ensures) ∙ ap entryOut (c .before .before .before .before .before .before .e .given .1)) (sym (c .before .before .before .after-entry .ensures) ∙ ap sightOut (c .before .r .given .1)))
+
+enum-known-z : tie.Need-enum-known-z Inv-loop μ-loop
+enum-known-z c = search needs
+
+sub-left : tie.Need-sub-left Inv-loop μ-loop
+sub-left c = search needs
+
+loop-less : tie.Need-loop-less Inv-loop μ-loop
+loop-less c = search needs
+
+loop-again : tie.Need-loop-again Inv-loop μ-loop
+loop-again c = let q = sym (c .before .before .before .after-entry .ensures) ∙ ap sightOut (c .before .z .given .1) in let k = along-step _ _ _ _ _ _ _ (c .before .before .before .before .before .before .before .before .before .before .loop .inv .1) _ _ (c .before .before .before .before .before .before .before .before .before .loop-test .taken) (sym (c .before .before .before .before .before .before .before .before .read-entry .ensures) ∙ ap entryOut (c .before .before .before .before .before .before .e .given .1)) q in (k .0, k .1, c .before .before .before .before .before .before .before .before .before .before .loop .inv .2 ∙ k .2, entry-bounded _ _ _ _ (c .before .before .before .before .before .before .before .before .before .before .loop .inv .3) q)
+
+returns-3 : tie.Need-returns-3 Inv-loop μ-loop
+returns-3 c = sym (c .before .loop .inv .2 ∙ along-end _ _ _ _ _ _ _ (c .before .loop .inv .1) (c .loop-test .left))
+
+pub reduce-judged-spec : {M : Type 1} → statement M
+reduce-judged-spec =
+    tie.close
+    (tie.spec
+    Inv-loop
+    μ-loop
+    new-requires
+    loop-holds
+    read-entry-requires
+    enum-known-e
+    enum-told
+    returns
+    after-entry-requires
+    enum-known-r
+    returns-2
+    enum-known-z
+    sub-left
+    loop-less
+    loop-again
+    returns-3)

@@ -1,0 +1,125 @@
+-- What a chain without scaling leaves of a picture: a rectangle of it, its left and right exchanged or not, then quarter turns
+-- anticlockwise (document 01, "Point call"). Assumes nothing.
+use mathlib.Core.Bool.{Bool, false, not, true}
+use mathlib.Core.List.{List}
+use mathlib.Core.Path.{_≡_}
+use Prim.Native.Nat.{_%_, _+_, _-_, _<_, _^_, ℕ}
+use lib.Dec.{leb}
+use Rattle.laws.specs.Out.{Out, andThen, done, reason, refuse, refused}
+use Rattle.image.specs.Picture.{odd}
+use Rattle.props.specs.Aperture.{resolveOf}
+use Rattle.props.specs.Chain.{foldChain}
+use Rattle.props.specs.declared.clap.CropRect.{CropRect}
+use Rattle.props.specs.declared.entry.Property.{Property}
+use Rattle.props.specs.declared.entry.PropertyEntry.{PropertyEntry}
+use Rattle.transform.specs.Place.{Place, sideways, swaps, unturn}
+use Rattle.transform.specs.Turn.{Quarter, q0, q1, q2, q3, quarterOf}
+use Rattle.sight.specs.declared.CanvasPlace.{CanvasPlace}
+use Rattle.sight.specs.declared.PlaceRead.{PlaceRead}
+use Rattle.sight.specs.declared.Sight.{Sight}
+use Rattle.sight.specs.declared.SightRead.{SightRead}
+
+-- the empty chain's: a whole picture of that size as it is
+unfoldable pub whole : ℕ → ℕ → Sight
+whole width height = record { area = record { x = 0; y = 0; width = width; height = height }; exchanged = false; turns = 0 }
+
+-- the final size: the rectangle's sides, swapped at 1 or 3 turns
+unfoldable pub wideOf : Quarter → CropRect → ℕ
+wideOf q r = sideways (swaps q) (r .width) (r .height)
+
+unfoldable pub highOf : Quarter → CropRect → ℕ
+highOf q r = sideways (swaps q) (r .height) (r .width)
+
+unfoldable pub finalWidth : Sight → ℕ
+finalWidth s = wideOf (quarterOf (s .turns)) (s .area)
+
+unfoldable pub finalHeight : Sight → ℕ
+finalHeight s = highOf (quarterOf (s .turns)) (s .area)
+
+-- ---- places
+
+-- left and right exchanged, in a picture of that width
+unfoldable pub exchange : Bool → ℕ → Place → Place
+exchange true w l = record { x = w - 1 - l .x; y = l .y }
+exchange false w l = l
+
+-- the place of the picture that a final place shows: the turns undone, then the exchange, then the rectangle's corner added
+unfoldable pub backFrom : CropRect → Bool → Quarter → ℕ → ℕ → Place
+backFrom r m q x y =
+    let l = exchange m (r .width) (unturn q (r .width) (r .height) x y) in
+    record { x = r .x + l .x; y = r .y + l .y }
+
+unfoldable pub back : Sight → ℕ → ℕ → Place
+back s x y = backFrom (s .area) (s .exchanged) (quarterOf (s .turns)) x y
+
+-- the same, refused 18 for a place outside
+unfoldable pub placeOf : Sight → ℕ → ℕ → Out Place
+placeOf s x y = refuse (leb (finalWidth s) x) 18 (refuse (leb (finalHeight s) y) 18 (done (back s x y)))
+
+-- ---- what an entry makes of a sight
+
+-- where a rectangle of the final picture lies before the turns of a picture w by h, and before the exchange
+unfoldable pub unturnRect : Quarter → ℕ → ℕ → CropRect → CropRect
+unturnRect q0 w h c = c
+unturnRect q1 w h c = record { x = w - c .y - c .height; y = c .x; width = c .height; height = c .width }
+unturnRect q2 w h c = record { x = w - c .x - c .width; y = h - c .y - c .height; width = c .width; height = c .height }
+unturnRect q3 w h c = record { x = c .y; y = h - c .x - c .width; width = c .height; height = c .width }
+
+unfoldable pub exchangeRect : Bool → ℕ → CropRect → CropRect
+exchangeRect true w c = record { x = w - c .x - c .width; y = c .y; width = c .width; height = c .height }
+exchangeRect false w c = c
+
+-- the rectangle d of the rectangle r
+unfoldable pub within : CropRect → CropRect → CropRect
+within r d = record { x = r .x + d .x; y = r .y + d .y; width = d .width; height = d .height }
+
+unfoldable pub cropFrom : CropRect → Bool → Quarter → CropRect → CropRect
+cropFrom r m q c = within r (exchangeRect m (r .width) (unturnRect q (r .width) (r .height) c))
+
+-- clap: the rectangle c of what is seen stays
+unfoldable pub thenCrop : Sight → CropRect → Sight
+thenCrop s c = record { area = cropFrom (s .area) (s .exchanged) (quarterOf (s .turns)) c; exchanged = s .exchanged; turns = s .turns }
+
+-- irot: so many quarter turns more
+unfoldable pub thenTurn : Sight → ℕ → Sight
+thenTurn s angle = record { area = s .area; exchanged = s .exchanged; turns = (s .turns + angle) % 4 }
+
+-- imir: both exchange; left and right (true) turns t into −t, top and bottom turns t into 2 − t
+unfoldable pub mirrorTurns : Bool → ℕ → ℕ
+mirrorTurns true t = (4 - t % 4) % 4
+mirrorTurns false t = (6 - t % 4) % 4
+
+unfoldable pub thenMirror : Sight → Bool → Sight
+thenMirror s b = record { area = s .area; exchanged = not (s .exchanged); turns = mirrorTurns b (s .turns) }
+
+-- an applied entry: a clap's rectangle is that of the current final size, with its refusals; an iscl is refused 18
+unfoldable pub sightAfter : Property → Sight → Out Sight
+sightAfter Property.Other s = done s
+sightAfter (Property.Clap c) s = andThen (resolveOf c (finalWidth s) (finalHeight s)) (λ r. done (thenCrop s r))
+sightAfter (Property.Irot k) s = done (thenTurn s (k .angle))
+sightAfter (Property.Imir k) s = done (thenMirror s (odd (k .axis)))
+sightAfter (Property.Iscl k) s = refused (reason 18)
+
+-- a chain on a picture of that size, under the flag its essential entries alone
+unfoldable pub sightOf : List PropertyEntry → Bool → ℕ → ℕ → Out Sight
+sightOf es essentialOnly width height = foldChain sightAfter essentialOnly es (whole width height)
+
+-- ---- what the code answers
+
+abbrev pub sightOut : SightRead → Out Sight
+sightOut (SightRead.Sight s) = done s
+sightOut (SightRead.Refused e) = refused e
+
+abbrev pub placeOut : PlaceRead → Out Place
+placeOut (PlaceRead.Place l) = done (record { x = l .x; y = l .y })
+placeOut (PlaceRead.Refused e) = refused e
+
+-- a rectangle whose far edges are 32-bit numbers
+pub record Bounded (r : CropRect) : Type 0 where
+  pub across : r .x + r .width < 2 ^ 32
+  pub down : r .y + r .height < 2 ^ 32
+
+-- the code's place is the place
+pub record Lies (r : CanvasPlace) (l : Place) : Type 0 where
+  pub x : r .x ≡ l .x
+  pub y : r .y ≡ l .y

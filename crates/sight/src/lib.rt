@@ -1,0 +1,305 @@
+// What a chain without scaling leaves of a picture (document 01, "Point call"): a rectangle of it, exchanged or not, then turned.
+ghost use mathlib.Core.Path.{_≡_};
+ghost use Prim.Native.Nat.{_+_, _-_, _<_, _≤_};
+ghost use Rattle.laws.specs.Out.{done, andThen};
+ghost use Rattle.laws.specs.Pick.{pick};
+ghost use Rattle.props.specs.Chain.{Judged, applies, chainAt, entriesAt};
+ghost use Rattle.props.specs.Sound.{Inside};
+ghost use Rattle.transform.specs.Place.{unturn};
+ghost use Rattle.transform.specs.Turn.{quarterOf};
+ghost use Rattle.sight.specs.Sight.{whole, finalWidth, finalHeight, unturnRect, thenCrop, thenTurn, thenMirror, sightAfter, sightOf, placeOf, sightOut, placeOut, Bounded, Lies};
+use laws::Refusal;
+use props::Chain;
+use props::ChainRead;
+use props::CropRect;
+use props::EntryRead;
+use props::Property;
+use props::PropertyEntry;
+use props::Resolved;
+
+// A rectangle of a picture, its left and right exchanged or not, then 0 to 3 quarter turns anticlockwise.
+pub struct Sight {
+    pub area: CropRect,
+    pub exchanged: bool,
+    pub turns: u32,
+}
+
+pub enum SightRead {
+    Sight(Sight),
+    Refused(Refusal),
+}
+
+// A place of the picture.
+pub struct CanvasPlace {
+    pub x: u32,
+    pub y: u32,
+}
+
+pub enum PlaceRead {
+    Place(CanvasPlace),
+    Refused(Refusal),
+}
+
+impl Sight {
+    // The whole of a picture of that size, as it is.
+    pub fn new(width: u32, height: u32) -> Sight
+        ensures { λ r. ⌜ r ≡ whole width height ⌝ }
+    {
+        Sight {
+            area: CropRect {
+                x: 0,
+                y: 0,
+                width,
+                height,
+            },
+            exchanged: false,
+            turns: 0,
+        }
+    }
+
+    // The final size: the rectangle's sides, swapped at 1 or 3 turns.
+    pub fn width(self) -> u32
+        ensures { λ r. ⌜ r ≡ finalWidth self ⌝ }
+    {
+        let area = self.area;
+        if self.turns % 2 == 1 {
+            return area.height;
+        }
+        area.width
+    }
+
+    pub fn height(self) -> u32
+        ensures { λ r. ⌜ r ≡ finalHeight self ⌝ }
+    {
+        let area = self.area;
+        if self.turns % 2 == 1 {
+            return area.width;
+        }
+        area.height
+    }
+
+    // Where a rectangle of what is seen lies before the turns.
+    fn unturned(self, c: CropRect) -> CropRect
+        requires { ⌜ Inside c (finalWidth self) (finalHeight self) ⌝ }
+        ensures { λ r. ⌜ r ≡ unturnRect (quarterOf (self .turns)) (self .area .width) (self .area .height) c ⌝ }
+    {
+        let area = self.area;
+        let turns = self.turns % 4;
+        if turns == 0 {
+            return c;
+        }
+        if turns == 1 {
+            return CropRect {
+                x: area.width - c.y - c.height,
+                y: c.x,
+                width: c.height,
+                height: c.width,
+            };
+        }
+        if turns == 2 {
+            return CropRect {
+                x: area.width - c.x - c.width,
+                y: area.height - c.y - c.height,
+                width: c.width,
+                height: c.height,
+            };
+        }
+        CropRect {
+            x: c.y,
+            y: area.height - c.x - c.width,
+            width: c.height,
+            height: c.width,
+        }
+    }
+
+    // Where so many columns from an edge on lie before the exchange.
+    fn unexchanged(self, edge: u32, size: u32) -> u32
+        requires { ⌜ edge + size ≤ self .area .width ⌝ }
+        ensures { λ r. ⌜ r ≡ pick (self .exchanged) (self .area .width - edge - size) edge ⌝ }
+    {
+        let area = self.area;
+        if self.exchanged {
+            return area.width - edge - size;
+        }
+        edge
+    }
+
+    // After a crop to a rectangle of what is seen.
+    fn cropped(self, c: CropRect) -> Sight
+        requires { ⌜ Bounded (self .area) × Inside c (finalWidth self) (finalHeight self) ⌝ }
+        ensures { λ r. ⌜ r ≡ thenCrop self c ⌝ }
+    {
+        let area = self.area;
+        let d = self.unturned(c);
+        let x = self.unexchanged(d.x, d.width);
+        Sight {
+            area: CropRect {
+                x: area.x + x,
+                y: area.y + d.y,
+                width: d.width,
+                height: d.height,
+            },
+            exchanged: self.exchanged,
+            turns: self.turns,
+        }
+    }
+
+    // After so many quarter turns more.
+    fn turned(self, angle: u8) -> Sight
+        ensures { λ r. ⌜ r ≡ thenTurn self angle ⌝ }
+    {
+        let area = self.area;
+        Sight {
+            area,
+            exchanged: self.exchanged,
+            turns: (self.turns % 4 + angle as u32) % 4,
+        }
+    }
+
+    // After an exchange of left and right, or of top and bottom.
+    fn mirrored(self, sideways: bool) -> Sight
+        ensures { λ r. ⌜ r ≡ thenMirror self sideways ⌝ }
+    {
+        let area = self.area;
+        let turns = self.turns % 4;
+        if sideways {
+            return Sight {
+                area,
+                exchanged: !self.exchanged,
+                turns: (4 - turns) % 4,
+            };
+        }
+        Sight {
+            area,
+            exchanged: !self.exchanged,
+            turns: (6 - turns) % 4,
+        }
+    }
+
+    // After a property. Refusals: a clap's, 18 an iscl.
+    fn after(self, property: Property) -> SightRead
+        requires { ⌜ Bounded (self .area) ⌝ }
+        ensures { λ r. ⌜ sightOut r ≡ sightAfter property self ⌝ }
+    {
+        match property {
+            Property::Other => SightRead::Sight(self),
+            Property::Clap(c) => {
+                let found = c.resolve(self.width(), self.height());
+                let Resolved::Rect(r) = found else {
+                    return SightRead::Refused(found.refusal());
+                };
+                SightRead::Sight(self.cropped(r))
+            }
+            Property::Irot(k) => SightRead::Sight(self.turned(k.angle)),
+            Property::Imir(k) => SightRead::Sight(self.mirrored(k.axis % 2 == 1)),
+            Property::Iscl(_) => SightRead::Refused(Refusal::POINT),
+        }
+    }
+
+    // After an entry: under the flag a property that is not essential is skipped.
+    fn after_entry(self, entry: PropertyEntry, essential_only: bool) -> SightRead
+        requires { ⌜ Bounded (self .area) ⌝ }
+        ensures { λ r. ⌜ sightOut r ≡ pick (applies «essential_only» entry) (sightAfter (entry .property) self) (done self) ⌝ }
+    {
+        let property = entry.property;
+        if essential_only {
+            if entry.essential {
+                return self.after(property);
+            }
+            return SightRead::Sight(self);
+        }
+        self.after(property)
+    }
+
+    // Where a place of what is seen lies before the turns.
+    fn unturned_place(self, column: u32, row: u32) -> CanvasPlace
+        requires { ⌜ (column < finalWidth self) × (row < finalHeight self) ⌝ }
+        ensures { λ r. ⌜ Lies r (unturn (quarterOf (self .turns)) (self .area .width) (self .area .height) column row) ⌝ }
+    {
+        let area = self.area;
+        let turns = self.turns % 4;
+        if turns == 0 {
+            return CanvasPlace { x: column, y: row };
+        }
+        if turns == 1 {
+            return CanvasPlace {
+                x: area.width - 1 - row,
+                y: column,
+            };
+        }
+        if turns == 2 {
+            return CanvasPlace {
+                x: area.width - 1 - column,
+                y: area.height - 1 - row,
+            };
+        }
+        CanvasPlace {
+            x: row,
+            y: area.height - 1 - column,
+        }
+    }
+
+    // The place of the picture that a final place shows. Refusal: 18 a place outside.
+    pub fn place(self, column: u32, row: u32) -> PlaceRead
+        requires { ⌜ Bounded (self .area) ⌝ }
+        ensures { λ r. ⌜ placeOut r ≡ placeOf self column row ⌝ }
+    {
+        if self.width() <= column {
+            return PlaceRead::Refused(Refusal::POINT);
+        }
+        if self.height() <= row {
+            return PlaceRead::Refused(Refusal::POINT);
+        }
+        let area = self.area;
+        let l = self.unturned_place(column, row);
+        let x = self.unexchanged(l.x, 1);
+        PlaceRead::Place(CanvasPlace {
+            x: area.x + x,
+            y: area.y + l.y,
+        })
+    }
+}
+
+// What the entries of a chain that was judged leave of a picture of that size. Refusals: the entries' in turn.
+pub fn reduce_judged(
+    s: &[u8],
+    chain: Chain,
+    essential_only: bool,
+    width: u32,
+    height: u32,
+) -> SightRead
+    requires { ⌜ Judged (now s) chain ⌝ }
+    ensures { λ r. ⌜ sightOut r ≡ andThen (entriesAt (chain .count) (now (s .entry)) (chain .first)) (λ es. sightOf es «essential_only» width height) ⌝ }
+{
+    let mut next = chain.first;
+    let mut left = chain.count;
+    let mut reached = Sight::new(width, height);
+    while left > 0 {
+        let EntryRead::Read(e) = props::read_entry(s, next) else {
+            return SightRead::Refused(Refusal::MALFORMED);
+        };
+        let entry = e.entry;
+        match reached.after_entry(entry, essential_only) {
+            SightRead::Refused(r) => {
+                return SightRead::Refused(r);
+            }
+            SightRead::Sight(z) => {
+                reached = z;
+            }
+        }
+        next = e.next;
+        left -= 1;
+    }
+    SightRead::Sight(reached)
+}
+
+// What a chain, judged whole, leaves of a picture of that size; under the flag only its essential entries are applied. Refusals: the
+// chain's, then the entries' in turn.
+pub fn reduce(chain: &[u8], essential_only: bool, width: u32, height: u32) -> SightRead
+    ensures { λ r. ⌜ sightOut r ≡ andThen (chainAt (now (chain .entry)) 0) (λ es. sightOf es «essential_only» width height) ⌝ }
+{
+    match props::check_chain(chain, 0) {
+        ChainRead::Refused(e) => SightRead::Refused(e),
+        ChainRead::Read(c) => reduce_judged(chain, c, essential_only, width, height),
+    }
+}
