@@ -1,6 +1,6 @@
 -- Laws of samples as bytes, and of a tight record's parts and their lengths. Assumes nothing.
 use mathlib.Core.List.{List, [], _++_, _∷_}
-use mathlib.Core.Path.{_∙_, _≡_, ap, ap₂, sym}
+use mathlib.Core.Path.{_∙_, _≡_, ap, ap₂, refl, sym}
 use Prim.Native.Nat.{_%_, _*_, _+_, _-_, _/_, _<_, _^_, _≤_, suc, zero, ℕ}
 use native.Mathlib.Nat.{suc-mul}
 use native.Mathlib.Numerals.{add-one}
@@ -9,11 +9,11 @@ use lib.ListN.{List·getD-append, List·getD-eq-default, drop, getD, length, len
 use lib.Seq.{drop-cons, drop-drop, getD-append-add, getD-drop, getD-take, set-set, take-add}
 use borrow.Author.Tests.{eq-eqb, ne-eqb}
 use Rattle.laws.proofs.Order.{by-equal, by-order, pick-false, pick-true}
-use Rattle.laws.proofs.Span.{length-span-all}
+use Rattle.laws.proofs.Span.{length-span-all, span-cong}
 use Rattle.laws.specs.Pick.{pick}
 use Rattle.laws.specs.Puts.{puts}
 use Rattle.laws.specs.Span.{run, span}
-use Rattle.image.specs.Bytes.{Bytes, dataOf, sampleAt, sampleBytes, samplesOf}
+use Rattle.image.specs.Bytes.{Bytes, dataOf, evenBytes, sampleAt, sampleBytes, samplesOf}
 use Rattle.image.specs.Line.{lineBytes, placeOn}
 use Rattle.image.specs.declared.record.Plane.{Plane}
 use Rattle.image.specs.declared.samples.Line.{Line}
@@ -124,3 +124,19 @@ bytes-drop n l f i = rw (getD-drop n l i 0) (f (n + i))
 pub data-bytes : (s : List ℕ) (q : Plane) → Bytes s → Bytes (dataOf s q)
 unfolding dataOf
 data-bytes s q b = bytes-take (q .len) (drop (q .start) s) (bytes-drop (q .start) s b)
+
+-- ---- the same sample again and again
+
+pub length-even : (b : List ℕ) (n : ℕ) → length (evenBytes b n) ≡ n * length b
+unfolding evenBytes
+length-even b n = length-span-all (λ x. b) (length b) n (λ i. refl)
+
+pub even-one : (bytes v n : ℕ) → bytes ≡ 1 → samplesOf bytes (λ x. v) n ≡ evenBytes (v % 256 ∷ []) n
+unfolding samplesOf evenBytes
+even-one bytes v n e = span-cong _ _ 0 n (λ i a b. sample-one bytes v e)
+
+pub even-two : (bytes v n : ℕ) → (bytes ≡ 1 → ⊥) → v < 65536 → samplesOf bytes (λ x. v) n ≡ evenBytes (v % 256 ∷ v / 256 ∷ []) n
+unfolding samplesOf evenBytes
+even-two bytes v n e h =
+    let q : v / 256 % 256 ≡ v / 256 = omega arith in
+    span-cong _ _ 0 n (λ i a b. sample-two bytes v e ∙ ap (λ (k : ℕ). v % 256 ∷ k ∷ []) q)

@@ -18,7 +18,7 @@ use Rattle.numbers.specs.Number.{numberBytes, onNumber}
 use Rattle.image.proofs.ByteLaws.{data-bytes, length-sampleBytes, length-samplesOf, sample-one, sample-small, sample-two}
 use Rattle.image.proofs.FormLaws.{bytes-few, height-le, row-le, rows-some, size-le, width-le}
 use Rattle.image.proofs.RecordLaws.{form-taken, format-taken}
-use Rattle.image.specs.Bytes.{Bytes, dataOf, decode, encode, headBytes, planeBytes, planeHead, planeSize, promotedIn, rowBytes, rowsBytes, sampleAt, sampleBytes, sampleIn, samplesOf, sizeOf}
+use Rattle.image.specs.Bytes.{Bytes, dataOf, decode, encode, headBytes, placed, planeBytes, planeHead, planeSize, promotedIn, rowBytes, rowsBytes, sampleAt, sampleBytes, sampleIn, samplesOf, sizeOf, tightAt}
 use Rattle.image.specs.Format.{bytesOf, columnsOf, hasPart, rowSize, rowsOf}
 use Rattle.image.specs.Picture.{Pic, full, pixel, promote}
 use Rattle.image.specs.Record.{headAt, headOf, partAt, past, planeAt, planeOf, planesAt, recordAt, recordOf}
@@ -53,10 +53,6 @@ length-encode P = simp (length-append, length-planeBytes)
 
 -- ---- the parts of a record in turn
 
--- the plane of a part whose bytes begin at a place
-unfoldable pub placed : Form → Part → ℕ → Plane
-placed m p at = pick (hasPart (m .format) p) (record { start = at + length (planeHead m p); len = rowsOf m p * rowSize m p; stride = rowSize m p }) (record { start = at; len = 0; stride = 0 })
-
 pub plane-some : (P : Pic) (p : Part) → hasPart (P .form .format) p ≡ true → planeBytes P p ≡ planeHead (P .form) p ++ rowsBytes P p
 unfolding planeBytes
 plane-some P p h = pick-true _ _ _ h
@@ -65,11 +61,11 @@ pub plane-none : (P : Pic) (p : Part) → hasPart (P .form .format) p ≡ false 
 unfolding planeBytes
 plane-none P p h = pick-false _ _ _ h
 
-placed-some : (m : Form) (p : Part) (at : ℕ) → hasPart (m .format) p ≡ true → placed m p at ≡ record { start = at + length (planeHead m p); len = rowsOf m p * rowSize m p; stride = rowSize m p }
+pub placed-some : (m : Form) (p : Part) (at : ℕ) → hasPart (m .format) p ≡ true → placed m p at ≡ record { start = at + length (planeHead m p); len = rowsOf m p * rowSize m p; stride = rowSize m p }
 unfolding placed
 placed-some m p at h = pick-true _ _ _ h
 
-placed-none : (m : Form) (p : Part) (at : ℕ) → hasPart (m .format) p ≡ false → placed m p at ≡ record { start = at; len = 0; stride = 0 }
+pub placed-none : (m : Form) (p : Part) (at : ℕ) → hasPart (m .format) p ≡ false → placed m p at ≡ record { start = at; len = 0; stride = 0 }
 unfolding placed
 placed-none m p at h = pick-false _ _ _ h
 
@@ -162,15 +158,11 @@ head-back m ok s at rest e =
 
 -- ---- the record
 
--- where the tight record of a form that begins at a place has its planes
-unfoldable pub tightAt : Form → ℕ → Frame
-tightAt m at =
-    let a = at + length (headBytes m) in
-    let luma = placed m Luma a in
-    let cb = placed m Cb (past luma) in
-    let cr = placed m Cr (past cb) in
-    let alpha = placed m Alpha (past cr) in
-    record { form = m; luma = luma; cb = cb; cr = cr; alpha = alpha; end = past alpha }
+-- its planes, one after the other
+pub tight-planes : (m : Form) (at a : ℕ) (luma cb cr alpha : Plane) → a ≡ at + length (headBytes m) → luma ≡ placed m Luma a → cb ≡ placed m Cb (past luma)
+    → cr ≡ placed m Cr (past cb) → alpha ≡ placed m Alpha (past cr) → record { form = m; luma = luma; cb = cb; cr = cr; alpha = alpha; end = past alpha } ≡ tightAt m at
+unfolding tightAt
+tight-planes m at a luma cb cr alpha e p q r t = rw (← e, ← p, ← q, ← r, ← t)
 
 -- the tight record of a picture is taken where it stands, its planes hold the picture's rows, and what follows it stands past its end
 pub record Back (P : Pic) (s : List ℕ) (at : ℕ) (rest : List ℕ) : Type 0 where

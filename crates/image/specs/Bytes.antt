@@ -9,7 +9,7 @@ use Rattle.laws.specs.Pick.{pick}
 use Rattle.laws.specs.Span.{span}
 use Rattle.numbers.specs.Number.{numberBytes}
 use Rattle.image.specs.Format.{middleOf, bytesOf, hasPart, halfX, halfY, cover, columnsOf, rowsOf, rowSize}
-use Rattle.image.specs.Record.{planeOf}
+use Rattle.image.specs.Record.{planeOf, past}
 use Rattle.image.specs.Picture.{Pic}
 use Rattle.image.specs.declared.format.Part.{Part}
 use Rattle.image.specs.declared.format.Part.the-variants.{Luma, Cb, Cr, Alpha}
@@ -61,6 +61,10 @@ sampleBytes bytes v = pick (eqb bytes 1) (v % 256 ∷ []) (v % 256 ∷ v / 256 %
 unfoldable pub samplesOf : ℕ → (ℕ → ℕ) → ℕ → List ℕ
 samplesOf bytes f n = span (λ x. sampleBytes bytes (f x)) 0 n
 
+-- the same bytes again and again
+unfoldable pub evenBytes : List ℕ → ℕ → List ℕ
+evenBytes b n = span (λ x. b) 0 n
+
 unfoldable pub rowBytes : Pic → Part → ℕ → List ℕ
 rowBytes P p y = samplesOf (bytesOf (P .form .format)) (λ x. P .at p x y) (columnsOf (P .form) p)
 
@@ -89,3 +93,19 @@ planeSize m p = pick (hasPart (m .format) p) (length (planeHead m p) + rowsOf m 
 
 unfoldable pub sizeOf : Form → ℕ
 sizeOf m = length (headBytes m) + (planeSize m Luma + (planeSize m Cb + (planeSize m Cr + planeSize m Alpha)))
+
+-- ---- where its planes stand
+
+-- the plane of a part whose bytes begin at a place
+unfoldable pub placed : Form → Part → ℕ → Plane
+placed m p at = pick (hasPart (m .format) p) (record { start = at + length (planeHead m p); len = rowsOf m p * rowSize m p; stride = rowSize m p }) (record { start = at; len = 0; stride = 0 })
+
+-- where the tight record of a form that begins at a place has its planes
+unfoldable pub tightAt : Form → ℕ → Frame
+tightAt m at =
+    let a = at + length (headBytes m) in
+    let luma = placed m Luma a in
+    let cb = placed m Cb (past luma) in
+    let cr = placed m Cr (past cb) in
+    let alpha = placed m Alpha (past cr) in
+    record { form = m; luma = luma; cb = cb; cr = cr; alpha = alpha; end = past alpha }

@@ -3,7 +3,7 @@ ghost use mathlib.Core.Path.{_≡_};
 ghost use mathlib.Core.Bool.{_&&_, _||_};
 ghost use Prim.Native.Nat.{_*_, _≤_};
 ghost use Rattle.image.specs.Format.{topOf, middleOf, bytesOf, hasPart, planeCount, halvesX, halvesY, halfX, halfY, sideOf, rowsOf, rowSize, formatOf, formatOut};
-ghost use Rattle.image.specs.Picture.{needs444, as444, sized};
+ghost use Rattle.image.specs.Picture.{needs444, as444, odd, sized};
 ghost use Rattle.image.specs.Sound.{FormSound};
 use laws::Refusal;
 
@@ -250,6 +250,12 @@ pub fn either(a: bool, b: bool) -> bool
         return true;
     }
     b
+}
+
+pub fn is_odd(n: u32) -> bool
+    ensures { λ r. ⌜ r ≡ odd n ⌝ }
+{
+    n % 2 == 1
 }
 
 // How many samples stand along n pixels.

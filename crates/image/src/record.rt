@@ -3,7 +3,7 @@ ghost use mathlib.Core.Path.{_≡_};
 ghost use Prim.Native.Nat.{_≤_, _<_, _^_};
 ghost use lib.ListN.{length};
 ghost use Rattle.image.specs.Record.{headOf, headAt, planeAt, partAt, planesAt, recordAt, recordOf, planeOf, headOut, planeOut, frameOut};
-ghost use Rattle.image.specs.Tray.{trayOf, trayOut, trayCount};
+ghost use Rattle.image.specs.Tray.{framesAt, trayOf, trayOut, trayCount};
 ghost use Rattle.image.specs.Sound.{FormSound};
 use crate::format::Form;
 use crate::format::FormatRead;
@@ -237,6 +237,29 @@ pub fn parse_record(s: &[u8]) -> FrameRead
     }
 }
 
+// So many records in turn from a place on, and nothing after.
+pub fn check_records(s: &[u8], at: usize, count: u32) -> TrayRead
+    ensures { λ r. ⌜ trayOut r ≡ trayCount (framesAt count (now (s .entry)) at) ⌝ }
+{
+    let mut next = at;
+    let mut left = count;
+    while left > 0 {
+        match read_record(s, next) {
+            FrameRead::Refused(e) => {
+                return TrayRead::Refused(e);
+            }
+            FrameRead::Read(f) => {
+                next = f.end;
+            }
+        }
+        left -= 1;
+    }
+    if next < s.len() {
+        return TrayRead::Refused(Refusal::MALFORMED);
+    }
+    TrayRead::Read(count)
+}
+
 // A tray: a count, then that many records, nothing after.
 pub fn check_tray(s: &[u8]) -> TrayRead
     ensures { λ r. ⌜ trayOut r ≡ trayCount (trayOf (now (s .entry))) ⌝ }
@@ -248,23 +271,7 @@ pub fn check_tray(s: &[u8]) -> TrayRead
     else {
         return TrayRead::Refused(Refusal::MALFORMED);
     };
-    let mut at = first;
-    let mut left = count;
-    while left > 0 {
-        match read_record(s, at) {
-            FrameRead::Refused(e) => {
-                return TrayRead::Refused(e);
-            }
-            FrameRead::Read(f) => {
-                at = f.end;
-            }
-        }
-        left -= 1;
-    }
-    if at < s.len() {
-        return TrayRead::Refused(Refusal::MALFORMED);
-    }
-    TrayRead::Read(count)
+    check_records(s, first, count)
 }
 
 impl Frame {

@@ -1,10 +1,11 @@
 // Samples and rows of a plane. A plane is a part of the slice that holds its record, handed on as a slice of its own.
+ghost use mathlib.Core.List.{[], _∷_};
 ghost use mathlib.Core.Path.{_≡_};
 ghost use Prim.Native.Nat.{ℕ, _+_, _*_, _<_, _≤_, _^_};
 ghost use lib.ListN.{length, take, drop};
 ghost use Rattle.laws.specs.Puts.{puts};
 ghost use Rattle.image.specs.Format.{cover};
-ghost use Rattle.image.specs.Bytes.{dataOf, sampleIn, sampleBytes, promotedIn, PromotedFits};
+ghost use Rattle.image.specs.Bytes.{dataOf, evenBytes, sampleIn, sampleBytes, samplesOf, promotedIn, PromotedFits};
 ghost use Rattle.image.specs.Line.{LineFits, lineBytes};
 use crate::format::Part;
 use crate::format::PixelFormat;
@@ -97,6 +98,44 @@ pub fn copy_row(out: &mut [u8], at: usize, row: &[u8]) -> usize
         i += 1;
     }
     at + n
+}
+
+// Writes one byte n times at `at`, and returns the place past them.
+fn fill_bytes(out: &mut [u8], at: usize, v: u8, n: usize) -> usize
+    requires { ⌜ at + n ≤ length (now out) ⌝ }
+    ensures { λ r. ⌜ (r ≡ at + n) × (now (out .exit) ≡ puts (now (out .entry)) at (evenBytes (v ∷ []) n)) ⌝ }
+{
+    let mut k: usize = 0;
+    while k < n {
+        out[at + k] = v;
+        k += 1;
+    }
+    at + n
+}
+
+// Writes two bytes n times at `at`, and returns the place past them.
+fn fill_pairs(out: &mut [u8], at: usize, low: u8, high: u8, n: usize) -> usize
+    requires { ⌜ at + 2 * n ≤ length (now out) ⌝ }
+    ensures { λ r. ⌜ (r ≡ at + 2 * n) × (now (out .exit) ≡ puts (now (out .entry)) at (evenBytes (low ∷ high ∷ []) n)) ⌝ }
+{
+    let mut k: usize = 0;
+    while k < n {
+        out[at + 2 * k] = low;
+        out[at + 2 * k + 1] = high;
+        k += 1;
+    }
+    at + 2 * n
+}
+
+// Writes one sample n times at `at`, and returns the place past them.
+pub fn fill_row(out: &mut [u8], at: usize, bytes: usize, v: u16, n: usize) -> usize
+    requires { ⌜ (1 ≤ bytes) × (bytes ≤ 2) × (at + n * bytes ≤ length (now out)) ⌝ }
+    ensures { λ r. ⌜ (r ≡ at + n * bytes) × (now (out .exit) ≡ puts (now (out .entry)) at (samplesOf bytes (λ x. v) n)) ⌝ }
+{
+    if bytes == 1 {
+        return fill_bytes(out, at, (v % 256) as u8, n);
+    }
+    fill_pairs(out, at, (v % 256) as u8, (v / 256) as u8, n)
 }
 
 // A line of samples through a plane. Its k-th sample stands at origin + u × step bytes, where u is from + k or from - k

@@ -3,10 +3,12 @@ ghost use mathlib.Core.Path.{_≡_};
 ghost use Prim.Native.Nat.{_+_, _*_, _≤_, _<_, _^_};
 ghost use lib.ListN.{length};
 ghost use Rattle.laws.specs.Puts.{puts};
-ghost use Rattle.image.specs.Bytes.{headBytes, planeHead, planeSize, sizeOf};
+ghost use Rattle.image.specs.Bytes.{headBytes, placed, planeHead, planeSize, sizeOf, tightAt};
 ghost use Rattle.image.specs.Sound.{FormSound};
 use crate::format::Form;
 use crate::format::Part;
+use crate::record::Frame;
+use crate::record::Plane;
 
 // Writes a record's five first numbers at `at`, and returns the place past them.
 pub fn write_head(out: &mut [u8], at: usize, form: Form) -> usize
@@ -68,4 +70,47 @@ pub fn record_size(form: Form) -> usize
     let cr = plane_size(form, Part::Cr);
     let alpha = plane_size(form, Part::Alpha);
     head + luma + cb + cr + alpha
+}
+
+// The plane of a part of a tight record whose numbers and bytes begin at `at`.
+fn placed(form: Form, part: Part, at: usize) -> Plane
+    requires { ⌜ FormSound form × (at ≤ 2 ^ 40) ⌝ }
+    ensures { λ r. ⌜ (r ≡ placed form part at) × (r .start + r .len < at + 2 ^ 33) ⌝ }
+{
+    let f = form.format;
+    if f.has(part) {
+        let row = form.row_size(part);
+        let len = form.plane_len(part);
+        let head = numbers::number_length(row) + numbers::number_length(len);
+        return Plane {
+            start: at + head,
+            len: len as usize,
+            stride: row as usize,
+        };
+    }
+    Plane {
+        start: at,
+        len: 0,
+        stride: 0,
+    }
+}
+
+// Where the tight record of a form has its planes.
+pub fn tight(form: Form) -> Frame
+    requires { ⌜ FormSound form ⌝ }
+    ensures { λ r. ⌜ r ≡ tightAt form 0 ⌝ }
+{
+    let luma = placed(form, Part::Luma, head_size(form));
+    let cb = placed(form, Part::Cb, luma.start + luma.len);
+    let cr = placed(form, Part::Cr, cb.start + cb.len);
+    let alpha = placed(form, Part::Alpha, cr.start + cr.len);
+    let end = alpha.start + alpha.len;
+    Frame {
+        form,
+        luma,
+        cb,
+        cr,
+        alpha,
+        end,
+    }
 }

@@ -23,12 +23,6 @@ use props::Imir;
 use props::Irot;
 use props::Resolved;
 
-fn is_odd(n: u32) -> bool
-    ensures { λ r. ⌜ r ≡ odd n ⌝ }
-{
-    n % 2 == 1
-}
-
 fn form_with(promoted: bool, m: Form) -> Form
     ensures { λ r. ⌜ r ≡ formWith promoted m ⌝ }
 {
@@ -41,8 +35,8 @@ fn form_with(promoted: bool, m: Form) -> Form
 fn crop_move(m: Form, r: CropRect) -> Move
     ensures { λ v. ⌜ v ≡ cropMove m r ⌝ }
 {
-    let x_odd = image::either(is_odd(r.x), is_odd(r.width));
-    let y_odd = image::either(is_odd(r.y), is_odd(r.height));
+    let x_odd = image::either(image::is_odd(r.x), image::is_odd(r.width));
+    let y_odd = image::either(image::is_odd(r.y), image::is_odd(r.height));
     let f = m.format;
     let promoted = f.needs_444(x_odd, y_odd);
     Move {
@@ -84,8 +78,8 @@ fn quarter_move(m: Form, left: bool, up: bool) -> Move
 {
     let f = m.format;
     let lopsided = f.chroma == 2;
-    let x_odd = image::either(lopsided, is_odd(m.width));
-    let y_odd = image::either(lopsided, is_odd(m.height));
+    let x_odd = image::either(lopsided, image::is_odd(m.width));
+    let y_odd = image::either(lopsided, image::is_odd(m.height));
     let promoted = f.needs_444(x_odd, y_odd);
     Move {
         form: form_with(promoted, m).sized(m.height, m.width),
@@ -101,7 +95,7 @@ fn half_move(m: Form) -> Move
     ensures { λ v. ⌜ v ≡ halfMove m ⌝ }
 {
     let f = m.format;
-    let promoted = f.needs_444(is_odd(m.width), is_odd(m.height));
+    let promoted = f.needs_444(image::is_odd(m.width), image::is_odd(m.height));
     Move {
         form: form_with(promoted, m).sized(m.width, m.height),
         promoted,

@@ -11,7 +11,7 @@ use Rattle.image.proofs.format.PixelFormat.needs_444.Reads as needs-444-reads
 use Rattle.image.proofs.either.Reads as either-reads
 use Rattle.transform.proofs.end_axis.Reads as end-axis-reads
 use Rattle.transform.proofs.form_with.Reads as form-with-reads
-use Rattle.transform.proofs.is_odd.Reads as is-odd-reads
+use Rattle.image.proofs.is_odd.Reads as is-odd-reads
 
 -- src/lib.rt:85:41
 is-odd-requires : tie.Need-is-odd-requires

@@ -1,0 +1,12 @@
+pub mod CellLaws
+pub mod TilesLaws
+pub mod StoreLaws
+pub mod LaidLaws
+pub mod CellFits
+pub mod Suited
+pub mod PaintLaws
+pub mod PasteLaws
+pub mod MosaicLaws
+pub mod GridLaws
+pub mod Composed
+pub mod Cases

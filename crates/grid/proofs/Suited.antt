@@ -1,0 +1,214 @@
+-- Laws of a tile that suits its canvas: its rows are read and written inside, and stored they are the tile's part. Assumes nothing.
+use mathlib.Core.Bool.{Bool, _&&_, false, not, true}
+use mathlib.Core.List.{List}
+use mathlib.Core.Path.{_∙_, _≡_, ap, ap₂, refl, sym}
+use Prim.Native.Nat.{_*_, _+_, _<_, _≤_, ℕ}
+use native.Mathlib.Omega.{arith}
+use lib.Dec.{leb}
+use lib.ListN.{length}
+use lib.Pow.{high, low}
+use borrow.Author.Tests.{eqb-false, ne-eqb, not-true}
+use Rattle.laws.proofs.Order.{pick-both, pick-false, pick-true, positive}
+use Rattle.laws.proofs.Span.{span-cong}
+use Rattle.laws.specs.Pick.{pick}
+use Rattle.image.proofs.FormLaws.{bytes-few, columns-le, cover-in, width-le}
+use Rattle.image.proofs.PictureLaws.{parts-444}
+use Rattle.image.proofs.RecordLaws.{sample-inside}
+use Rattle.image.specs.Bytes.{dataOf, decode, sampleAt, sampleBytes, sampleIn, samplesOf, tightAt}
+use Rattle.image.specs.Format.{bytesOf, columnsOf, cover, halfX, halfY, halved, halvesX, halvesY, hasAlpha, hasPart, isMono, rowSize, rowsOf, sideOf}
+use Rattle.image.specs.Line.{lineBytes}
+use Rattle.image.specs.Picture.{Pic, as444, full, pixel, promote}
+use Rattle.image.specs.Record.{planeOf}
+use Rattle.image.specs.Sound.{FormSound}
+use Rattle.image.specs.declared.format.Form.{Form}
+use Rattle.image.specs.declared.format.Part.{Part}
+use Rattle.image.specs.declared.format.Part.the-variants.{Alpha, Cb, Cr, Luma}
+use Rattle.image.specs.declared.format.PixelFormat.{PixelFormat}
+use Rattle.image.specs.declared.record.Frame.{Frame}
+use Rattle.grid.proofs.CellFits.{cell-cases, cell-is, writes-le}
+use Rattle.grid.proofs.CellLaws.{line-place, rows-cong, rows-none, visible-tile}
+use Rattle.grid.specs.Cell.{RowsFit, Suits, cellOf, noCell, storeCell, storePart, storeRows, tileForm, tileLine, tilePic, visibleOf}
+use Rattle.grid.specs.declared.cell.Cell.{Cell}
+
+-- ---- the tile's form
+
+pub tile-sound : (b : Bool) (m : Form) → FormSound m → FormSound (tileForm b m)
+unfolding tileForm pick as444
+tile-sound true m ok = record { chroma = omega arith; low = ok .low; high = ok .high; alpha = ok .alpha; wide = ok .wide; tall = ok .tall; area = ok .area }
+tile-sound false m ok = ok
+
+pub tile-parts : (b : Bool) (m : Form) → (b ≡ true → isMono (m .format) ≡ false) → (p : Part) → hasPart (tileForm b m .format) p ≡ hasPart (m .format) p
+unfolding tileForm pick
+tile-parts true m colour p = parts-444 m (colour refl) p
+tile-parts false m colour p = refl
+
+pub tile-bytes : (b : Bool) (m : Form) → bytesOf (tileForm b m .format) ≡ bytesOf (m .format)
+unfolding tileForm pick as444 bytesOf
+tile-bytes true m = refl
+tile-bytes false m = refl
+
+tile-alpha : (b : Bool) (m : Form) → tileForm b m .format .alpha ≡ m .format .alpha
+unfolding tileForm pick as444
+tile-alpha true m = refl
+tile-alpha false m = refl
+
+pub same-bytes : (f g : PixelFormat) → f .depth ≡ g .depth → bytesOf f ≡ bytesOf g
+unfolding bytesOf
+same-bytes f g e = ap (λ (d : ℕ). pick (leb d 8) 1 2) e
+
+pub tilePic-form : (b : Bool) (P : Pic) → tilePic b P .form ≡ tileForm b (P .form)
+unfolding tilePic tileForm pick promote
+tilePic-form true P = refl
+tilePic-form false P = refl
+
+-- along one axis: the sample that covers a place of the tile is there
+tile-cover : (b h : Bool) (n x : ℕ) → x < pick b n (sideOf h n) → cover (b && h) x < sideOf h n
+unfolding pick cover
+tile-cover true h n x l = cover-in h x n l
+tile-cover false h n x l = l
+
+tile-columns : (b : Bool) (m : Form) (p : Part) → columnsOf (tileForm b m) p ≡ pick b (m .width) (sideOf (halfX (m .format) p) (m .width))
+unfolding tileForm pick columnsOf as444 halvesX halved sideOf
+tile-columns true m Luma = refl
+tile-columns true m Cb = refl
+tile-columns true m Cr = refl
+tile-columns true m Alpha = refl
+tile-columns false m p = refl
+
+tile-rows : (b : Bool) (m : Form) (p : Part) → rowsOf (tileForm b m) p ≡ pick b (m .height) (sideOf (halfY (m .format) p) (m .height))
+unfolding tileForm pick rowsOf as444 halvesY halved sideOf
+tile-rows true m Luma = refl
+tile-rows true m Cb = refl
+tile-rows true m Cr = refl
+tile-rows true m Alpha = refl
+tile-rows false m p = refl
+
+module _ (b : Bool) (m : Form) (p : Part) where
+  pub covered-column : (x : ℕ) → x < columnsOf (tileForm b m) p → cover (b && halfX (m .format) p) x < columnsOf m p
+  unfolding columnsOf
+  covered-column x l = tile-cover b (halfX (m .format) p) (m .width) x (rw (tile-columns b m p) at l)
+
+  pub covered-row : (y : ℕ) → y < rowsOf (tileForm b m) p → cover (b && halfY (m .format) p) y < rowsOf m p
+  unfolding rowsOf
+  covered-row y l = tile-cover b (halfY (m .format) p) (m .height) y (rw (tile-rows b m p) at l)
+
+-- ---- a tile and its canvas
+
+canvas-has : (f g : PixelFormat) (p : Part) → g .chroma ≡ f .chroma → f .alpha ≤ g .alpha → hasPart f p ≡ true → hasPart g p ≡ true
+unfolding hasPart isMono hasAlpha
+canvas-has f g Luma e l h = refl
+canvas-has f g Cb e l h = rw e h
+canvas-has f g Cr e l h = rw e h
+canvas-has f g Alpha e l h = ap not (ne-eqb (g .alpha) 0 (λ z. none z))
+  where
+    some : 1 ≤ f .alpha
+    some = positive (f .alpha) (eqb-false (f .alpha) 0 (not-true _ h))
+
+    none : g .alpha ≡ 0 → ⊥
+    none z = omega (arith, some)
+
+module _ (s : List ℕ) (fr : Frame) (c : Form) (b : Bool) (n : ℕ) (ok : Suits s fr c b n) (p : Part) where
+  pub suits-canvas : hasPart (fr .form .format) p ≡ true → hasPart (c .format) p ≡ true
+  suits-canvas h =
+      canvas-has (tileForm b (fr .form) .format) (c .format) p (ok .chroma) (rw (tile-alpha b (fr .form)) (ok .alpha)) (tile-parts b (fr .form) (ok .colour) p ∙ h)
+
+  pub suits-bytes : bytesOf (tileForm b (fr .form) .format) ≡ bytesOf (c .format)
+  suits-bytes = tile-bytes b (fr .form) ∙ sym (same-bytes (c .format) (fr .form .format) (ok .depth))
+
+  -- its rows are read and written inside
+  pub suits-rows : hasPart (fr .form .format) p ≡ true → (column row : ℕ) (k : Cell) → k ≡ cellOf c (tileForm b (fr .form)) column row p → (k .down ≡ 0 → ⊥)
+      → RowsFit n (length (dataOf s (planeOf fr p))) (k .at) (k .stride) (bytesOf (fr .form .format)) (planeOf fr p .stride) (b && halfX (fr .form .format) p) (b && halfY (fr .form .format) p) (k .across) (k .down)
+  unfolding noCell
+  suits-rows h column row k e =
+      rw e
+      (cell-cases c t column row p
+      (λ (k : Cell). (k .down ≡ 0 → ⊥) → RowsFit n (length (dataOf s (planeOf fr p))) (k .at) (k .stride) (bytesOf (fr .form .format)) (planeOf fr p .stride) (b && halfX (fr .form .format) p) (b && halfY (fr .form .format) p) (k .across) (k .down))
+      (λ z. absurd (z refl))
+      (λ x y z. rw (cell-is c t (ok .canvas) p (suits-canvas h) suits-bytes column row x y) (fit x y)))
+    where
+      t : Form
+      t = tileForm b (fr .form)
+
+      few : (1 ≤ bytesOf (fr .form .format)) × (bytesOf (fr .form .format) ≤ 2)
+      few = bytes-few (fr .form .format)
+
+      same : bytesOf (fr .form .format) ≡ bytesOf (c .format)
+      same = sym (same-bytes (c .format) (fr .form .format) (ok .depth))
+
+      okt : FormSound t
+      okt = tile-sound b (fr .form) (ok .sound .form)
+
+      fit : (visibleOf (columnsOf c p) (columnsOf t p) column ≡ 0 → ⊥) → (visibleOf (rowsOf c p) (rowsOf t p) row ≡ 0 → ⊥)
+          → RowsFit n (length (dataOf s (planeOf fr p))) (planeOf (tightAt c 0) p .start + (row * rowsOf t p * rowSize c p + column * rowSize t p)) (rowSize c p) (bytesOf (fr .form .format)) (planeOf fr p .stride)
+          (b && halfX (fr .form .format) p) (b && halfY (fr .form .format) p) (visibleOf (columnsOf c p) (columnsOf t p) column) (visibleOf (rowsOf c p) (rowsOf t p) row)
+      fit x y =
+          record {
+            some = few .0;
+            few = few .1;
+            any = positive _ x;
+            wide = omega (arith, visible-tile (columnsOf c p) (columnsOf t p) column, columns-le t okt p, width-le t okt);
+            reads = λ i j l m.
+                sample-inside s (fr .form) p (planeOf fr p) (ok .sound .planes p h) (cover (b && halfX (fr .form .format) p) i) (cover (b && halfY (fr .form .format) p) j)
+                (covered-column b (fr .form) p i (omega (arith, visible-tile (columnsOf c p) (columnsOf t p) column)))
+                (covered-row b (fr .form) p j (omega (arith, visible-tile (rowsOf c p) (rowsOf t p) row)));
+            writes = λ j m. rw same (omega (arith, writes-le c t (ok .canvas) p (suits-canvas h) suits-bytes column row x y j m, ok .room));
+          }
+
+-- ---- stored, they are the tile's part
+
+decode-form : (s : List ℕ) (fr : Frame) → decode s fr .form ≡ fr .form
+unfolding decode
+decode-form s fr = refl
+
+decode-at : (s : List ℕ) (fr : Frame) (p : Part) (x y : ℕ) (b : Bool)
+    → decode s fr .at p (cover (b && halfX (decode s fr .form .format) p) x) (cover (b && halfY (decode s fr .form .format) p) y)
+    ≡ sampleAt (dataOf s (planeOf fr p)) (bytesOf (fr .form .format)) (cover (b && halfY (fr .form .format) p) y * planeOf fr p .stride + cover (b && halfX (fr .form .format) p) x * bytesOf (fr .form .format))
+unfolding decode sampleIn
+decode-at s fr p x y b = refl
+
+tile-sample : (b : Bool) (P : Pic) (p : Part) → hasPart (P .form .format) p ≡ true → (x y : ℕ) → tilePic b P .at p x y ≡ P .at p (cover (b && halfX (P .form .format) p) x) (cover (b && halfY (P .form .format) p) y)
+unfolding tilePic pick promote full pixel cover
+tile-sample true P p h x y = pick-true _ _ _ h
+tile-sample false P p h x y = refl
+
+module _ (s : List ℕ) (fr : Frame) (b : Bool) (p : Part) (h : hasPart (fr .form .format) p ≡ true) where
+  line-row : (n y : ℕ) → lineBytes (dataOf s (planeOf fr p)) (bytesOf (fr .form .format)) (tileLine (bytesOf (fr .form .format)) (planeOf fr p .stride) (b && halfX (fr .form .format) p) (b && halfY (fr .form .format) p) y) n
+      ≡ samplesOf (bytesOf (fr .form .format)) (λ x. tilePic b (decode s fr) .at p x y) n
+  unfolding lineBytes samplesOf
+  line-row n y =
+      span-cong _ _ 0 n
+      (λ x l m.
+      ap (sampleBytes (bytesOf (fr .form .format)))
+      (ap (sampleAt (dataOf s (planeOf fr p)) (bytesOf (fr .form .format))) (line-place _ _ (b && halfX (fr .form .format) p) (b && halfY (fr .form .format) p) x y) ∙ sym (seen x y)))
+    where
+      seen : (x y : ℕ) → tilePic b (decode s fr) .at p x y ≡ sampleAt (dataOf s (planeOf fr p)) (bytesOf (fr .form .format)) (cover (b && halfY (fr .form .format) p) y * planeOf fr p .stride + cover (b && halfX (fr .form .format) p) x * bytesOf (fr .form .format))
+      seen x y = tile-sample b (decode s fr) p (rw (decode-form s fr) h) x y ∙ decode-at s fr p x y b
+
+pub part-stored : (s : List ℕ) (fr : Frame) (c : Form) (b : Bool) (p : Part) (d : List ℕ) (column row : ℕ) (k : Cell) → (b ≡ true → isMono (fr .form .format) ≡ false) → hasPart (fr .form .format) p ≡ true → k ≡ cellOf c (tileForm b (fr .form)) column row p
+    → storeRows d (k .at) (k .stride) (λ y. lineBytes (dataOf s (planeOf fr p)) (bytesOf (fr .form .format)) (tileLine (bytesOf (fr .form .format)) (planeOf fr p .stride) (b && halfX (fr .form .format) p) (b && halfY (fr .form .format) p) y) (k .across)) (k .down)
+    ≡ storePart c (tilePic b (decode s fr)) column row p d
+unfolding storePart storeCell
+part-stored s fr c b p d column row k colour h e =
+    rows-cong d (k .at) (k .stride) _ _ (k .down) (λ y l. line-row s fr b p h (k .across) y)
+    ∙ ap₂ (λ (q : Cell) (n : ℕ). storeRows d (q .at) (q .stride) (λ y. samplesOf n (λ x. tilePic b (decode s fr) .at p x y) (q .across)) (q .down)) (e ∙ ap (λ (t : Form). cellOf c t column row p) (sym form)) bytes
+    ∙ sym (pick-true _ _ _ (ap (λ (t : Form). hasPart (t .format) p) form ∙ tile-parts b (fr .form) colour p ∙ h))
+  where
+    form : tilePic b (decode s fr) .form ≡ tileForm b (fr .form)
+    form = tilePic-form b (decode s fr) ∙ ap (tileForm b) (decode-form s fr)
+
+    bytes : bytesOf (fr .form .format) ≡ bytesOf (tilePic b (decode s fr) .form .format)
+    bytes = sym (ap (λ (t : Form). bytesOf (t .format)) form ∙ tile-bytes b (fr .form))
+
+-- nothing of it shows
+pub part-hidden : (s : List ℕ) (fr : Frame) (c : Form) (b : Bool) (p : Part) (d : List ℕ) (column row : ℕ) (k : Cell) → k ≡ cellOf c (tileForm b (fr .form)) column row p → k .down ≡ 0 → d ≡ storePart c (tilePic b (decode s fr)) column row p d
+unfolding storePart storeCell
+part-hidden s fr c b p d column row k e z =
+    pick-both (λ (q : List ℕ). d ≡ q) _ _ _
+    (sym (rows-none d _ _ _ _ (ap (λ (t : Form). cellOf c t column row p .down) (tilePic-form b (decode s fr) ∙ ap (tileForm b) (decode-form s fr)) ∙ ap (λ (q : Cell). q .down) (sym e) ∙ z)))
+    refl
+
+-- the tile has no such part
+pub part-lacks : (s : List ℕ) (fr : Frame) (c : Form) (b : Bool) (p : Part) (d : List ℕ) (column row : ℕ) → (b ≡ true → isMono (fr .form .format) ≡ false) → hasPart (fr .form .format) p ≡ false → d ≡ storePart c (tilePic b (decode s fr)) column row p d
+unfolding storePart
+part-lacks s fr c b p d column row colour h =
+    sym (pick-false _ _ _ (ap (λ (t : Form). hasPart (t .format) p) (tilePic-form b (decode s fr) ∙ ap (tileForm b) (decode-form s fr)) ∙ tile-parts b (fr .form) colour p ∙ h))

@@ -1,0 +1,45 @@
+use mathlib.Core.Path.{_∙_, ap}
+use borrow.Author.Needs.{needs}
+use Rattle.image.specs.declared.format.Part.the-variants.{Alpha, Cb, Cr}
+use Rattle.grid.proofs.cell.draw_tile.Statement.{statement}
+use Rattle.grid.specs.Cell.{storePart, storeTile}
+use Rattle.grid.proofs.cell.draw_tile.Tie as tie
+use Rattle.grid.proofs.cell.draw_tile.Reads as reads
+use Rattle.grid.proofs.cell.draw_tile.Lts as lts
+use Rattle.grid.proofs.cell.draw_part.Reads as draw-part-reads
+
+-- src/cell.rt:186:5
+draw-part-requires : tie.Need-draw-part-requires
+draw-part-requires c κs = search needs
+
+-- src/cell.rt:187:5
+draw-part-requires-2 : tie.Need-draw-part-requires-2
+draw-part-requires-2 c κs = search needs
+
+-- src/cell.rt:188:5
+draw-part-requires-3 : tie.Need-draw-part-requires-3
+draw-part-requires-3 c κs = search needs
+
+-- src/cell.rt:189:5
+draw-part-requires-4 : tie.Need-draw-part-requires-4
+draw-part-requires-4 c κs = search needs
+
+-- src/cell.rt:174:1
+same-length : tie.Need-same-length
+same-length c = search needs
+
+-- src/cell.rt:174:1
+returns : tie.Need-returns
+unfolding storeTile
+returns c = c .before .before .draw-part4 .ensures ∙ ap (storePart _ _ _ _ Alpha) (c .before .before .before .before .before .before .draw-part3 .ensures ∙ ap (storePart _ _ _ _ Cr) (c .before .before .before .before .before .before .before .before .before .before .draw-part2 .ensures ∙ ap (storePart _ _ _ _ Cb) (c .before .before .before .before .before .before .before .before .before .before .before .before .before .before .draw-part .ensures)))
+
+pub draw-tile-spec : {M : Type 1} → statement M
+draw-tile-spec =
+    tie.close
+    (tie.spec
+    draw-part-requires
+    draw-part-requires-2
+    draw-part-requires-3
+    draw-part-requires-4
+    same-length
+    returns)

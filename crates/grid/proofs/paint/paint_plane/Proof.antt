@@ -1,0 +1,98 @@
+use mathlib.Core.Bool.{true}
+use mathlib.Core.List.{_++_}
+use mathlib.Core.Path.{_∙_, _≡_, ap, ap₂, sym}
+use Prim.Native.Nat.{_*_, _+_, _^_, _≤_, ℕ}
+use native.Mathlib.Nat.{mul-comm}
+use native.Mathlib.Omega.{arith}
+use borrow.Author.Needs.{needs}
+use denote.Ref.{now}
+use Rattle.laws.proofs.Writing.{Writing, writing-begin, writing-fits, writing-last, writing-none, writing-run}
+use Rattle.laws.specs.Puts.{puts}
+use Rattle.image.proofs.ByteLaws.{length-samplesOf}
+use Rattle.image.proofs.FormLaws.{bytes-few}
+use Rattle.image.specs.Bytes.{planeBytes, planeHead, samplesOf}
+use Rattle.image.specs.Format.{bytesOf, columnsOf, hasPart, rowsOf}
+use Rattle.grid.proofs.PaintLaws.{even-none, even-some, length-even-plane, plane-small}
+use Rattle.grid.proofs.paint.paint_plane.Statement.{statement}
+use Rattle.grid.specs.Mosaic.{evenPic}
+use Rattle.grid.proofs.paint.paint_plane.Tie as tie
+use Rattle.grid.proofs.paint.paint_plane.Reads as reads
+use Rattle.grid.proofs.paint.paint_plane.Lts as lts
+use Rattle.image.proofs.format.PixelFormat.bytes_per_sample.Reads as bytes-per-sample-reads
+use Rattle.image.proofs.format.PixelFormat.columns.Reads as columns-reads
+use Rattle.image.proofs.format.PixelFormat.has.Reads as has-reads
+use Rattle.image.proofs.format.PixelFormat.rows.Reads as rows-reads
+use Rattle.image.proofs.fill_row.Reads as fill-row-reads
+use Rattle.image.proofs.write_plane_head.Reads as write-plane-head-reads
+
+there : (c : tie.Then1) → hasPart (c .before .before .before .before .args .form .format) (c .before .before .before .before .args .part) ≡ true
+there c = sym (c .before .has .ensures) ∙ c .if1 .taken
+
+start : (c : tie.Then1) → Writing (now (c .before .before .before .before .args .out)) (c .before .before .before .before .args .at) (planeBytes (evenPic (c .before .before .before .before .args .form) (c .before .before .before .before .args .v)) (c .before .before .before .before .args .part)) (now (c .before .before .before .before .args .out)) (c .before .before .before .before .args .at) (planeHead (c .before .before .before .before .args .form) (c .before .before .before .before .args .part) ++ samplesOf (bytesOf (c .before .before .before .before .args .form .format)) (λ x. c .before .before .before .before .args .v) (rowsOf (c .before .before .before .before .args .form) (c .before .before .before .before .args .part) * columnsOf (c .before .before .before .before .args .form) (c .before .before .before .before .args .part)))
+start c = writing-begin _ _ _ _ (even-some (c .before .before .before .before .args .form) (c .before .before .before .before .args .v) (c .before .before .before .before .args .part) (there c)) (rw (length-even-plane (c .before .before .before .before .args .form) (c .before .before .before .before .args .v) (c .before .before .before .before .args .part)) (c .before .before .before .before .pre .1))
+
+first : (c : tie.After-write-plane-head) → Writing (now (c .before .before .before .before .before .before .args .out)) (c .before .before .before .before .before .before .args .at) (planeBytes (evenPic (c .before .before .before .before .before .before .args .form) (c .before .before .before .before .before .before .args .v)) (c .before .before .before .before .before .before .args .part)) (c .write-plane-head .last .0) (c .write-plane-head .result) (samplesOf (bytesOf (c .before .before .before .before .before .before .args .form .format)) (λ x. c .before .before .before .before .before .before .args .v) (rowsOf (c .before .before .before .before .before .before .args .form) (c .before .before .before .before .before .before .args .part) * columnsOf (c .before .before .before .before .before .before .args .form) (c .before .before .before .before .before .before .args .part)))
+first c = writing-run (planeHead (c .before .before .before .before .before .before .args .form) (c .before .before .before .before .before .before .args .part)) (start ((c .before .before))) (c .write-plane-head .ensures .0) (c .write-plane-head .ensures .1)
+
+-- how many samples there are
+count : (c : tie.After-rows) → c .before .columns .result * c .rows .result ≡ rowsOf (c .before .before .before .before .before .before .before .before .before .before .args .form) (c .before .before .before .before .before .before .before .before .before .before .args .part) * columnsOf (c .before .before .before .before .before .before .before .before .before .before .args .form) (c .before .before .before .before .before .before .before .before .before .before .args .part)
+unfolding columnsOf rowsOf
+count c = ap₂ (λ (a b : ℕ). a * b) (c .before .columns .ensures) (c .rows .ensures) ∙ mul-comm _ _
+
+small : (c : tie.After-rows) → c .before .columns .result * c .rows .result ≤ 2 ^ 31
+small c = omega (arith, count c, plane-small (c .before .before .before .before .before .before .before .before .before .before .args .form) (c .before .before .before .before .before .before .before .before .before .before .pre .0) (c .before .before .before .before .before .before .before .before .before .before .args .part))
+
+-- src/paint.rt:19:8
+has-requires : tie.Need-has-requires
+has-requires c κs = search needs
+
+-- src/paint.rt:20:13
+write-plane-head-requires : tie.Need-write-plane-head-requires
+write-plane-head-requires c κs = (c .before .before .before .before .before .pre .0, writing-fits (planeHead (c .before .before .before .before .before .args .form) (c .before .before .before .before .before .args .part)) _ (start ((c .before))))
+
+-- src/paint.rt:21:17
+columns-requires : tie.Need-columns-requires
+columns-requires c κs = search needs
+
+-- src/paint.rt:21:47
+rows-requires : tie.Need-rows-requires
+rows-requires c κs = search needs
+
+-- src/paint.rt:21:17
+mul-n : tie.Need-mul-n
+mul-n c = omega (arith, small c)
+
+-- src/paint.rt:22:40
+bytes-per-sample-requires : tie.Need-bytes-per-sample-requires
+bytes-per-sample-requires c κs = search needs
+
+-- src/paint.rt:22:9
+fill-row-requires : tie.Need-fill-row-requires
+fill-row-requires c κs = let k = bytes-few (c .before .before .before .before .before .before .before .before .before .before .before .before .args .form .format) in let e = c .bytes-per-sample .ensures in (rw e (k .0), rw e (k .1), rw (e, count ((c .before .before))) (rw (length-samplesOf (bytesOf (c .before .before .before .before .before .before .before .before .before .before .before .before .args .form .format)) (λ x. c .before .before .before .before .before .before .before .before .before .before .before .before .args .v) (rowsOf (c .before .before .before .before .before .before .before .before .before .before .before .before .args .form) (c .before .before .before .before .before .before .before .before .before .before .before .before .args .part) * columnsOf (c .before .before .before .before .before .before .before .before .before .before .before .before .args .form) (c .before .before .before .before .before .before .before .before .before .before .before .before .args .part)) (k .0) (k .1)) at (first ((c .before .before .before .before .before .before)) .room)))
+
+-- src/paint.rt:22:9
+same-length : tie.Need-same-length
+same-length c = search needs
+
+-- src/paint.rt:22:9
+returns : tie.Need-returns
+returns c = let k = bytes-few (c .before .before .before .before .before .before .before .before .before .before .before .before .before .before .before .args .form .format) in let e = c .before .before .before .bytes-per-sample .ensures in let l = length-samplesOf (bytesOf (c .before .before .before .before .before .before .before .before .before .before .before .before .before .before .before .args .form .format)) (λ x. c .before .before .before .before .before .before .before .before .before .before .before .before .before .before .before .args .v) (rowsOf (c .before .before .before .before .before .before .before .before .before .before .before .before .before .before .before .args .form) (c .before .before .before .before .before .before .before .before .before .before .before .before .before .before .before .args .part) * columnsOf (c .before .before .before .before .before .before .before .before .before .before .before .before .before .before .before .args .form) (c .before .before .before .before .before .before .before .before .before .before .before .before .before .before .before .args .part)) (k .0) (k .1) in let w = writing-last (first ((c .before .before .before .before .before .before .before .before .before))) (c .before .before .fill-row .ensures .0 ∙ ap (λ (q : ℕ). c .before .before .before .before .before .before .before .before .before .write-plane-head .result + q) (ap₂ (λ (a b : ℕ). a * b) (count ((c .before .before .before .before .before))) e ∙ sym l)) (c .before .before .fill-row .ensures .1 ∙ ap₂ (λ (b n : ℕ). puts (c .before .before .before .before .before .before .before .before .before .write-plane-head .last .0) (c .before .before .before .before .before .before .before .before .before .write-plane-head .result) (samplesOf b (λ x. c .before .before .before .before .before .before .before .before .before .before .before .before .before .before .before .args .v) n)) e (count ((c .before .before .before .before .before)))) in (w .0 ∙ ap (λ (q : ℕ). c .before .before .before .before .before .before .before .before .before .before .before .before .before .before .before .args .at + q) (length-even-plane (c .before .before .before .before .before .before .before .before .before .before .before .before .before .before .before .args .form) (c .before .before .before .before .before .before .before .before .before .before .before .before .before .before .before .args .v) (c .before .before .before .before .before .before .before .before .before .before .before .before .before .before .before .args .part)), w .1)
+
+-- src/paint.rt:14:1
+returns-2 : tie.Need-returns-2
+returns-2 c = let h = sym (c .before .has .ensures) ∙ c .if1 .left in let w = writing-none (now (c .before .before .before .before .args .out)) (c .before .before .before .before .args .at) _ (even-none (c .before .before .before .before .args .form) (c .before .before .before .before .args .v) (c .before .before .before .before .args .part) h) in (w .0 ∙ ap (λ (q : ℕ). c .before .before .before .before .args .at + q) (length-even-plane (c .before .before .before .before .args .form) (c .before .before .before .before .args .v) (c .before .before .before .before .args .part)), w .1)
+
+pub paint-plane-spec : {M : Type 1} → statement M
+paint-plane-spec =
+    tie.close
+    (tie.spec
+    has-requires
+    write-plane-head-requires
+    columns-requires
+    rows-requires
+    mul-n
+    bytes-per-sample-requires
+    fill-row-requires
+    same-length
+    returns
+    returns-2)

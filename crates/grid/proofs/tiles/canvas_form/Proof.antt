@@ -1,0 +1,39 @@
+use mathlib.Core.Path.{_∙_, ap}
+use borrow.Author.Needs.{needs}
+use Rattle.image.specs.Picture.{sized}
+use Rattle.image.specs.declared.format.Form.{Form}
+use Rattle.grid.proofs.tiles.canvas_form.Statement.{statement}
+use Rattle.grid.specs.Tiles.{canvasForm, withAlpha}
+use Rattle.grid.proofs.tiles.canvas_form.Tie as tie
+use Rattle.grid.proofs.tiles.canvas_form.Reads as reads
+use Rattle.grid.proofs.tiles.canvas_form.Lts as lts
+use Rattle.grid.proofs.cell.tile_form.Reads as tile-form-reads
+use Rattle.grid.proofs.tiles.promotes.Reads as promotes-reads
+use Rattle.grid.proofs.tiles.with_alpha.Reads as with-alpha-reads
+use Rattle.image.proofs.format.Form.sized.Reads as sized-reads
+
+-- src/tiles.rt:63:9
+sized-requires : tie.Need-sized-requires
+sized-requires c κs = search needs
+
+-- src/tiles.rt:64:26
+promotes-requires : tie.Need-promotes-requires
+promotes-requires c κs = search needs
+
+-- src/tiles.rt:64:16
+tile-form-requires : tie.Need-tile-form-requires
+tile-form-requires c κs = search needs
+
+-- src/tiles.rt:64:5
+with-alpha-requires : tie.Need-with-alpha-requires
+with-alpha-requires c κs = search needs
+
+-- src/tiles.rt:60:1
+returns : tie.Need-returns
+unfolding canvasForm
+returns c = c .with-alpha .ensures ∙ ap (λ (m : Form). withAlpha m (c .before .before .before .before .args .alpha)) (c .before .tile-form .ensures ∙ simp (c .before .before .promotes .ensures, c .before .before .before .sized .ensures))
+
+pub canvas-form-spec : {M : Type 1} → statement M
+canvas-form-spec =
+    tie.close
+    (tie.spec sized-requires promotes-requires tile-form-requires with-alpha-requires returns)

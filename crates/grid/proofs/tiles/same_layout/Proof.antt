@@ -1,0 +1,20 @@
+use borrow.Author.Needs.{needs}
+use Rattle.laws.proofs.Out.{both}
+use Rattle.grid.proofs.tiles.same_layout.Statement.{statement}
+use Rattle.grid.specs.Tiles.{sameLayout}
+use Rattle.grid.proofs.tiles.same_layout.Tie as tie
+use Rattle.grid.proofs.tiles.same_layout.Reads as reads
+use Rattle.grid.proofs.tiles.same_layout.Lts as lts
+use Rattle.image.proofs.both.Reads as both-reads
+
+-- src/tiles.rt:88:5
+both-requires : tie.Need-both-requires
+both-requires c κs = search needs
+
+-- src/tiles.rt:83:1
+returns : tie.Need-returns
+unfolding sameLayout
+returns c = c .both .ensures
+
+pub same-layout-spec : {M : Type 1} → statement M
+same-layout-spec = tie.close (tie.spec both-requires returns)

@@ -1,0 +1,5 @@
+pub mod Cell
+pub mod Tiles
+pub mod Mosaic
+pub mod Run
+pub mod Ready

@@ -1,0 +1,66 @@
+-- The composed picture of a grid ("Grid"), and the canvas that its tiles are stored in. Assumes nothing.
+use mathlib.Core.List.{List, _++_}
+use Prim.Native.Nat.{_%_, _*_, _+_, _/_, suc, zero, ℕ}
+use lib.Dec.{T}
+use lib.Pow.{high}
+use Rattle.laws.specs.Pick.{pick}
+use Rattle.image.specs.Bytes.{headBytes, planeBytes}
+use Rattle.image.specs.Format.{columnsOf, hasPart, rowsOf, topOf}
+use Rattle.image.specs.Picture.{Pic}
+use Rattle.image.specs.declared.format.Form.{Form}
+use Rattle.image.specs.declared.format.Part.{Part}
+use Rattle.image.specs.declared.format.Part.the-variants.{Alpha, Cb, Cr, Luma}
+use Rattle.image.specs.declared.format.PixelFormat.{PixelFormat}
+use Rattle.grid.specs.Cell.{storeTile, tileForm, tilePic}
+use Rattle.grid.specs.Tiles.{canvasForm, promotesOf, withAlpha}
+use Rattle.grid.specs.declared.tiles.Tiles.{Tiles}
+
+-- ---- the picture
+
+-- the tile at a place of a plane: column i mod columns, row i / columns, each tile so many samples wide and high
+unfoldable pub tileIndex : ℕ → ℕ → ℕ → ℕ → ℕ → ℕ
+tileIndex columns wide high x y = y / high * columns + x / wide
+
+-- a sample of a tile; alpha is top where the tile has none
+unfoldable pub opaqueAt : Pic → Part → ℕ → ℕ → ℕ
+opaqueAt T p x y = pick (hasPart (T .form .format) p) (T .at p x y) (topOf (T .form .format))
+
+-- each place shows the tile of its cell, at the place in the tile
+unfoldable pub mosaicAt : (ℕ → Pic) → ℕ → Form → Part → ℕ → ℕ → ℕ
+mosaicAt T columns t p x y = opaqueAt (T (tileIndex columns (columnsOf t p) (rowsOf t p) x y)) p (x % columnsOf t p) (y % rowsOf t p)
+
+-- tiles, promoted or as they are, joined on the canvas
+unfoldable pub gridPic : (ℕ → Pic) → Tiles → Pic
+gridPic T t =
+    let b = promotesOf (t .desc) (t .tile) in
+    record {
+      form = canvasForm (t .desc) (t .tile) (t .alpha);
+      at = mosaicAt (λ i. tilePic b (T i)) (t .desc .columns) (tileForm b (t .tile));
+    }
+
+-- ---- the canvas before its tiles: samples 0, and alpha at top
+
+unfoldable pub plainAt : PixelFormat → Part → ℕ
+plainAt f Luma = 0
+plainAt f Cb = 0
+plainAt f Cr = 0
+plainAt f Alpha = topOf f
+
+unfoldable pub evenPic : Form → ℕ → Pic
+evenPic m v = record { form = m; at = λ p x y. v }
+
+unfoldable pub plainPic : Form → Pic
+plainPic m = record { form = m; at = λ p x y. plainAt (m .format) p }
+
+-- a record's planes behind another header of the same length
+unfoldable pub laid : List ℕ → Pic → List ℕ
+laid h P = h ++ (planeBytes P Luma ++ (planeBytes P Cb ++ (planeBytes P Cr ++ planeBytes P Alpha)))
+
+-- the canvas whose header says that alpha number
+unfoldable pub canvasBytes : Form → ℕ → List ℕ
+canvasBytes c a = laid (headBytes (withAlpha c a)) (plainPic c)
+
+-- the first n tiles stored in their cells, in turn
+unfoldable pub storeTiles : Form → (ℕ → Pic) → ℕ → ℕ → List ℕ → List ℕ
+storeTiles c T columns zero d = d
+storeTiles c T columns (suc n) d = storeTile c (T n) (n % columns) (n / columns) (storeTiles c T columns n d)

@@ -1,0 +1,171 @@
+// The tiles of a grid's tray: read in turn, held to the first, with every refusal in document 01's order.
+ghost use mathlib.Core.Path.{_≡_};
+ghost use Prim.Native.Nat.{_<_, _≤_, _^_};
+ghost use Rattle.laws.specs.Out.{andThen, Out};
+ghost use Rattle.laws.specs.Pick.{pick};
+ghost use Rattle.image.specs.Format.{hasAlpha};
+ghost use Rattle.image.specs.Tray.{framesAt};
+ghost use Rattle.grid.specs.Tiles.{promotesOf, withAlpha, canvasForm, coversOf, sameSize, sameLayout, judgeOf, countOf, tilesOf, tilesOut, FramesTaken};
+use crate::cell::tile_form;
+use derived::GridDescriptor;
+use derived::GridRead;
+use image::Form;
+use image::FrameRead;
+use image::PixelFormat;
+use image::TrayRead;
+use laws::Refusal;
+use numbers::NumberRead;
+
+// A grid that was taken: its descriptor, the first tile's form, 1 if a tile has alpha, and where the first record begins.
+pub struct Tiles {
+    pub desc: GridDescriptor,
+    pub tile: Form,
+    pub alpha: u32,
+    pub first: usize,
+}
+
+pub enum TilesRead {
+    Read(Tiles),
+    Refused(Refusal),
+}
+
+// Whether everything is promoted to 4:4:4.
+pub fn promotes(g: GridDescriptor, t: Form) -> bool
+    ensures { λ r. ⌜ r ≡ promotesOf g t ⌝ }
+{
+    let f = t.format;
+    image::either(
+        f.needs_444(image::is_odd(t.width), image::is_odd(t.height)),
+        f.needs_444(
+            image::is_odd(g.output_width),
+            image::is_odd(g.output_height),
+        ),
+    )
+}
+
+pub(crate) fn with_alpha(m: Form, alpha: u32) -> Form
+    ensures { λ r. ⌜ r ≡ withAlpha m alpha ⌝ }
+{
+    let f = m.format;
+    Form {
+        width: m.width,
+        height: m.height,
+        format: PixelFormat {
+            chroma: f.chroma,
+            depth: f.depth,
+            alpha,
+        },
+    }
+}
+
+// The canvas's form, with that alpha number.
+pub fn canvas_form(g: GridDescriptor, t: Form, alpha: u32) -> Form
+    ensures { λ r. ⌜ r ≡ canvasForm g t alpha ⌝ }
+{
+    let m = t.sized(g.output_width, g.output_height);
+    with_alpha(tile_form(promotes(g, t), m), alpha)
+}
+
+// Whether tiles of that size cover the canvas.
+fn covers(g: GridDescriptor, t: Form) -> bool
+    ensures { λ r. ⌜ r ≡ coversOf g t ⌝ }
+{
+    image::both(
+        g.output_width as u64 <= t.width as u64 * g.columns as u64,
+        g.output_height as u64 <= t.height as u64 * g.rows as u64,
+    )
+}
+
+fn same_size(t: Form, m: Form) -> bool
+    ensures { λ r. ⌜ r ≡ sameSize t m ⌝ }
+{
+    image::both(m.width == t.width, m.height == t.height)
+}
+
+fn same_layout(t: Form, m: Form) -> bool
+    ensures { λ r. ⌜ r ≡ sameLayout t m ⌝ }
+{
+    let f = m.format;
+    let k = t.format;
+    image::both(f.chroma == k.chroma, f.depth == k.depth)
+}
+
+// Whether a tile has alpha, or one before it.
+fn with_tile(alpha: u32, m: Form) -> u32
+    ensures { λ r. ⌜ r ≡ pick (hasAlpha (m .format)) 1 alpha ⌝ }
+{
+    let f = m.format;
+    if f.alpha == 0 {
+        return alpha;
+    }
+    1
+}
+
+// Tiles that stand in the tray, held to the first of them.
+fn judge_tiles(tray: &[u8], g: GridDescriptor, at: usize, count: u32) -> TilesRead
+    requires { ⌜ FramesTaken count (now tray) at × (0 < count) ⌝ }
+    ensures { λ r. ⌜ tilesOut r ≡ andThen (framesAt count (now (tray .entry)) at) (judgeOf g at) ⌝ }
+{
+    match image::read_record(tray, at) {
+        FrameRead::Refused(e) => TilesRead::Refused(e),
+        FrameRead::Read(first) => {
+            let tile = first.form;
+            if !covers(g, tile) {
+                return TilesRead::Refused(Refusal::COVER);
+            }
+            let mut alpha: u32 = 0;
+            let mut next = at;
+            let mut left = count;
+            while left > 0 {
+                match image::read_record(tray, next) {
+                    FrameRead::Refused(e) => {
+                        return TilesRead::Refused(e);
+                    }
+                    FrameRead::Read(f) => {
+                        let m = f.form;
+                        if !same_size(tile, m) {
+                            return TilesRead::Refused(Refusal::TILE);
+                        }
+                        if !same_layout(tile, m) {
+                            return TilesRead::Refused(Refusal::LAYOUT);
+                        }
+                        alpha = with_tile(alpha, m);
+                        next = f.end;
+                    }
+                }
+                left -= 1;
+            }
+            TilesRead::Read(Tiles {
+                desc: g,
+                tile,
+                alpha,
+                first: at,
+            })
+        }
+    }
+}
+
+// The tiles of a body and a tray. Refusals: 5 tray count unreadable; the body's; 11; the records'; 12; 13 and 14.
+pub fn read_tiles(body: &[u8], tray: &[u8]) -> TilesRead
+    ensures { λ r. ⌜ tilesOut r ≡ tilesOf (now (body .entry)) (now (tray .entry)) ⌝ }
+{
+    let NumberRead::Number {
+        value: count,
+        next: at,
+    } = numbers::read_number(tray, 0)
+    else {
+        return TilesRead::Refused(Refusal::MALFORMED);
+    };
+    match GridDescriptor::parse(body) {
+        GridRead::Refused(e) => TilesRead::Refused(e),
+        GridRead::Read(g) => {
+            if count as u64 != g.rows as u64 * g.columns as u64 {
+                return TilesRead::Refused(Refusal::COUNT);
+            }
+            match image::check_records(tray, at, count) {
+                TrayRead::Refused(e) => TilesRead::Refused(e),
+                TrayRead::Read(n) => judge_tiles(tray, g, at, count),
+            }
+        }
+    }
+}
