@@ -1,0 +1,124 @@
+-- A plane's rows one after the other are one run of samples. Assumes nothing.
+use mathlib.Core.Bool.{Bool}
+use mathlib.Core.List.{List, _++_, append-nil}
+use mathlib.Core.Path.{_∙_, _≡_, ap, ap₂, refl, sym}
+use Prim.Native.Nat.{_%_, _*_, _+_, _-_, _/_, _<_, _^_, _≤_, suc, zero, ℕ}
+use native.Mathlib.Nat.{suc-mul}
+use native.Mathlib.Omega.{arith}
+use lib.Arith.{digits-div, digits-mod}
+use lib.ListN.{length}
+use lib.Pow.{pow-mono}
+use borrow.Author.Tests.{le-ltb}
+use Rattle.laws.proofs.Order.{mul-below}
+use Rattle.laws.proofs.Out.{refuse-no}
+use Rattle.laws.proofs.Span.{span-cong, span-end, span-split, span-step}
+use Rattle.laws.specs.Out.{done}
+use Rattle.laws.specs.Puts.{puts}
+use Rattle.laws.specs.Span.{run, span}
+use Rattle.image.proofs.FormLaws.{columns-le, columns-some, rows-le, width-le}
+use Rattle.image.specs.Bytes.{encode, rowBytes, rowsBytes, sampleBytes, samplesOf}
+use Rattle.image.specs.Format.{bytesOf, columnsOf, halfX, halfY, rowsOf, topOf}
+use Rattle.image.specs.Sound.{FormSound}
+use Rattle.image.specs.declared.format.Form.{Form}
+use Rattle.image.specs.declared.format.Part.{Part}
+use Rattle.image.specs.declared.format.Part.the-variants.{Alpha}
+use Rattle.image.specs.declared.format.PixelFormat.{PixelFormat}
+use Rattle.fill.specs.Fill.{fillOf, nclxOf, partOf, ycbcrOf}
+use Rattle.fill.specs.declared.Colour.{Colour}
+use Rattle.fill.specs.declared.Ycbcr.{Ycbcr}
+use Rattle.derived.specs.declared.overlay.Fill.{Fill}
+use Rattle.overlay.proofs.FrameLaws.{wide}
+use Rattle.overlay.specs.Block.{StripeFits}
+use Rattle.overlay.specs.Overlay.{Layer, allLaid, base, ground, overlayPic, placeAt, settled}
+use Rattle.overlay.specs.Run.{fillPart}
+
+run-shift : (f : ℕ → List ℕ) (a k n : ℕ) → run f (a + k) n ≡ run (λ x. f (a + x)) k n
+unfolding run
+run-shift f a k zero = refl
+run-shift f a k (suc n) =
+    let z : a + k + 1 ≡ a + (k + 1) = omega arith in
+    ap (λ (l : List ℕ). f (a + k) ++ l) (ap (λ (m : ℕ). run f m n) z ∙ run-shift f a (k + 1) n)
+
+-- the items from a on
+pub span-shift : (f : ℕ → List ℕ) (a n : ℕ) → span f a (a + n) ≡ span (λ x. f (a + x)) 0 n
+unfolding span
+span-shift f a n =
+    let e : a + n - a ≡ n = omega arith in
+    let z : a + 0 ≡ a = omega arith in
+    let y : n - 0 ≡ n = omega arith in
+    ap (run f a) e ∙ ap (λ (m : ℕ). run f m n) (sym z) ∙ run-shift f a 0 n ∙ ap (run (λ x. f (a + x)) 0) (sym y)
+
+pub flat-rows : (bytes : ℕ) (f : ℕ → ℕ → ℕ) (c n : ℕ) → 1 ≤ c
+    → span (λ y. samplesOf bytes (λ x. f x y) c) 0 n ≡ span (λ q. sampleBytes bytes (f (q % c) (q / c))) 0 (n * c)
+unfolding samplesOf
+flat-rows bytes f c zero h = span-end _ 0 0 (omega arith) ∙ sym (span-end _ 0 (0 * c) (omega arith))
+flat-rows bytes f c (suc n) h =
+    let m : suc n * c ≡ n * c + c = omega (arith, suc-mul n c) in
+    let one : n + 1 ≡ suc n = omega arith in
+    span-split _ 0 n (suc n) (omega arith) (omega arith)
+    ∙ ap₂ (λ (a b : List ℕ). a ++ b) (flat-rows bytes f c n h)
+    (ap (λ (k : ℕ). span (λ y. span (λ x. sampleBytes bytes (f x y)) 0 c) n k) (sym one) ∙ span-step _ n (n + 1) (omega arith)
+    ∙ ap (λ (l : List ℕ). span (λ x. sampleBytes bytes (f x n)) 0 c ++ l) (span-end _ (n + 1) (n + 1) (omega arith)) ∙ append-nil _
+    ∙ sym (span-shift (λ q. sampleBytes bytes (f (q % c) (q / c))) (n * c) c ∙ span-cong _ _ 0 c (λ x a b. row x b)))
+    ∙ sym (span-split _ 0 (n * c) (n * c + c) (omega arith) (omega arith)) ∙ ap (span (λ q. sampleBytes bytes (f (q % c) (q / c))) 0) (sym m)
+  where
+    row : (x : ℕ) → x < c → sampleBytes bytes (f ((n * c + x) % c) ((n * c + x) / c)) ≡ sampleBytes bytes (f x n)
+    row x b = ap₂ (λ (i j : ℕ). sampleBytes bytes (f i j)) (digits-mod n b) (digits-div n b)
+
+-- so many of them from one on, and the rest
+pub flat-next : (bytes : ℕ) (g : ℕ → ℕ) (start count total : ℕ) → start + count ≤ total
+    → span (λ q. sampleBytes bytes (g q)) start total ≡ samplesOf bytes (λ j. g (start + j)) count ++ span (λ q. sampleBytes bytes (g q)) (start + count) total
+unfolding samplesOf
+flat-next bytes g start count total h =
+    span-split _ start (start + count) total (omega arith) h
+    ∙ ap (λ (l : List ℕ). l ++ span (λ q. sampleBytes bytes (g q)) (start + count) total) (span-shift (λ q. sampleBytes bytes (g q)) start count)
+
+pub samples-same : (bytes : ℕ) (f g : ℕ → ℕ) (n : ℕ) → ((j : ℕ) → j < n → f j ≡ g j) → samplesOf bytes f n ≡ samplesOf bytes g n
+unfolding samplesOf
+samples-same bytes f g n h = span-cong _ _ 0 n (λ j a b. ap (sampleBytes bytes) (h j b))
+
+pub samples-as : (b b′ : ℕ) (f g : ℕ → ℕ) (n : ℕ) → b ≡ b′ → ((j : ℕ) → j < n → f j ≡ g j) → samplesOf b f n ≡ samplesOf b′ g n
+samples-as b b′ f g n e h = ap (λ (k : ℕ). samplesOf k f n) e ∙ samples-same b′ f g n h
+
+-- a sample of the canvas, where its two quantities were laid from the ground
+pub laid-place : (top : ℕ) (p : Part) (x y : ℕ) (fill : Part → ℕ) (ls : List Layer) (v w a b : ℕ) → v ≡ ground fill p → w ≡ ground fill Alpha → a ≡ allLaid top p x y ls v → b ≡ allLaid top Alpha x y ls w
+    → settled top p (fill p) a b ≡ placeAt top fill ls p x y
+unfolding placeAt
+laid-place top p x y fill ls v w a b e f g h = rw (g, h, e, f)
+
+-- ---- the rows of a composed plane
+
+abbrev pub stripeItem : ℕ → ℕ → (Part → ℕ) → List Layer → Part → ℕ → Bool → Bool → ℕ → List ℕ
+stripeItem bytes top fill ls p c hx hy q = sampleBytes bytes (placeAt top fill ls p (base hx (q % c)) (base hy (q / c)))
+
+module _ (m : Form) (ok : FormSound m) (fill : Part → ℕ) (ls : List Layer) (p : Part) (top c n t : ℕ) (hx hy : Bool)
+    (et : top ≡ topOf (m .format)) (ec : c ≡ columnsOf m p) (en : n ≡ rowsOf m p) (ex : hx ≡ halfX (m .format) p) (ey : hy ≡ halfY (m .format) p) where
+  pub rows-flat : rowsBytes (overlayPic m fill ls) p ≡ span (stripeItem (bytesOf (m .format)) top fill ls p c hx hy) 0 (n * c)
+  unfolding rowsBytes rowBytes overlayPic
+  rows-flat = rw (et, en, ec, ex, ey) (flat-rows (bytesOf (m .format)) (λ x y. placeAt (topOf (m .format)) fill ls p (base (halfX (m .format) p) x) (base (halfY (m .format) p) y)) (columnsOf m p) (rowsOf m p) (columns-some m ok p))
+
+  pub total-small : n * c ≤ 2 ^ 30
+  total-small = rw (en, ec) (omega (arith, mul-below (m .height) (m .width) (rowsOf m p) (columnsOf m p) (rows-le m ok p) (columns-le m ok p), ok .area))
+
+  pub stripe-fits : (start count : ℕ) → start + count ≤ n * c → StripeFits (record { columns = c; «half_across» = hx; «half_down» = hy; start = start; count = count })
+  stripe-fits start count h = record { wide = rw ec (columns-some m ok p); narrow = rw ec (omega (arith, columns-le m ok p, width-le m ok)); ends = omega (arith, total-small) }
+
+pub top-some : (f : PixelFormat) → 8 ≤ f .depth → 1 ≤ topOf f
+unfolding topOf
+top-some f h = let k : 2 ^ 8 ≤ 2 ^ f .depth = pow-mono h in omega arith
+
+-- the same picture over the same fill
+pub drawn-as : (m : Form) (s s′ : Ycbcr) (a a′ : ℕ) (ls : List Layer) → s ≡ s′ → a ≡ a′ → overlayPic m (fillPart s a) ls ≡ overlayPic m (fillPart s′ a′) ls
+drawn-as m s s′ a a′ ls e f = ap₂ (λ (k : Ycbcr) (b : ℕ). overlayPic m (fillPart k b) ls) e f
+
+-- a depth that was taken has a fill
+pub fill-taken : (k : Fill) (depth : ℕ) (colour : Colour) → 8 ≤ depth → depth ≤ 16 → fillOf (k .red) (k .green) (k .blue) depth colour ≡ done (ycbcrOf (partOf (k .red)) (partOf (k .green)) (partOf (k .blue)) depth (nclxOf colour))
+unfolding fillOf
+fill-taken k depth colour l h = refuse-no _ _ (le-ltb depth 8 l) ∙ refuse-no _ _ (le-ltb 16 depth h)
+
+pub drawn-room : (m : Form) (s s′ : Ycbcr) (a a′ : ℕ) (ls : List Layer) (k : ℕ) → s ≡ s′ → a ≡ a′ → length (encode (overlayPic m (fillPart s′ a′) ls)) ≤ k → length (encode (overlayPic m (fillPart s a) ls)) ≤ k
+drawn-room m s s′ a a′ ls k e f h = rw (e, f) h
+
+pub drawn-answer : (m : Form) (s s′ : Ycbcr) (a a′ : ℕ) (ls : List Layer) (r : ℕ) (d d′ : List ℕ) → s ≡ s′ → a ≡ a′
+    → (r ≡ length (encode (overlayPic m (fillPart s a) ls))) × (d′ ≡ puts d 0 (encode (overlayPic m (fillPart s a) ls))) → (r ≡ length (encode (overlayPic m (fillPart s′ a′) ls))) × (d′ ≡ puts d 0 (encode (overlayPic m (fillPart s′ a′) ls)))
+drawn-answer m s s′ a a′ ls r d d′ e f h = rw (e, f) at h

@@ -1,0 +1,150 @@
+-- The run step by step: what holds of a plan that was read, and what is left to answer. Assumes nothing.
+use mathlib.Core.Bool.{Bool}
+use mathlib.Core.List.{List}
+use mathlib.Core.Path.{_∙_, _≡_, ap, ap₂, sym}
+use Prim.Native.Nat.{_<_, _≤_, suc, zero, ℕ}
+use native.Mathlib.Nat.{not-suc-le-zero}
+use native.Mathlib.Omega.{arith}
+use lib.ListN.{length}
+use lib.Pow.{high, low}
+use borrow.Author.Tests.{eqb-false, eqb-true, not-false}
+use Rattle.laws.proofs.Order.{pick-le, positive}
+use Rattle.laws.proofs.Out.{andThen-done, done-same, not-done, refuse-done, then-done, then-refused}
+use Rattle.laws.specs.Out.{Out, andThen, done, fitted, reason, refuse, refused}
+use Rattle.laws.specs.declared.Refusal.{Refusal}
+use Rattle.numbers.specs.Number.{onNumber, readNumber}
+use Rattle.numbers.specs.declared.NumberRead.the-variants.{Malformed, Number}
+use Rattle.image.proofs.RecordLaws.{record-sound}
+use Rattle.image.proofs.RoundTrip.{length-encode}
+use Rattle.image.proofs.TrayLaws.{counted}
+use Rattle.image.specs.Bytes.{encode, sizeOf}
+use Rattle.image.specs.Format.{topOf}
+use Rattle.image.specs.Picture.{Pic}
+use Rattle.image.specs.Sound.{FormSound}
+use Rattle.image.specs.Tray.{framesAt}
+use Rattle.image.specs.declared.record.Frame.{Frame}
+use Rattle.fill.specs.declared.Colour.{Colour}
+use Rattle.derived.proofs.Taken.{overlay-taken}
+use Rattle.derived.specs.Sound.{OverlaySound}
+use Rattle.overlay.proofs.FrameLaws.{frames-from, tall, wide}
+use Rattle.overlay.specs.Block.{PlanSound, framesFrom, layersAt}
+use Rattle.overlay.specs.Overlay.{overlayForm, overlayPic, some}
+use Rattle.overlay.specs.Plan.{planAt, planOf}
+use Rattle.overlay.specs.Run.{Inputs, alphaAbove, composed, composedForm, fillFor, firstForm, firstFormat, inputsAt, layersOf, overlayRun}
+use Rattle.overlay.specs.declared.inputs.Plan.{Plan}
+
+refused-back : {A B : Type 0} (o : Out A) (g : A → B) (r : Refusal) → andThen o (λ a. done (g a)) ≡ refused r → o ≡ refused r
+unfolding andThen
+refused-back (refused s) g r e = cc
+refused-back (done a) g r e = not-done r (g a) (sym e)
+
+frames-sound : (n : ℕ) (s : List ℕ) (at : ℕ) (frs : List Frame) → 0 < n → framesAt n s at ≡ done frs → FormSound (firstForm frs)
+unfolding framesAt firstForm
+frames-sound zero s at frs h e = absurd (not-suc-le-zero h)
+frames-sound (suc n) s at frs h e =
+    let a = andThen-done _ _ frs e in
+    let b = andThen-done _ _ frs (a .2) in
+    rw (← done-same _ frs (b .2)) (record-sound s at (a .0) (a .1) .form)
+
+module _ (body tray list : List ℕ) (n at : ℕ) where
+  -- what was taken
+  record Took (q : Inputs) : Type 0 where
+    offsets : OverlaySound body (q .descriptor)
+    count : q .descriptor .count ≡ n
+    any : 0 < n
+    many : length list ≡ n
+    frames : framesAt n tray at ≡ done (q .frames)
+
+  took-as : (q q′ : Inputs) → q ≡ q′ → Took q → Took q′
+  took-as q q′ e k = rw e at k
+
+  took : (q : Inputs) → inputsAt body tray list n at ≡ done q → Took q
+  unfolding inputsAt
+  took q e =
+      let a = andThen-done _ _ q e in
+      let b = refuse-done _ _ _ q (a .2) in
+      let c = refuse-done _ _ _ q (b .1) in
+      let d = andThen-done _ _ q (c .1) in
+      let f = refuse-done _ _ _ q (d .2) in
+      let o = overlay-taken body n (a .0) (a .1) in
+      took-as _ q (done-same _ q (f .1)) (record { offsets = o .0; count = o .1; any = positive n (eqb-false n 0 (b .0)); many = eqb-true _ _ (not-false _ (c .0)); frames = d .1 })
+
+  module _ (q : Inputs) (k : Took q) where
+    form-taken : FormSound (composedForm body tray list q)
+    unfolding composedForm overlayForm
+    form-taken =
+        let f = frames-sound n tray at (q .frames) (k .any) (k .frames) in
+        record {
+          chroma = pick-le _ 3 _ 3 (omega arith) (f .chroma);
+          low = f .low;
+          high = f .high;
+          alpha = pick-le _ 1 0 1 (omega arith) (omega arith);
+          wide = k .offsets .canvas .wide;
+          tall = k .offsets .canvas .tall;
+          area = k .offsets .canvas .area;
+        }
+
+    plan-sound : PlanSound body list (planOf body tray list at q)
+    unfolding planOf
+    plan-sound = record { form = form-taken; offsets = k .offsets; list = k .many ∙ sym (k .count) }
+
+    frames-are : q .frames ≡ framesFrom (q .descriptor .count) tray at
+    frames-are = frames-from n tray at (q .frames) (k .frames) ∙ ap (λ (m : ℕ). framesFrom m tray at) (sym (k .count))
+
+-- what goes on with a plan
+abbrev pub planPic : List ℕ → List ℕ → List ℕ → Colour → Plan → Pic
+planPic body tray list colour plan = overlayPic (plan .form) (fillFor (plan .descriptor .«canvas_fill») (plan .form .format .depth) colour) (layersAt body tray list plan)
+
+pub record Taken (body tray list : List ℕ) (colour : Colour) (room n at : ℕ) (plan : Plan) : Type 0 where
+  pub sound : PlanSound body list plan
+  pub left : overlayRun body tray list colour room
+      ≡ refuse (some (alphaAbove tray (topOf (plan .form .format))) (framesFrom n tray at)) 16 (fitted room (encode (planPic body tray list colour plan)))
+
+module _ (body tray list : List ℕ) (colour : Colour) (room : ℕ) where
+  pub run-malformed : readNumber tray 0 ≡ Malformed → overlayRun body tray list colour room ≡ refused (reason 5)
+  unfolding overlayRun onNumber
+  run-malformed e = rw e
+
+  module _ (n at : ℕ) (counted : readNumber tray 0 ≡ Number n at) where
+    abbrev going : Inputs → Out (List ℕ)
+    going q = refuse (some (alphaAbove tray (topOf (firstFormat (q .frames)))) (q .frames)) 16 (fitted room (encode (composed body tray list colour q)))
+
+    run-counted : overlayRun body tray list colour room ≡ andThen (inputsAt body tray list n at) going
+    unfolding overlayRun onNumber
+    run-counted = rw counted
+
+    pub run-refused : (r : Refusal) → planAt body tray list n at ≡ refused r → overlayRun body tray list colour room ≡ refused r
+    unfolding planAt
+    run-refused r e = run-counted ∙ then-refused _ (refused-back (inputsAt body tray list n at) (planOf body tray list at) r e)
+
+    as-plan : (q : Inputs) → Took body tray list n at q → going q ≡ refuse (some (alphaAbove tray (topOf (planOf body tray list at q .form .format))) (framesFrom n tray at)) 16 (fitted room (encode (planPic body tray list colour (planOf body tray list at q))))
+    unfolding planOf composed composedForm overlayForm topOf
+    as-plan q k =
+        ap₂ (λ (a b : List Frame). refuse (some (alphaAbove tray (topOf (firstFormat (q .frames)))) a) 16 (fitted room (encode (overlayPic (composedForm body tray list q) (fillFor (q .descriptor .«canvas_fill») (firstFormat (q .frames) .depth) colour) (layersOf body tray list (q .descriptor) 0 b)))))
+        (frames-from n tray at (q .frames) (k .frames)) (frames-are body tray list n at q k)
+
+    taken-as : (p p′ : Plan) → p ≡ p′ → Taken body tray list colour room n at p → Taken body tray list colour room n at p′
+    taken-as p p′ e k = rw e at k
+
+    pub plan-taken : (plan : Plan) → planAt body tray list n at ≡ done plan → Taken body tray list colour room n at plan
+    unfolding planAt
+    plan-taken plan e =
+        let a = andThen-done _ _ plan e in
+        let k = took body tray list n at (a .0) (a .1) in
+        taken-as _ plan (done-same _ plan (a .2)) (record { sound = plan-sound body tray list n at (a .0) k; left = run-counted ∙ then-done _ (a .1) ∙ as-plan (a .0) k })
+
+-- what the search answered, at a top that was worked out
+pub above-is : (tray : List ℕ) (n at t t′ : ℕ) (b : Bool) → t ≡ t′ → b ≡ some (alphaAbove tray t) (framesFrom n tray at) → some (alphaAbove tray t′) (framesFrom n tray at) ≡ b
+above-is tray n at t t′ b e k = rw (← e) (sym k)
+
+-- room for the picture, by its size
+module _ {body tray list : List ℕ} {colour : Colour} {room n at : ℕ} {plan : Plan} (t : Taken body tray list colour room n at plan) (k : ℕ) (e : k ≡ sizeOf (plan .form)) where
+  long : length (encode (planPic body tray list colour plan)) ≡ k
+  unfolding overlayPic
+  long = length-encode (planPic body tray list colour plan) ∙ sym e
+
+  pub room-short : room < k → room < length (encode (planPic body tray list colour plan))
+  room-short h = rw long h
+
+  pub room-enough : k ≤ room → length (encode (planPic body tray list colour plan)) ≤ room
+  room-enough h = rw long h

@@ -1,0 +1,23 @@
+use borrow.Author.Needs.{needs}
+use Rattle.overlay.proofs.blend.first_place.Statement.{statement}
+use Rattle.overlay.specs.Overlay.{base}
+use Rattle.overlay.proofs.blend.first_place.Tie as tie
+use Rattle.overlay.proofs.blend.first_place.Reads as reads
+use Rattle.overlay.proofs.blend.first_place.Lts as lts
+
+-- src/blend.rt:95:16
+mul-result : tie.Need-mul-result
+mul-result c = search needs
+
+-- src/blend.rt:95:9
+returns : tie.Need-returns
+unfolding base
+returns c = simp (c .if1 .taken)
+
+-- src/blend.rt:90:1
+returns-2 : tie.Need-returns-2
+unfolding base
+returns-2 c = simp (c .if1 .left)
+
+pub first-place-spec : {M : Type 1} → statement M
+first-place-spec = tie.close (tie.spec mul-result returns returns-2)

@@ -1,0 +1,18 @@
+use Rattle.laws.specs.Pick.{pick}
+use Rattle.overlay.proofs.inputs.choose.Statement.{statement}
+use Rattle.overlay.proofs.inputs.choose.Tie as tie
+use Rattle.overlay.proofs.inputs.choose.Reads as reads
+use Rattle.overlay.proofs.inputs.choose.Lts as lts
+
+-- src/inputs.rt:74:9
+returns : tie.Need-returns
+unfolding pick
+returns c = simp (c .if1 .taken)
+
+-- src/inputs.rt:70:1
+returns-2 : tie.Need-returns-2
+unfolding pick
+returns-2 c = simp (c .if1 .left)
+
+pub choose-spec : {M : Type 1} → statement M
+choose-spec = tie.close (tie.spec returns returns-2)

@@ -1,0 +1,85 @@
+use mathlib.Core.Bool.{Bool, _||_}
+use mathlib.Core.Path.{_∙_, ap, ap₂}
+use borrow.Author.Needs.{needs}
+use Rattle.image.specs.Format.{hasPart}
+use Rattle.overlay.proofs.NotedLaws.{same-notes}
+use Rattle.overlay.proofs.inputs.note.Statement.{statement}
+use Rattle.overlay.specs.Block.{noted}
+use Rattle.overlay.proofs.inputs.note.Tie as tie
+use Rattle.overlay.proofs.inputs.note.Reads as reads
+use Rattle.overlay.proofs.inputs.note.Lts as lts
+use Rattle.image.proofs.format.PixelFormat.has.Reads as has-reads
+use Rattle.image.proofs.either.Reads as either-reads
+use Rattle.overlay.proofs.inputs.is_odd.Reads as is-odd-reads
+use Rattle.overlay.proofs.inputs.odd_offset.Reads as odd-offset-reads
+
+-- src/inputs.rt:59:32
+odd-offset-requires : tie.Need-odd-offset-requires
+odd-offset-requires c κs = search needs
+
+-- src/inputs.rt:59:62
+is-odd-requires : tie.Need-is-odd-requires
+is-odd-requires c κs = search needs
+
+-- src/inputs.rt:59:9
+either-requires : tie.Need-either-requires
+either-requires c κs = search needs
+
+-- src/inputs.rt:60:30
+odd-offset-requires-2 : tie.Need-odd-offset-requires-2
+odd-offset-requires-2 c κs = search needs
+
+-- src/inputs.rt:60:58
+is-odd-requires-2 : tie.Need-is-odd-requires-2
+is-odd-requires-2 c κs = search needs
+
+-- src/inputs.rt:60:9
+either-requires-2 : tie.Need-either-requires-2
+either-requires-2 c κs = search needs
+
+-- src/inputs.rt:62:22
+either-requires-3 : tie.Need-either-requires-3
+either-requires-3 c κs = search needs
+
+-- src/inputs.rt:63:23
+either-requires-4 : tie.Need-either-requires-4
+either-requires-4 c κs = search needs
+
+-- src/inputs.rt:64:44
+has-requires : tie.Need-has-requires
+has-requires c κs = search needs
+
+-- src/inputs.rt:64:16
+either-requires-5 : tie.Need-either-requires-5
+either-requires-5 c κs = search needs
+
+-- src/inputs.rt:65:21
+either-requires-6 : tie.Need-either-requires-6
+either-requires-6 c κs = search needs
+
+-- src/inputs.rt:66:19
+either-requires-7 : tie.Need-either-requires-7
+either-requires-7 c κs = search needs
+
+-- src/inputs.rt:55:1
+returns : tie.Need-returns
+unfolding noted hasPart
+returns c = same-notes (c .before .before .before .before .before .before .before .either3 .ensures) (c .before .before .before .before .either4 .ensures) (c .before .before .either5 .ensures ∙ ap (λ (b : Bool). c .before .before .before .before .before .before .before .before .before .before .before .before .before .before .before .before .before .args .so-far .alpha || b) (c .before .before .before .has .ensures)) (c .before .either6 .ensures ∙ ap (λ (b : Bool). c .before .before .before .before .before .before .before .before .before .before .before .before .before .before .before .before .before .args .so-far .«odd_across» || b) (c .before .before .before .before .before .before .before .before .before .before .before .before .before .either .ensures ∙ ap₂ (λ (a b : Bool). a || b) (c .before .before .before .before .before .before .before .before .before .before .before .before .before .before .before .odd-offset .ensures) (c .before .before .before .before .before .before .before .before .before .before .before .before .before .before .is-odd .ensures))) (c .either7 .ensures ∙ ap (λ (b : Bool). c .before .before .before .before .before .before .before .before .before .before .before .before .before .before .before .before .before .args .so-far .«odd_down» || b) (c .before .before .before .before .before .before .before .before .before .before .either2 .ensures ∙ ap₂ (λ (a b : Bool). a || b) (c .before .before .before .before .before .before .before .before .before .before .before .before .odd-offset2 .ensures) (c .before .before .before .before .before .before .before .before .before .before .before .is-odd2 .ensures)))
+
+pub note-spec : {M : Type 1} → statement M
+note-spec =
+    tie.close
+    (tie.spec
+    odd-offset-requires
+    is-odd-requires
+    either-requires
+    odd-offset-requires-2
+    is-odd-requires-2
+    either-requires-2
+    either-requires-3
+    either-requires-4
+    has-requires
+    either-requires-5
+    either-requires-6
+    either-requires-7
+    returns)

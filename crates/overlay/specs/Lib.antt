@@ -1,0 +1,5 @@
+pub mod Overlay
+pub mod Run
+pub mod Covered
+pub mod Plan
+pub mod Block

@@ -1,0 +1,315 @@
+// Inputs laid over each other, for a stripe: a run of samples of a plane, row after row.
+ghost use mathlib.Core.Path.{_≡_};
+ghost use Prim.Native.Nat.{ℕ, _+_, _*_, _-_, _/_, _<_, _≤_, _^_, min, max};
+ghost use mathlib.Core.Bool.{_&&_, true};
+ghost use lib.Dec.{eqb, leb, ltb};
+ghost use lib.ListN.{length, getD};
+ghost use Rattle.laws.specs.Pick.{pick};
+ghost use Rattle.image.specs.Format.{sideOf, hasAlpha, bytesOf};
+ghost use Rattle.image.specs.Record.{recordAt};
+ghost use Rattle.derived.specs.Sound.{OverlaySound};
+ghost use Rattle.overlay.specs.Overlay.{paint, veil, laid, covers, base, spotAt, laidAt, allLaid};
+ghost use Rattle.overlay.specs.Run.{layersOf};
+ghost use Rattle.overlay.specs.Block.{framesFrom, stretchOf, layerWith, acrossAt, downAt, StripeFits, Inside, alphaIn, RowFits, rowLaid};
+use derived::OverlayDescriptor;
+use derived::Placement;
+use image::Frame;
+use image::FrameRead;
+use image::Part;
+use image::PixelFormat;
+use numbers::Offset;
+
+// a - b, or 0 where b is larger.
+fn less(a: usize, b: usize) -> usize
+    ensures { λ r. ⌜ r ≡ a - b ⌝ }
+{
+    if a < b {
+        return 0;
+    }
+    a - b
+}
+
+pub(crate) fn least(a: usize, b: usize) -> usize
+    ensures { λ r. ⌜ r ≡ min a b ⌝ }
+{
+    if a < b {
+        return a;
+    }
+    b
+}
+
+fn most(a: usize, b: usize) -> usize
+    ensures { λ r. ⌜ r ≡ max a b ⌝ }
+{
+    if a < b {
+        return b;
+    }
+    a
+}
+
+// Colour times opacity under an input's sample m of alpha a.
+fn paint_over(top: u16, m: u16, a: u16, premultiplied: bool, v: u32) -> u32
+    requires { ⌜ 1 ≤ top ⌝ }
+    ensures { λ r. ⌜ r ≡ paint top m a premultiplied v ⌝ }
+{
+    let t = top as usize;
+    let m = m as usize;
+    let a = a as usize;
+    let under = (v as usize * less(t, a) + t / 2) / t;
+    if premultiplied {
+        return least(m * t + under, t * t) as u32;
+    }
+    least(m * a + under, t * t) as u32
+}
+
+// Opacity under an input's alpha a.
+fn veil_over(top: u16, a: u16, v: u32) -> u32
+    requires { ⌜ 1 ≤ top ⌝ }
+    ensures { λ r. ⌜ r ≡ veil top a v ⌝ }
+{
+    let t = top as usize;
+    let a = a as usize;
+    least(a + (v as usize * less(t, a) + t / 2) / t, t) as u32
+}
+
+// What a plane carries, under an input.
+fn lay(top: u16, part: Part, m: u16, a: u16, premultiplied: bool, v: u32) -> u32
+    requires { ⌜ 1 ≤ top ⌝ }
+    ensures { λ r. ⌜ r ≡ laid top part m a premultiplied v ⌝ }
+{
+    match part {
+        Part::Luma => paint_over(top, m, a, premultiplied, v),
+        Part::Cb => paint_over(top, m, a, premultiplied, v),
+        Part::Cr => paint_over(top, m, a, premultiplied, v),
+        Part::Alpha => veil_over(top, a, v),
+    }
+}
+
+// The first place that a sample covers along an axis.
+fn first_place(half: bool, c: usize) -> usize
+    requires { ⌜ c < 2 ^ 40 ⌝ }
+    ensures { λ r. ⌜ r ≡ base half c ⌝ }
+{
+    if half {
+        return 2 * c;
+    }
+    c
+}
+
+// How many samples begin before a place.
+fn before(half: bool, n: usize) -> usize
+    requires { ⌜ n < 2 ^ 40 ⌝ }
+    ensures { λ r. ⌜ r ≡ sideOf half n ⌝ }
+{
+    if half {
+        return (n + 1) / 2;
+    }
+    n
+}
+
+// A run of samples of a plane of the canvas, row after row: so many from the start-th on, in rows of so many columns, of places that
+// are halved or not.
+pub(crate) struct Stripe {
+    pub columns: usize,
+    pub half_across: bool,
+    pub half_down: bool,
+    pub start: usize,
+    pub count: usize,
+}
+
+// An input's samples and alpha: its format, the two planes' strides, and how it is laid.
+pub(crate) struct Source {
+    format: PixelFormat,
+    stride: usize,
+    alpha_stride: usize,
+    part: Part,
+    premultiplied: bool,
+    top: u16,
+}
+
+fn source_alpha(alpha: &[u8], s: Source, x: usize, y: usize) -> u16
+    requires { ⌜ (hasAlpha (s .format) ≡ true → y * s .«alpha_stride» + x * bytesOf (s .format) + bytesOf (s .format) ≤ length (now alpha)) ⌝ }
+    ensures { λ r. ⌜ r ≡ alphaIn (now (alpha .entry)) s x y ⌝ }
+{
+    let f = s.format;
+    if f.has(Part::Alpha) {
+        return image::sample(alpha, f.bytes_per_sample(), s.alpha_stride, x, y);
+    }
+    s.top
+}
+
+// Lays n samples of an input's row over those from k on, from the input's place x on, by so many places a sample.
+fn lay_row(
+    acc: &mut [u32],
+    k: usize,
+    n: usize,
+    plane: &[u8],
+    alpha: &[u8],
+    s: Source,
+    x: usize,
+    step: usize,
+    y: usize,
+)
+    requires { ⌜ RowFits (now acc) (now plane) (now alpha) s k n x step y ⌝ }
+    ensures { λ _. ⌜ ((j : ℕ) → getD (now (acc .exit)) j 0
+        ≡ pick (leb k j && ltb j (k + n)) (rowLaid (now (plane .entry)) (now (alpha .entry)) s (x + (j - k) * step) y (getD (now (acc .entry)) j 0)) (getD (now (acc .entry)) j 0)) ⌝ }
+{
+    let top = s.top;
+    let part = s.part;
+    let premultiplied = s.premultiplied;
+    let format = s.format;
+    let stride = s.stride;
+    let mut i: usize = 0;
+    while i < n {
+        let u = x + i * step;
+        let m = image::promoted(plane, format, stride, part, u, y);
+        let a = source_alpha(alpha, s, u, y);
+        let at = k + i;
+        let v = acc[at];
+        acc[at] = lay(top, part, m, a, premultiplied, v);
+        i += 1;
+    }
+}
+
+// The samples along an axis that an input of a side covers: from, and up to but not including.
+pub(crate) struct Stretch {
+    from: usize,
+    to: usize,
+}
+
+fn reach(half: bool, o: Offset, side: u32) -> Stretch
+    ensures { λ r. ⌜ r ≡ stretchOf half o side ⌝ }
+{
+    let ahead = o.ahead as usize;
+    let behind = o.behind as usize;
+    Stretch {
+        from: before(half, less(ahead, behind)),
+        to: before(half, less(ahead + side as usize, behind)),
+    }
+}
+
+// The spot of an input at a place.
+fn spot(o: Offset, x: usize) -> usize
+    requires { ⌜ x < 2 ^ 41 ⌝ }
+    ensures { λ r. ⌜ r ≡ spotAt o x ⌝ }
+{
+    less(x + o.behind as usize, o.ahead as usize)
+}
+
+fn step_of(half: bool) -> usize
+    ensures { λ r. ⌜ r ≡ pick half 2 1 ⌝ }
+{
+    if half {
+        return 2;
+    }
+    1
+}
+
+// Lays a row of an input over what a stripe has of the plane's row r.
+fn lay_line(
+    acc: &mut [u32],
+    tray: &[u8],
+    fr: Frame,
+    place: Placement,
+    premultiplied: bool,
+    part: Part,
+    top: u16,
+    run: Stripe,
+    r: usize,
+)
+    requires { ⌜ Inside (now tray) fr × (1 ≤ top) × StripeFits run × (run .count ≤ length (now acc)) × (r * run .columns < run .start + run .count)
+        × (covers (fr .form .height) (place .vertical) (base (run .«half_down») r) ≡ true) ⌝ }
+    ensures { λ _. ⌜ ((j : ℕ) → j < run .count → getD (now (acc .exit)) j 0
+        ≡ pick (eqb ((run .start + j) / run .columns) r) (laidAt top part (acrossAt run j) (downAt run j) (layerWith (now (tray .entry)) fr place premultiplied) (getD (now (acc .entry)) j 0)) (getD (now (acc .entry)) j 0)) ⌝ }
+{
+    let form = fr.form;
+    let format = form.format;
+    let across = reach(run.half_across, place.horizontal, form.width);
+    let columns = run.columns;
+    let start = run.start;
+    let row = r * columns;
+    let a = most(row + across.from, start);
+    let e = least(row + least(across.to, columns), start + run.count);
+    if a < e {
+        let q = fr.plane(part);
+        let qa = fr.plane(Part::Alpha);
+        let plane = image::plane_data(tray, q);
+        let alpha = image::plane_data(tray, qa);
+        let s = Source {
+            format,
+            stride: q.stride,
+            alpha_stride: qa.stride,
+            part,
+            premultiplied,
+            top,
+        };
+        let x = spot(place.horizontal, first_place(run.half_across, a - row));
+        let y = spot(place.vertical, first_place(run.half_down, r));
+        let step = step_of(run.half_across);
+        lay_row(acc, a - start, e - a, plane, alpha, s, x, step, y);
+    }
+}
+
+// Lays one input over a stripe.
+fn lay_input(
+    acc: &mut [u32],
+    tray: &[u8],
+    fr: Frame,
+    place: Placement,
+    premultiplied: bool,
+    part: Part,
+    top: u16,
+    run: Stripe,
+)
+    requires { ⌜ Inside (now tray) fr × (1 ≤ top) × StripeFits run × (run .count ≤ length (now acc)) ⌝ }
+    ensures { λ _. ⌜ ((j : ℕ) → j < run .count → getD (now (acc .exit)) j 0
+        ≡ laidAt top part (acrossAt run j) (downAt run j) (layerWith (now (tray .entry)) fr place premultiplied) (getD (now (acc .entry)) j 0)) ⌝ }
+{
+    let form = fr.form;
+    let down = reach(run.half_down, place.vertical, form.height);
+    let columns = run.columns;
+    let start = run.start;
+    let end = start + run.count;
+    let last = least(down.to, (end + columns - 1) / columns);
+    let mut r = most(down.from, start / columns);
+    while r < last {
+        lay_line(acc, tray, fr, place, premultiplied, part, top, run, r);
+        r += 1;
+    }
+}
+
+// Lays every input over a stripe, in list order.
+pub(crate) fn lay_inputs(
+    acc: &mut [u32],
+    body: &[u8],
+    tray: &[u8],
+    premultiplied: &[u8],
+    d: OverlayDescriptor,
+    first: usize,
+    part: Part,
+    top: u16,
+    run: Stripe,
+)
+    requires { ⌜ OverlaySound (now body) d × (length (now premultiplied) ≡ d .count) × (1 ≤ top) × StripeFits run × (run .count ≤ length (now acc)) ⌝ }
+    ensures { λ _. ⌜ ((j : ℕ) → j < run .count → getD (now (acc .exit)) j 0
+        ≡ allLaid top part (acrossAt run j) (downAt run j) (layersOf (now (body .entry)) (now (tray .entry)) (now (premultiplied .entry)) d 0 (framesFrom (d .count) (now (tray .entry)) first)) (getD (now (acc .entry)) j 0)) ⌝ }
+{
+    let count = d.count;
+    let mut at = first;
+    let mut i: u32 = 0;
+    while i < count {
+        match image::read_record(tray, at) {
+            FrameRead::Refused(_) => {
+                return;
+            }
+            FrameRead::Read(fr) => {
+                let place = d.offset(body, i);
+                let n = i as usize;
+                let multiplied = premultiplied[n] != 0;
+                lay_input(acc, tray, fr, place, multiplied, part, top, run);
+                at = fr.end;
+            }
+        }
+        i += 1;
+    }
+}
