@@ -112,6 +112,39 @@ uint64_t compose_irot(const uint8_t *record, size_t record_len, uint8_t angle, u
 /* A record mirrored: axis mod 2, 0 exchanges top and bottom, 1 left and right. Refusals: the record's, 17. */
 uint64_t compose_imir(const uint8_t *record, size_t record_len, uint8_t axis, uint8_t *out, size_t out_len);
 
+/* A record scaled by an iscl property: each side times its fraction, rounded up, each sample the mean over its
+ * footprint. An unchanged size hands the record back. Refusals: the record's, 7, 10, 4, 17. */
+uint64_t compose_iscl(const uint8_t *record, size_t record_len, uint16_t width_num, uint16_t width_den,
+                      uint16_t height_num, uint16_t height_den, uint8_t *out, size_t out_len);
+
+/* A record at another size, by nearest samples. An unchanged size hands the record back. Refusals: the record's, 3, 4,
+ * 17. */
+uint64_t compose_resize_nearest(const uint8_t *record, size_t record_len, uint32_t width, uint32_t height, uint8_t *out,
+                                size_t out_len);
+
+/* A record at another depth, each sample in proportion to the top. An equal depth hands the record back. Refusals: the
+ * record's, 6, 17. */
+uint64_t compose_rescale_depth(const uint8_t *record, size_t record_len, uint32_t depth, uint8_t *out, size_t out_len);
+
+/* The master's record with the luma of another as its alpha plane, at the master's size and depth. The master's colour
+ * planes stay as they stand. Refusals: the master's, the alpha record's, 17. */
+uint64_t compose_attach_alpha(const uint8_t *master, size_t master_len, const uint8_t *alpha, size_t alpha_len,
+                              uint8_t *out, size_t out_len);
+/* Records composed of others. Each writes a record at the start of `out`, leaves what is past it, and answers its
+ * length. */
+
+/* The tiles of a tray joined, each in its cell of the grid of a descriptor body. Refusals: 5 a tray count that cannot be
+ * read; the body's; 11; the records'; 12; tile by tile 13 and 14; 17. */
+uint64_t compose_grid(const uint8_t *body, size_t body_len, const uint8_t *tray, size_t tray_len, uint8_t *out,
+                      size_t out_len);
+
+/* The inputs of a tray laid over the canvas of a descriptor body, the last on top. `premultiplied` has one byte an input,
+ * 0 means straight alpha. Colour 0 is no description. Refusals: 5 a tray count that cannot be read; the body's; 15; 11;
+ * the records'; 14; 16; 17. */
+uint64_t compose_overlay(const uint8_t *body, size_t body_len, const uint8_t *tray, size_t tray_len,
+                         const uint8_t *premultiplied, size_t premultiplied_len, uint8_t colour, uint16_t matrix,
+                         uint8_t full_range, uint8_t *out, size_t out_len);
+
 #ifdef __cplusplus
 }
 #endif

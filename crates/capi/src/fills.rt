@@ -14,7 +14,7 @@ use fill::Ycbcr;
 use laws::Refusal;
 
 // Colour 0 is none; a full range of 0 is the studio range.
-fn colour_of(colour: u8, matrix: u16, full_range: u8) -> Colour
+pub(crate) fn colour_of(colour: u8, matrix: u16, full_range: u8) -> Colour
     ensures { λ r. ⌜ r ≡ colourOf colour matrix «full_range» ⌝ }
 {
     if colour == 0 {

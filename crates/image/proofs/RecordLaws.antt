@@ -107,6 +107,24 @@ part-sound s at m p q e h =
     let r = plane-sound s at (rowsOf m p) (rowSize m p) q (sym (pick-true _ _ _ h) ∙ e) in
     record { inside = r .0; stride = r .1; rows = r .2; small = r .3 }
 
+-- its length is a number that was read
+plane-len : (s : List ℕ) (at rows row : ℕ) (q : Plane) → planeAt s at rows row ≡ done q → q .len < 2 ^ 32
+unfolding planeAt
+plane-len s at rows row q e =
+    let a = on-number _ _ q e in
+    let b = on-number _ _ q (a .3) in
+    let c = refuse-done (ltb (a .0) row) 5 _ q (b .3) in
+    let d = refuse-done (ltb (b .0) (a .0 * (rows - 1) + row)) 5 _ q (c .1) in
+    let f = refuse-done (ltb (length s - b .1) (b .0)) 5 _ q (d .1) in
+    rw (← done-same _ q (f .1)) (read-bounds s _ _ _ (b .2) .0)
+
+part-len : (s : List ℕ) (at : ℕ) (m : Form) (p : Part) (q : Plane) → partAt s at m p ≡ done q → q .len < 2 ^ 32
+unfolding partAt
+part-len s at m p q e =
+    by-test (hasPart (m .format) p)
+    (λ h. plane-len s at (rowsOf m p) (rowSize m p) q (sym (pick-true _ _ _ h) ∙ e))
+    (λ h. rw (← done-same _ q (sym (pick-false _ _ _ h) ∙ e)) (omega arith))
+
 -- the next plane begins inside
 pub part-past : (s : List ℕ) (at : ℕ) (m : Form) (p : Part) (q : Plane) → partAt s at m p ≡ done q → at ≤ length s → past q ≤ length s
 unfolding past partAt
@@ -158,6 +176,24 @@ whole-sound s fr e =
   where
     ends : (x y n : ℕ) → n ≤ x → x ≡ y → y ≤ n → y ≡ n
     ends x y n h q l = omega arith
+
+-- every plane's length fits a number
+pub record-lens : (s : List ℕ) (fr : Frame) → recordOf s ≡ done fr → (p : Part) → planeOf fr p .len < 2 ^ 32
+unfolding recordAt planesAt planeOf
+record-lens s fr e p =
+    let h = andThen-done _ _ fr (whole-sound s fr e .1) in
+    let a = andThen-done _ _ fr (h .2) in
+    let b = andThen-done _ _ fr (a .2) in
+    let c = andThen-done _ _ fr (b .2) in
+    let d = andThen-done _ _ fr (c .2) in
+    rw (← done-same _ fr (d .2)) (each (h .0 .form) (past (d .0)) (a .0) (b .0) (c .0) (d .0) (part-len s _ _ _ _ (a .1)) (part-len s _ _ _ _ (b .1)) (part-len s _ _ _ _ (c .1)) (part-len s _ _ _ _ (d .1)) p)
+  where
+    each : (m : Form) (n : ℕ) (q t u v : Plane) → q .len < 2 ^ 32 → t .len < 2 ^ 32 → u .len < 2 ^ 32 → v .len < 2 ^ 32 → (k : Part)
+        → planeOf (record { form = m; luma = q; cb = t; cr = u; alpha = v; end = n }) k .len < 2 ^ 32
+    each m n q t u v eq et eu ev Luma = eq
+    each m n q t u v eq et eu ev Cb = et
+    each m n q t u v eq et eu ev Cr = eu
+    each m n q t u v eq et eu ev Alpha = ev
 
 -- ---- a sample of a plane
 

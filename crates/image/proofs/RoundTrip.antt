@@ -283,7 +283,7 @@ pub record Agree (P Q : Pic) : Type 0 where
   pub reads : (p : Part) → hasPart (P .form .format) p ≡ true → (x y : ℕ) → x < columnsOf (P .form) p → y < rowsOf (P .form) p → P .at p x y ≡ Q .at p x y
 
 module _ (m : Form) (f g : Part → ℕ → ℕ → ℕ) where
-  plane-agree : (p : Part) → ((x y : ℕ) → hasPart (m .format) p ≡ true → x < columnsOf m p → y < rowsOf m p → f p x y ≡ g p x y)
+  pub plane-agree : (p : Part) → ((x y : ℕ) → hasPart (m .format) p ≡ true → x < columnsOf m p → y < rowsOf m p → f p x y ≡ g p x y)
       → planeBytes (record { form = m; at = f }) p ≡ planeBytes (record { form = m; at = g }) p
   unfolding planeBytes rowsBytes rowBytes samplesOf
   plane-agree p h = by-test (hasPart (m .format) p)

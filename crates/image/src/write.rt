@@ -2,6 +2,7 @@
 ghost use mathlib.Core.Path.{_≡_};
 ghost use Prim.Native.Nat.{_+_, _*_, _≤_, _<_, _^_};
 ghost use lib.ListN.{length};
+ghost use Rattle.laws.specs.Out.{answerOf, written, fitted};
 ghost use Rattle.laws.specs.Puts.{puts};
 ghost use Rattle.image.specs.Bytes.{headBytes, placed, planeHead, planeSize, sizeOf, tightAt};
 ghost use Rattle.image.specs.Sound.{FormSound};
@@ -9,6 +10,8 @@ use crate::format::Form;
 use crate::format::Part;
 use crate::record::Frame;
 use crate::record::Plane;
+use laws::Answer;
+use laws::Refusal;
 
 // Writes a record's five first numbers at `at`, and returns the place past them.
 pub fn write_head(out: &mut [u8], at: usize, form: Form) -> usize
@@ -33,7 +36,7 @@ pub fn write_plane_head(out: &mut [u8], at: usize, form: Form, part: Part) -> us
 }
 
 // How many bytes a plane of a tight record takes, its two numbers with them.
-fn plane_size(form: Form, part: Part) -> usize
+pub fn plane_size(form: Form, part: Part) -> usize
     requires { ⌜ FormSound form ⌝ }
     ensures { λ r. ⌜ (r ≡ planeSize form part) × (r < 2 ^ 33) ⌝ }
 {
@@ -47,7 +50,7 @@ fn plane_size(form: Form, part: Part) -> usize
 }
 
 // How many bytes a record's five first numbers take.
-fn head_size(form: Form) -> usize
+pub fn head_size(form: Form) -> usize
     ensures { λ r. ⌜ (r ≡ length (headBytes form)) × (r ≤ 25) ⌝ }
 {
     let f = form.format;
@@ -113,4 +116,15 @@ pub fn tight(form: Form) -> Frame
         alpha,
         end,
     }
+}
+
+// Hands a record back byte for byte where there is room for it.
+pub fn hand_back(record: &[u8], out: &mut [u8]) -> Answer
+    ensures { λ r. ⌜ (r ≡ answerOf (fitted (length (now (out .entry))) (now («record» .entry))))
+        × (now (out .exit) ≡ written (fitted (length (now (out .entry))) (now («record» .entry))) (now (out .entry))) ⌝ }
+{
+    if out.len() < record.len() {
+        return Answer::Refused(Refusal::ROOM);
+    }
+    Answer::Wrote(crate::samples::copy_row(out, 0, record))
 }

@@ -1,4 +1,6 @@
 pub mod Quarters
 pub mod Turns
 pub mod Steps
+pub mod Stops
 pub mod Agreement
+pub mod Cases

@@ -7,6 +7,7 @@ use native.Mathlib.Omega.{arith}
 use lib.Dec.{eqb}
 use Rattle.laws.proofs.Order.{by-equal}
 use Rattle.laws.specs.Pick.{pick}
+use Rattle.transform.proofs.Runs.{quarter-one, quarter-two, quarter-zero}
 use Rattle.transform.specs.Turn.{Quarter, q0, q1, q2, q3, quarterOf}
 use Rattle.sight.specs.Sight.{mirrorTurns}
 
@@ -60,38 +61,22 @@ pub quarter-by : (a b : ℕ) → a % 4 ≡ b % 4 → quarterOf a ≡ quarterOf b
 unfolding quarterOf
 quarter-by a b e = ap (λ (m : ℕ). pick (eqb m 0) q0 (pick (eqb m 1) q1 (pick (eqb m 2) q2 q3))) e
 
-pub quarter-0 : (a : ℕ) → a % 4 ≡ 0 → quarterOf a ≡ q0
-unfolding quarterOf pick
-quarter-0 a e = quarter-by a 0 e
-
-pub quarter-1 : (a : ℕ) → a % 4 ≡ 1 → quarterOf a ≡ q1
-unfolding quarterOf pick
-quarter-1 a e = quarter-by a 1 e
-
-pub quarter-2 : (a : ℕ) → a % 4 ≡ 2 → quarterOf a ≡ q2
-unfolding quarterOf pick
-quarter-2 a e = quarter-by a 2 e
-
 pub quarter-3 : (a : ℕ) → a % 4 ≡ 3 → quarterOf a ≡ q3
 unfolding quarterOf pick
 quarter-3 a e = quarter-by a 3 e
-
--- none of the first three
-pub quarter-last : (a : ℕ) → (a % 4 ≡ 0 → ⊥) → (a % 4 ≡ 1 → ⊥) → (a % 4 ≡ 2 → ⊥) → quarterOf a ≡ q3
-quarter-last a f g h = quarter-3 a (omega arith)
 
 quarter-suc : (a : ℕ) → quarterOf (suc a) ≡ next (quarterOf a)
 unfolding next
 quarter-suc a =
     by-quarter a
-    (λ e. quarter-1 (suc a) (omega arith) ∙ ap next (sym (quarter-0 a e)))
-    (λ e. quarter-2 (suc a) (omega arith) ∙ ap next (sym (quarter-1 a e)))
-    (λ e. quarter-3 (suc a) (omega arith) ∙ ap next (sym (quarter-2 a e)))
-    (λ e. quarter-0 (suc a) (omega arith) ∙ ap next (sym (quarter-3 a e)))
+    (λ e. quarter-one (suc a) (omega arith) ∙ ap next (sym (quarter-zero a e)))
+    (λ e. quarter-two (suc a) (omega arith) ∙ ap next (sym (quarter-one a e)))
+    (λ e. quarter-3 (suc a) (omega arith) ∙ ap next (sym (quarter-two a e)))
+    (λ e. quarter-zero (suc a) (omega arith) ∙ ap next (sym (quarter-3 a e)))
 
 quarter-add : (t a : ℕ) → quarterOf (t + a) ≡ plus (quarterOf t) (quarterOf a)
 unfolding plus
-quarter-add t zero = ap quarterOf (add-zero t) ∙ sym (ap (plus (quarterOf t)) (quarter-0 0 refl))
+quarter-add t zero = ap quarterOf (add-zero t) ∙ sym (ap (plus (quarterOf t)) (quarter-zero 0 refl))
 quarter-add t (suc a) =
     let s : t + suc a ≡ suc (t + a) = omega arith in
     ap quarterOf s ∙ quarter-suc (t + a) ∙ ap next (quarter-add t a) ∙ sym (plus-next (quarterOf t) (quarterOf a)) ∙ ap (plus (quarterOf t)) (sym (quarter-suc a))
@@ -103,15 +88,15 @@ pub quarter-mirror : (b : Bool) (t : ℕ) → quarterOf (mirrorTurns b t) ≡ fl
 unfolding mirrorTurns flipped
 quarter-mirror true t =
     by-quarter t
-    (λ e. quarter-0 _ (omega arith) ∙ ap (flipped true) (sym (quarter-0 t e)))
-    (λ e. quarter-3 _ (omega arith) ∙ ap (flipped true) (sym (quarter-1 t e)))
-    (λ e. quarter-2 _ (omega arith) ∙ ap (flipped true) (sym (quarter-2 t e)))
-    (λ e. quarter-1 _ (omega arith) ∙ ap (flipped true) (sym (quarter-3 t e)))
+    (λ e. quarter-zero _ (omega arith) ∙ ap (flipped true) (sym (quarter-zero t e)))
+    (λ e. quarter-3 _ (omega arith) ∙ ap (flipped true) (sym (quarter-one t e)))
+    (λ e. quarter-two _ (omega arith) ∙ ap (flipped true) (sym (quarter-two t e)))
+    (λ e. quarter-one _ (omega arith) ∙ ap (flipped true) (sym (quarter-3 t e)))
 quarter-mirror false t =
     by-quarter t
-    (λ e. quarter-2 _ (omega arith) ∙ ap (flipped false) (sym (quarter-0 t e)))
-    (λ e. quarter-1 _ (omega arith) ∙ ap (flipped false) (sym (quarter-1 t e)))
-    (λ e. quarter-0 _ (omega arith) ∙ ap (flipped false) (sym (quarter-2 t e)))
+    (λ e. quarter-two _ (omega arith) ∙ ap (flipped false) (sym (quarter-zero t e)))
+    (λ e. quarter-one _ (omega arith) ∙ ap (flipped false) (sym (quarter-one t e)))
+    (λ e. quarter-zero _ (omega arith) ∙ ap (flipped false) (sym (quarter-two t e)))
     (λ e. quarter-3 _ (omega arith) ∙ ap (flipped false) (sym (quarter-3 t e)))
 
 pub mirror-below : (b : Bool) (t : ℕ) → mirrorTurns b t < 4

@@ -18,9 +18,10 @@ use Rattle.props.specs.declared.clap.Clap.{Clap}
 use Rattle.props.specs.declared.clap.CropRect.{CropRect}
 use Rattle.props.specs.declared.entry.Property.{Property}
 use Rattle.props.specs.declared.entry.PropertyEntry.{PropertyEntry}
+use Rattle.transform.proofs.Runs.{quarter-one, quarter-two, quarter-zero}
 use Rattle.transform.specs.Place.{Place, sideways, swaps, unturn}
 use Rattle.transform.specs.Turn.{Quarter, quarterOf}
-use Rattle.sight.proofs.Quarters.{by-quarter, mirror-below, quarter-0, quarter-1, quarter-2, quarter-3}
+use Rattle.sight.proofs.Quarters.{by-quarter, mirror-below, quarter-3}
 use Rattle.sight.proofs.Turns.{crop-inside, exchange-inside, exchange-row, place-path, unturn-in, unturn-inside}
 use Rattle.sight.specs.Sight.{Bounded, Lies, back, backFrom, cropFrom, exchange, exchangeRect, finalHeight, finalWidth, highOf, mirrorTurns, placeOf, sightAfter, sightOf, thenCrop, thenMirror, thenTurn, unturnRect, whole, wideOf, within}
 use Rattle.sight.specs.declared.CanvasPlace.{CanvasPlace}
@@ -30,11 +31,11 @@ use Rattle.sight.specs.declared.Sight.{Sight}
 
 odd-swaps : (t : ℕ) → t % 2 ≡ 1 → swaps (quarterOf t) ≡ true
 unfolding swaps
-odd-swaps t h = by-quarter t (λ e. absurd (omega arith)) (λ e. ap swaps (quarter-1 t e)) (λ e. absurd (omega arith)) (λ e. ap swaps (quarter-3 t e))
+odd-swaps t h = by-quarter t (λ e. absurd (omega arith)) (λ e. ap swaps (quarter-one t e)) (λ e. absurd (omega arith)) (λ e. ap swaps (quarter-3 t e))
 
 even-swaps : (t : ℕ) → (t % 2 ≡ 1 → ⊥) → swaps (quarterOf t) ≡ false
 unfolding swaps
-even-swaps t h = by-quarter t (λ e. ap swaps (quarter-0 t e)) (λ e. absurd (h (omega arith))) (λ e. ap swaps (quarter-2 t e)) (λ e. absurd (h (omega arith)))
+even-swaps t h = by-quarter t (λ e. ap swaps (quarter-zero t e)) (λ e. absurd (h (omega arith))) (λ e. ap swaps (quarter-two t e)) (λ e. absurd (h (omega arith)))
 
 pub final-swapped : (s : Sight) → s .turns % 2 ≡ 1 → (finalWidth s ≡ s .area .height) × (finalHeight s ≡ s .area .width)
 unfolding finalWidth finalHeight wideOf highOf sideways

@@ -131,17 +131,6 @@ fn draw(record: &[u8], fr: Frame, v: Move, out: &mut [u8]) -> Answer
     Answer::Wrote(moves::write_moved(out, record, fr, v))
 }
 
-// Hands the record back byte for byte where there is room for it.
-fn hand_back(record: &[u8], out: &mut [u8]) -> Answer
-    ensures { λ r. ⌜ (r ≡ answerOf (fitted (length (now (out .entry))) (now («record» .entry))))
-        × (now (out .exit) ≡ written (fitted (length (now (out .entry))) (now («record» .entry))) (now (out .entry))) ⌝ }
-{
-    if out.len() < record.len() {
-        return Answer::Refused(Refusal::ROOM);
-    }
-    Answer::Wrote(image::copy_row(out, 0, record))
-}
-
 // The part of a record's picture in a rectangle.
 pub fn crop(record: &[u8], r: CropRect, out: &mut [u8]) -> Answer
     ensures { λ a. ⌜ (a ≡ answerOf (cropRun (now («record» .entry)) r (length (now (out .entry)))))
@@ -197,7 +186,7 @@ pub fn apply_irot(record: &[u8], irot: Irot, out: &mut [u8]) -> Answer
             let m = f.form;
             let quarter = irot.angle % 4;
             if quarter == 0 {
-                return hand_back(record, out);
+                return image::hand_back(record, out);
             }
             if quarter == 1 {
                 return draw(record, f, quarter_move(m, true, false), out);

@@ -1,11 +1,14 @@
 //! What is timed, a line a case.
 
-use compose::props::{Imir, Irot};
+use compose::props::{self, Imir, Irot};
 use compose::{GridDescriptor, HeifFrame, OverlayDescriptor};
 use differential::generate::{self, Form};
 use differential::ours::{Answer, Composer, Linked};
 use differential::rng::Rng;
-use model::{Chroma, Clap, Colour, Frame, Iscl, Operation, Rectangle, Work};
+use model::{
+    Chroma, Clap, Colour, Frame, Grid, Iscl, Operation, Overlay, OverlayInput, Rectangle, Work,
+    tray_bytes,
+};
 use std::hint::black_box;
 
 /// A call of the composer, on a lent buffer.
@@ -46,8 +49,8 @@ fn answered<T>(answer: Option<Answer<T>>) -> T {
 /// An operation on a picture.
 fn operation(name: &str, frame: &Frame, operation: Operation) -> Case {
     let record = frame.record();
-    // Promotion at most doubles it.
-    let mut ample = vec![0; 2 * record.len() + 64];
+    // Promotion at most doubles it, and twice the sides is four times the picture.
+    let mut ample = vec![0; 4 * record.len() + 64];
     Case {
         name: named(name, frame),
         room: answered(Linked.operation(&record, &operation, &mut ample)),
@@ -73,7 +76,18 @@ fn on_frames(frame: &Frame, operation: Operation) -> Option<Box<dyn Fn()>> {
         Operation::Imir(axis) => {
             Box::new(move || made(compose::apply_imir(&frame, &Imir::new(axis))))
         }
-        _ => return None,
+        Operation::Iscl(fields) => {
+            let [width_num, width_den, height_num, height_den] = fields.fields();
+            let iscl = props::Iscl::new(width_num, width_den, height_num, height_den);
+            Box::new(move || made(compose::apply_iscl(&frame, &iscl)))
+        }
+        Operation::Nearest(width, height) => {
+            Box::new(move || made(compose::resize_nearest(&frame, width, height)))
+        }
+        Operation::Depth(depth) => {
+            Box::new(move || made(compose::rescale_depth(&frame, depth as u8)))
+        }
+        Operation::Clap(_) => return None,
     })
 }
 
@@ -175,6 +189,80 @@ fn scale() -> Case {
     }
 }
 
+/// Four by four tiles of 4:2:0 joined, and the plain copy of as many bytes.
+fn grid(side: u32, copied: bool) -> Case {
+    let tiles: Vec<Frame> = (0..16).map(|_| picture(8, side / 4)).collect();
+    let grid = Grid {
+        rows: 4,
+        columns: 4,
+        width: side,
+        height: side,
+    };
+    let body = generate::grid_body(&grid, true);
+    let tray = tray_bytes(&tiles);
+    let mut ample = vec![0; tray.len() + 64];
+    let room = answered(Linked.grid(&body, &tray, &mut ample));
+    let name = if copied {
+        "copy of as many bytes as the grid"
+    } else {
+        "grid"
+    };
+    let call: Call = if copied {
+        Box::new(move |output| output.copy_from_slice(black_box(&ample[..room])))
+    } else {
+        Box::new(move |output| {
+            answered(Linked.grid(&body, &tray, output));
+        })
+    };
+    Case {
+        name: format!("{name}, 4 × 4 tiles of {0} × {0} 4:2:0, 8 bits", side / 4),
+        room,
+        call,
+        frames: None,
+        theirs: Work::Grid(grid, tiles),
+    }
+}
+
+/// So many inputs of one size, spread over a square canvas of 4:4:4.
+fn overlay(inputs: u32, size: u32, side: u32, alpha: u8) -> Case {
+    let form = Form {
+        chroma: Chroma::Yuv444,
+        depth: 8,
+        alpha,
+    };
+    let mut rng = Rng::new(u64::from(inputs));
+    let laid: Vec<OverlayInput> = (0..inputs)
+        .map(|_| OverlayInput {
+            frame: generate::even(&mut rng, (size, size), form),
+            premultiplied: false,
+        })
+        .collect();
+    let offsets = (0..inputs).map(|at| {
+        let place = |step: u32| ((at * step) % side) as i32 - (size / 4) as i32;
+        (place(389), place(127))
+    });
+    let overlay = Overlay {
+        fill: [0, 0, 0, 65_535],
+        width: side,
+        height: side,
+        offsets: offsets.collect(),
+    };
+    let body = generate::overlay_body(&overlay, true);
+    let frames: Vec<Frame> = laid.iter().map(|input| input.frame.clone()).collect();
+    let (tray, list) = (tray_bytes(&frames), vec![0; inputs as usize]);
+    let mut ample = vec![0; 4 * (side * side) as usize + 64];
+    let with = if alpha == 0 { "" } else { " with alpha" };
+    Case {
+        name: format!("overlay, {inputs} inputs of {size} × {size}{with} on {side} × {side}"),
+        room: answered(Linked.overlay(&body, &tray, &list, None, &mut ample)),
+        call: Box::new(move |output| {
+            answered(Linked.overlay(&body, &tray, &list, None, output));
+        }),
+        frames: None,
+        theirs: Work::Overlay(overlay, laid, None),
+    }
+}
+
 /// Every case, on square pictures of the given side, a multiple of 8.
 pub fn all(side: u32) -> Vec<Case> {
     let half = side / 2;
@@ -201,8 +289,20 @@ pub fn all(side: u32) -> Vec<Case> {
         cases.push(operation("irot 3", frame, Operation::Irot(3)));
         cases.push(operation("imir 0", frame, Operation::Imir(0)));
         cases.push(operation("imir 1", frame, Operation::Imir(1)));
+        let scaled = |n, d| Operation::Iscl(Iscl::from_fields([n, d, n, d]));
+        cases.push(operation("iscl, half", frame, scaled(1, 2)));
+        cases.push(operation("iscl, double", frame, scaled(2, 1)));
+        let nearest = Operation::Nearest(half, half);
+        cases.push(operation("nearest, half", frame, nearest));
+        let depth = if frame.depth == 8 { 10 } else { 8 };
+        let name = format!("depth {} to {depth}", frame.depth);
+        cases.push(operation(&name, frame, Operation::Depth(depth)));
         cases.push(reading(frame));
     }
+    cases.push(grid(side, false));
+    cases.push(grid(side, true));
+    cases.push(overlay(8, half, half, 1));
+    cases.push(overlay(1_000, (side / 64).max(1), side, 0));
     cases.push(grid_body());
     cases.push(overlay_body(8));
     cases.push(overlay_body(65_536));

@@ -40,6 +40,7 @@
 //! ```
 
 pub mod chain;
+pub mod composite;
 #[cfg(test)]
 mod declared;
 pub mod derived;
@@ -58,11 +59,15 @@ pub mod sys;
 pub mod transform;
 pub mod tray;
 
+pub use composite::{OverlayInput, composite_grid, composite_overlay};
 pub use derived::{GridDescriptor, OverlayDescriptor};
 pub use fill::fill_to_ycbcr;
 pub use image::{Chroma, HeifFrame, HeifPixelFormat, Plane};
 pub use refusal::Refusal;
-pub use transform::{apply_clap, apply_imir, apply_irot, crop};
+pub use transform::{
+    apply_clap, apply_imir, apply_irot, apply_iscl, attach_alpha, crop, rescale_depth,
+    resize_nearest,
+};
 
 /// What a call answers, or why it refused.
 pub type Result<T> = std::result::Result<T, Refusal>;

@@ -16,7 +16,7 @@
 //! ```
 
 use crate::lend::written;
-use crate::props::Clap;
+use crate::props::{Clap, Iscl};
 use crate::record::inspect;
 use crate::{Result, sys};
 
@@ -69,4 +69,72 @@ pub fn irot(record: &[u8], angle: u8) -> Result<Vec<u8>> {
 /// A record mirrored: axis mod 2, 0 top and bottom, 1 left and right. Refusals: the record's.
 pub fn imir(record: &[u8], axis: u8) -> Result<Vec<u8>> {
     written(alike(record), |out| sys::compose_imir(record, axis, out))
+}
+
+/// A record scaled by an iscl property; an unchanged size is the record. Refusals: the record's; 7,
+/// 10, 4.
+///
+/// ```
+/// use compose::operation;
+/// use compose::props::Iscl;
+///
+/// let row = [2, 1, 0, 8, 0, 2, 2, 0, 100];
+/// let twice = operation::iscl(&row, &Iscl::new(2, 1, 1, 1))?;
+/// assert_eq!(twice, [4, 1, 0, 8, 0, 4, 4, 0, 25, 75, 100]);
+/// # Ok::<(), compose::Refusal>(())
+/// ```
+pub fn iscl(record: &[u8], iscl: &Iscl) -> Result<Vec<u8>> {
+    written(alike(record), |out| {
+        sys::compose_iscl(
+            record,
+            iscl.width_num,
+            iscl.width_den,
+            iscl.height_num,
+            iscl.height_den,
+            out,
+        )
+    })
+}
+
+/// A record at another size, by nearest samples; an unchanged size is the record. Refusals: the
+/// record's; 3, 4.
+pub fn resize_nearest(record: &[u8], width: u32, height: u32) -> Result<Vec<u8>> {
+    let room = inspect(record)?.room(width, height).max(alike(record));
+    written(room, |out| {
+        sys::compose_resize_nearest(record, width, height, out)
+    })
+}
+
+/// A record at another depth; an equal depth is the record. Refusals: the record's; 6.
+///
+/// ```
+/// use compose::operation;
+///
+/// // 32768 at 16 bits is 128 at 8.
+/// let record = [1, 1, 0, 16, 0, 2, 2, 0, 128];
+/// assert_eq!(operation::rescale_depth(&record, 8)?, [1, 1, 0, 8, 0, 1, 1, 128]);
+/// # Ok::<(), compose::Refusal>(())
+/// ```
+pub fn rescale_depth(record: &[u8], depth: u32) -> Result<Vec<u8>> {
+    written(2 * alike(record), |out| {
+        sys::compose_rescale_depth(record, depth, out)
+    })
+}
+
+/// The master's record with the luma of another as its alpha plane. Refusals: the master's, then
+/// the alpha record's.
+///
+/// ```
+/// use compose::operation;
+///
+/// let master = [1, 1, 0, 8, 0, 1, 1, 10];
+/// let alpha = [1, 1, 0, 8, 0, 1, 1, 200];
+/// let both = operation::attach_alpha(&master, &alpha)?;
+/// assert_eq!(both, [1, 1, 0, 8, 1, 1, 1, 10, 1, 1, 200]);
+/// # Ok::<(), compose::Refusal>(())
+/// ```
+pub fn attach_alpha(master: &[u8], alpha: &[u8]) -> Result<Vec<u8>> {
+    written(alike(master) + alike(alpha), |out| {
+        sys::compose_attach_alpha(master, alpha, out)
+    })
 }

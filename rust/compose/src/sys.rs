@@ -155,6 +155,39 @@ library! {
 
     /// A record mirrored: axis mod 2, 0 top and bottom, 1 left and right.
     fn compose_imir(record: &[u8], axis: u8, out: &mut [u8]);
+
+    /// A record scaled by an iscl property.
+    fn compose_iscl(
+        record: &[u8],
+        width_num: u16,
+        width_den: u16,
+        height_num: u16,
+        height_den: u16,
+        out: &mut [u8],
+    );
+
+    /// A record at another size, by nearest samples.
+    fn compose_resize_nearest(record: &[u8], width: u32, height: u32, out: &mut [u8]);
+
+    /// A record at another depth.
+    fn compose_rescale_depth(record: &[u8], depth: u32, out: &mut [u8]);
+
+    /// The master's record with the luma of another as its alpha plane.
+    fn compose_attach_alpha(master: &[u8], alpha: &[u8], out: &mut [u8]);
+
+    /// The tiles of a tray, each in its cell of a grid.
+    fn compose_grid(body: &[u8], tray: &[u8], out: &mut [u8]);
+
+    /// The inputs of a tray laid over a canvas, the last on top.
+    fn compose_overlay(
+        body: &[u8],
+        tray: &[u8],
+        premultiplied: &[u8],
+        colour: u8,
+        matrix: u16,
+        full_range: u8,
+        out: &mut [u8],
+    );
 }
 
 #[cfg(test)]

@@ -1,4 +1,4 @@
-//! Crops, turns and mirrors of frames, with oxideav-heif's names.
+//! Crops, turns, mirrors and scalings of frames, with oxideav-heif's names.
 //!
 //! ```
 //! use compose::image::{Chroma, HeifFrame, HeifPixelFormat};
@@ -24,7 +24,7 @@
 //! ```
 
 use crate::image::HeifFrame;
-use crate::props::{Clap, Imir, Irot};
+use crate::props::{Clap, Imir, Irot, Iscl};
 use crate::{Result, operation};
 
 /// An operation on a record, on a frame.
@@ -64,4 +64,29 @@ pub fn apply_irot(f: &HeifFrame, irot: &Irot) -> Result<HeifFrame> {
 /// the frame's.
 pub fn apply_imir(f: &HeifFrame, imir: &Imir) -> Result<HeifFrame> {
     on_frame(f, |record| operation::imir(record, imir.axis))
+}
+
+/// Applies an iscl property: each side times its fraction, rounded up. Refusals: the frame's; 7,
+/// 10, 4.
+pub fn apply_iscl(f: &HeifFrame, iscl: &Iscl) -> Result<HeifFrame> {
+    on_frame(f, |record| operation::iscl(record, iscl))
+}
+
+/// `f` at another size, by nearest samples. Refusals: the frame's; 3, 4.
+pub fn resize_nearest(f: &HeifFrame, w: u32, h: u32) -> Result<HeifFrame> {
+    on_frame(f, |record| operation::resize_nearest(record, w, h))
+}
+
+/// `f` at another depth, each sample in proportion to the top. Refusals: the frame's; 6.
+pub fn rescale_depth(f: &HeifFrame, depth: u8) -> Result<HeifFrame> {
+    on_frame(f, |record| {
+        operation::rescale_depth(record, u32::from(depth))
+    })
+}
+
+/// `master` with the luma of `alpha` as its alpha plane, at the master's size and depth. Refusals:
+/// the master's, then the alpha frame's.
+pub fn attach_alpha(master: &HeifFrame, alpha: &HeifFrame) -> Result<HeifFrame> {
+    let alpha = alpha.to_record()?;
+    on_frame(master, |record| operation::attach_alpha(record, &alpha))
 }

@@ -106,6 +106,16 @@ pub const ALL: &[Comparison] = &[
         judge: fill,
     },
     Comparison {
+        name: "composite-grid",
+        generate: grid_input,
+        judge: composite_grid,
+    },
+    Comparison {
+        name: "composite-overlay",
+        generate: overlay_input,
+        judge: composite_overlay,
+    },
+    Comparison {
         name: "grid",
         generate: grid_input,
         judge: grid,
@@ -518,11 +528,9 @@ fn operation_fields(rng: &mut Rng, kind: Kind, size: (u32, u32)) -> Vec<i64> {
     }
 }
 
-/// A record, once in eight any but a valid one as a rule, and an operation's fields.
-fn operation_input(rng: &mut Rng, kind: Kind) -> Input {
-    let frame = generate::frame(rng);
-    let fields = operation_fields(rng, kind, (frame.width, frame.height));
-    let record = match rng.below(16) {
+/// A frame's record, once in eight any but a valid one as a rule.
+fn record_of(rng: &mut Rng, frame: &Frame) -> Vec<u8> {
+    match rng.below(16) {
         0 => damage::any_record(rng),
         1 => {
             let mut record = frame.record();
@@ -530,7 +538,14 @@ fn operation_input(rng: &mut Rng, kind: Kind) -> Input {
             record
         }
         _ => frame.record(),
-    };
+    }
+}
+
+/// A record and an operation's fields.
+fn operation_input(rng: &mut Rng, kind: Kind) -> Input {
+    let frame = generate::frame(rng);
+    let fields = operation_fields(rng, kind, (frame.width, frame.height));
+    let record = record_of(rng, &frame);
     Input::new()
         .with_bytes("record", record)
         .with_numbers("fields", fields)
@@ -583,9 +598,10 @@ fn attach_input(rng: &mut Rng) -> Input {
         generate::size(rng)
     };
     let alpha = generate::frame_of(rng, size, form, true);
+    let (master, alpha) = (record_of(rng, &master), record_of(rng, &alpha));
     Input::new()
-        .with_bytes("master", master.record())
-        .with_bytes("alpha", alpha.record())
+        .with_bytes("master", master)
+        .with_bytes("alpha", alpha)
 }
 
 fn attach(sides: &Sides, input: &Input) -> Verdict {
@@ -666,6 +682,38 @@ fn parts_of(input: &Input) -> SceneParts<'_> {
         chain: input.bytes("chain"),
         essential_only: input.flag("essential-only"),
     }
+}
+
+/// The same without a chain: what composing alone writes.
+fn composed_of(input: &Input) -> SceneParts<'_> {
+    SceneParts {
+        chain: &[0],
+        ..parts_of(input)
+    }
+}
+
+fn composite_grid(sides: &Sides, input: &Input) -> Verdict {
+    let parts = composed_of(input);
+    let wants = sides.wants(|build| Ok(expected::grid_scene(build, &parts)?.record));
+    agree(wants, |want| {
+        let call = |output: &mut [u8]| sides.ours.grid(parts.body, parts.tray, output);
+        no_record(want).or_else(|| ours::writes(want, call))
+    })
+}
+
+fn composite_overlay(sides: &Sides, input: &Input) -> Verdict {
+    let (parts, colour) = (composed_of(input), colour_of(input));
+    let list = input.bytes("premultiplied");
+    let wants =
+        sides.wants(|build| Ok(expected::overlay_scene(build, &parts, list, colour)?.record));
+    agree(wants, |want| {
+        let call = |output: &mut [u8]| {
+            sides
+                .ours
+                .overlay(parts.body, parts.tray, list, colour, output)
+        };
+        no_record(want).or_else(|| ours::writes(want, call))
+    })
 }
 
 fn grid(sides: &Sides, input: &Input) -> Verdict {

@@ -90,6 +90,21 @@ pub trait Composer: Sync {
         None
     }
 
+    fn grid(&self, _body: &[u8], _tray: &[u8], _output: &mut [u8]) -> Option<Answer<usize>> {
+        None
+    }
+
+    fn overlay(
+        &self,
+        _body: &[u8],
+        _tray: &[u8],
+        _premultiplied: &[u8],
+        _: Option<Colour>,
+        _output: &mut [u8],
+    ) -> Option<Answer<usize>> {
+        None
+    }
+
     fn grid_scene(
         &self,
         _: &SceneParts,
@@ -206,8 +221,38 @@ impl Composer for Linked {
             }
             Operation::Irot(angle) => sys::compose_irot(record, angle, output),
             Operation::Imir(axis) => sys::compose_imir(record, axis, output),
-            Operation::Iscl(_) | Operation::Nearest(..) | Operation::Depth(_) => return None,
+            Operation::Iscl(iscl) => {
+                let [width_num, width_den, height_num, height_den] = iscl.fields();
+                sys::compose_iscl(record, width_num, width_den, height_num, height_den, output)
+            }
+            Operation::Nearest(width, height) => {
+                sys::compose_resize_nearest(record, width, height, output)
+            }
+            Operation::Depth(depth) => sys::compose_rescale_depth(record, depth, output),
         };
+        answer(written.map(|length| length as usize))
+    }
+
+    fn attach(&self, master: &[u8], alpha: &[u8], output: &mut [u8]) -> Option<Answer<usize>> {
+        let written = sys::compose_attach_alpha(master, alpha, output);
+        answer(written.map(|length| length as usize))
+    }
+
+    fn grid(&self, body: &[u8], tray: &[u8], output: &mut [u8]) -> Option<Answer<usize>> {
+        let written = sys::compose_grid(body, tray, output);
+        answer(written.map(|length| length as usize))
+    }
+
+    fn overlay(
+        &self,
+        body: &[u8],
+        tray: &[u8],
+        premultiplied: &[u8],
+        colour: Option<Colour>,
+        output: &mut [u8],
+    ) -> Option<Answer<usize>> {
+        let (some, matrix, range) = colour_words(colour);
+        let written = sys::compose_overlay(body, tray, premultiplied, some, matrix, range, output);
         answer(written.map(|length| length as usize))
     }
 }

@@ -23,7 +23,7 @@ use Rattle.transform.proofs.apply_irot.Lts as lts
 use Rattle.image.proofs.parse_record.Reads as parse-record-reads
 use Rattle.transform.proofs.draw.Reads as draw-reads
 use Rattle.transform.proofs.half_move.Reads as half-move-reads
-use Rattle.transform.proofs.hand_back.Reads as hand-back-reads
+use Rattle.image.proofs.hand_back.Reads as hand-back-reads
 use Rattle.transform.proofs.quarter_move.Reads as quarter-move-reads
 
 taken : (c : tie.After-f) → recordOf (now (c .before .before .before .before .before .args .«record»)) ≡ done (c .f .given .0 .0)

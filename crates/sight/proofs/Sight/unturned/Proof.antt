@@ -1,7 +1,7 @@
 use native.Mathlib.Omega.{arith}
+use Rattle.transform.proofs.Runs.{quarter-one, quarter-three, quarter-two, quarter-zero}
 use Rattle.transform.specs.Place.{sideways, swaps}
 use Rattle.transform.specs.Turn.{q0, q1, q2, q3}
-use Rattle.sight.proofs.Quarters.{quarter-0, quarter-1, quarter-2, quarter-last}
 use Rattle.sight.proofs.Sight.unturned.Statement.{statement}
 use Rattle.sight.proofs.Steps.{inside-by, rect-by}
 use Rattle.sight.specs.Sight.{unturnRect}
@@ -11,51 +11,51 @@ use Rattle.sight.proofs.Sight.unturned.Lts as lts
 
 returns : tie.Need-returns
 unfolding unturnRect
-returns c = rect-by (c .before .before .before .args .self) q0 (quarter-0 _ (c .if1 .taken)) (c .before .before .before .args .c)
+returns c = rect-by (c .before .before .before .args .self) q0 (quarter-zero _ (c .if1 .taken)) (c .before .before .before .args .c)
 
 sub-t6 : tie.Need-sub-t6
 unfolding sideways swaps
-sub-t6 c = omega (arith, inside-by (c .before .before .before .before .before .before .args .self) q1 (quarter-1 _ (c .before .before .if2 .taken)) (c .before .before .before .before .before .before .args .c) (c .before .before .before .before .before .before .pre) .down)
+sub-t6 c = omega (arith, inside-by (c .before .before .before .before .before .before .args .self) q1 (quarter-one _ (c .before .before .if2 .taken)) (c .before .before .before .before .before .before .args .c) (c .before .before .before .before .before .before .pre) .down)
 
 sub-t7 : tie.Need-sub-t7
 unfolding sideways swaps
-sub-t7 c = omega (arith, inside-by (c .before .before .before .before .before .before .before .args .self) q1 (quarter-1 _ (c .before .before .before .if2 .taken)) (c .before .before .before .before .before .before .before .args .c) (c .before .before .before .before .before .before .before .pre) .down)
+sub-t7 c = omega (arith, inside-by (c .before .before .before .before .before .before .before .args .self) q1 (quarter-one _ (c .before .before .before .if2 .taken)) (c .before .before .before .before .before .before .before .args .c) (c .before .before .before .before .before .before .before .pre) .down)
 
 returns-2 : tie.Need-returns-2
 unfolding unturnRect
-returns-2 c = rect-by (c .before .before .before .before .before .before .before .args .self) q1 (quarter-1 _ (c .before .before .before .if2 .taken)) (c .before .before .before .before .before .before .before .args .c)
+returns-2 c = rect-by (c .before .before .before .before .before .before .before .args .self) q1 (quarter-one _ (c .before .before .before .if2 .taken)) (c .before .before .before .before .before .before .before .args .c)
 
 sub-t8 : tie.Need-sub-t8
 unfolding sideways swaps
-sub-t8 c = omega (arith, inside-by (c .before .before .before .before .before .before .before .args .self) q2 (quarter-2 _ (c .before .before .if3 .taken)) (c .before .before .before .before .before .before .before .args .c) (c .before .before .before .before .before .before .before .pre) .across)
+sub-t8 c = omega (arith, inside-by (c .before .before .before .before .before .before .before .args .self) q2 (quarter-two _ (c .before .before .if3 .taken)) (c .before .before .before .before .before .before .before .args .c) (c .before .before .before .before .before .before .before .pre) .across)
 
 sub-t9 : tie.Need-sub-t9
 unfolding sideways swaps
-sub-t9 c = omega (arith, inside-by (c .before .before .before .before .before .before .before .before .args .self) q2 (quarter-2 _ (c .before .before .before .if3 .taken)) (c .before .before .before .before .before .before .before .before .args .c) (c .before .before .before .before .before .before .before .before .pre) .across)
+sub-t9 c = omega (arith, inside-by (c .before .before .before .before .before .before .before .before .args .self) q2 (quarter-two _ (c .before .before .before .if3 .taken)) (c .before .before .before .before .before .before .before .before .args .c) (c .before .before .before .before .before .before .before .before .pre) .across)
 
 sub-t10 : tie.Need-sub-t10
 unfolding sideways swaps
-sub-t10 c = omega (arith, inside-by (c .before .before .before .before .before .before .before .before .before .before .args .self) q2 (quarter-2 _ (c .before .before .before .before .before .if3 .taken)) (c .before .before .before .before .before .before .before .before .before .before .args .c) (c .before .before .before .before .before .before .before .before .before .before .pre) .down)
+sub-t10 c = omega (arith, inside-by (c .before .before .before .before .before .before .before .before .before .before .args .self) q2 (quarter-two _ (c .before .before .before .before .before .if3 .taken)) (c .before .before .before .before .before .before .before .before .before .before .args .c) (c .before .before .before .before .before .before .before .before .before .before .pre) .down)
 
 sub-t11 : tie.Need-sub-t11
 unfolding sideways swaps
-sub-t11 c = omega (arith, inside-by (c .before .before .before .before .before .before .before .before .before .before .before .args .self) q2 (quarter-2 _ (c .before .before .before .before .before .before .if3 .taken)) (c .before .before .before .before .before .before .before .before .before .before .before .args .c) (c .before .before .before .before .before .before .before .before .before .before .before .pre) .down)
+sub-t11 c = omega (arith, inside-by (c .before .before .before .before .before .before .before .before .before .before .before .args .self) q2 (quarter-two _ (c .before .before .before .before .before .before .if3 .taken)) (c .before .before .before .before .before .before .before .before .before .before .before .args .c) (c .before .before .before .before .before .before .before .before .before .before .before .pre) .down)
 
 returns-3 : tie.Need-returns-3
 unfolding unturnRect
-returns-3 c = rect-by (c .before .before .before .before .before .before .before .before .before .before .before .args .self) q2 (quarter-2 _ (c .before .before .before .before .before .before .if3 .taken)) (c .before .before .before .before .before .before .before .before .before .before .before .args .c)
+returns-3 c = rect-by (c .before .before .before .before .before .before .before .before .before .before .before .args .self) q2 (quarter-two _ (c .before .before .before .before .before .before .if3 .taken)) (c .before .before .before .before .before .before .before .before .before .before .before .args .c)
 
 sub-t12 : tie.Need-sub-t12
 unfolding sideways swaps
-sub-t12 c = omega (arith, inside-by (c .before .before .before .before .before .before .before .args .self) q3 (quarter-last _ (c .before .before .before .before .if1 .left) (c .before .before .before .if2 .left) (c .before .before .if3 .left)) (c .before .before .before .before .before .before .before .args .c) (c .before .before .before .before .before .before .before .pre) .across)
+sub-t12 c = omega (arith, inside-by (c .before .before .before .before .before .before .before .args .self) q3 (quarter-three _ (c .before .before .before .before .if1 .left) (c .before .before .before .if2 .left) (c .before .before .if3 .left)) (c .before .before .before .before .before .before .before .args .c) (c .before .before .before .before .before .before .before .pre) .across)
 
 sub-t13 : tie.Need-sub-t13
 unfolding sideways swaps
-sub-t13 c = omega (arith, inside-by (c .before .before .before .before .before .before .before .before .args .self) q3 (quarter-last _ (c .before .before .before .before .before .if1 .left) (c .before .before .before .before .if2 .left) (c .before .before .before .if3 .left)) (c .before .before .before .before .before .before .before .before .args .c) (c .before .before .before .before .before .before .before .before .pre) .across)
+sub-t13 c = omega (arith, inside-by (c .before .before .before .before .before .before .before .before .args .self) q3 (quarter-three _ (c .before .before .before .before .before .if1 .left) (c .before .before .before .before .if2 .left) (c .before .before .before .if3 .left)) (c .before .before .before .before .before .before .before .before .args .c) (c .before .before .before .before .before .before .before .before .pre) .across)
 
 returns-4 : tie.Need-returns-4
 unfolding unturnRect
-returns-4 c = rect-by (c .before .before .before .before .before .before .before .before .args .self) q3 (quarter-last _ (c .before .before .before .before .before .if1 .left) (c .before .before .before .before .if2 .left) (c .before .before .before .if3 .left)) (c .before .before .before .before .before .before .before .before .args .c)
+returns-4 c = rect-by (c .before .before .before .before .before .before .before .before .args .self) q3 (quarter-three _ (c .before .before .before .before .before .if1 .left) (c .before .before .before .before .if2 .left) (c .before .before .before .if3 .left)) (c .before .before .before .before .before .before .before .before .args .c)
 
 pub unturned-spec : {M : Type 1} → statement M
 unturned-spec =

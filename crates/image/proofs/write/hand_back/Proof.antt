@@ -3,11 +3,11 @@ use native.Mathlib.Nat.{zero-add}
 use denote.Ref.{now}
 use borrow.Author.Needs.{needs}
 use Rattle.laws.proofs.Out.{done-answers, fitted-room, fitted-short, refused-answers}
-use Rattle.transform.proofs.hand_back.Statement.{statement}
-use Rattle.transform.proofs.hand_back.Tie as tie
-use Rattle.transform.proofs.hand_back.Reads as reads
-use Rattle.transform.proofs.hand_back.Lts as lts
-use Rattle.image.proofs.copy_row.Reads as copy-row-reads
+use Rattle.image.proofs.write.hand_back.Statement.{statement}
+use Rattle.image.proofs.write.hand_back.Tie as tie
+use Rattle.image.proofs.write.hand_back.Reads as reads
+use Rattle.image.proofs.write.hand_back.Lts as lts
+use Rattle.image.proofs.samples.copy_row.Reads as copy-row-reads
 
 -- src/lib.rt:144:9
 returns : tie.Need-returns

@@ -1,0 +1,10 @@
+pub mod FootLaws
+pub mod PlaceLaws
+pub mod RedrawLaws
+pub mod AttachLaws
+pub mod RunLaws
+pub mod DepthLaws
+pub mod SameLaws
+pub mod AgreeLaws
+pub mod SmallLaws
+pub mod Cases

@@ -1,0 +1,54 @@
+use mathlib.Core.Bool.{true}
+use mathlib.Core.List.{List}
+use mathlib.Core.Path.{_∙_, _≡_, ap, sym}
+use Prim.Native.Nat.{_+_, ℕ}
+use lib.ListN.{length}
+use borrow.Author.Needs.{needs}
+use denote.Ref.{now}
+use Rattle.laws.proofs.Writing.{writing-none}
+use Rattle.laws.specs.Puts.{puts}
+use Rattle.image.specs.Format.{hasPart}
+use Rattle.resample.proofs.AttachLaws.{kept-fits, kept-none, kept-some}
+use Rattle.resample.proofs.attach.keep_part.Statement.{statement}
+use Rattle.resample.specs.Attach.{keptPart, keptPlane}
+use Rattle.resample.proofs.attach.keep_part.Tie as tie
+use Rattle.resample.proofs.attach.keep_part.Reads as reads
+use Rattle.resample.proofs.attach.keep_part.Lts as lts
+use Rattle.image.proofs.format.PixelFormat.has.Reads as has-reads
+use Rattle.image.proofs.record.Frame.plane.Reads as plane-reads
+use Rattle.resample.proofs.attach.keep_plane.Reads as keep-plane-reads
+
+there : (c : tie.After-plane) → hasPart (c .before .before .before .before .before .before .before .before .args .fr .form .format) (c .before .before .before .before .before .before .before .before .args .part) ≡ true
+there c = sym (c .before .before .before .has .ensures) ∙ c .before .before .if1 .taken
+
+same : (c : tie.After-plane) → keptPlane (now (c .before .before .before .before .before .before .before .before .args .s)) (c .plane .result) ≡ keptPart (now (c .before .before .before .before .before .before .before .before .args .s)) (c .before .before .before .before .before .before .before .before .args .fr) (c .before .before .before .before .before .before .before .before .args .part)
+same c = ap (keptPlane (now (c .before .before .before .before .before .before .before .before .args .s))) (c .plane .ensures) ∙ sym (kept-some _ _ _ (there c))
+
+-- src/attach.rt:98:8
+has-requires : tie.Need-has-requires
+has-requires c κs = search needs
+
+-- src/attach.rt:99:39
+plane-requires : tie.Need-plane-requires
+plane-requires c κs = search needs
+
+-- src/attach.rt:99:9
+keep-plane-requires : tie.Need-keep-plane-requires
+keep-plane-requires c κs = (rw (c .plane .ensures) (kept-fits _ _ _ (c .before .before .before .before .before .before .before .before .pre .0) (there (c))), rw (same (c)) (c .before .before .before .before .before .before .before .before .pre .1))
+
+-- src/attach.rt:99:9
+same-length : tie.Need-same-length
+same-length c = search needs
+
+-- src/attach.rt:99:9
+returns : tie.Need-returns
+returns c = (c .before .before .keep-plane .ensures .0 ∙ ap (λ (l : List ℕ). c .before .before .before .before .before .before .before .before .before .before .before .args .at + length l) (same ((c .before .before .before))), c .before .before .keep-plane .ensures .1 ∙ ap (puts (now (c .before .before .before .before .before .before .before .before .before .before .before .args .out)) (c .before .before .before .before .before .before .before .before .before .before .before .args .at)) (same ((c .before .before .before))))
+
+-- src/attach.rt:92:1
+returns-2 : tie.Need-returns-2
+returns-2 c = writing-none (now (c .before .before .before .before .before .before .args .out)) (c .before .before .before .before .before .before .args .at) _ (kept-none _ _ _ (sym (c .before .has .ensures) ∙ c .if1 .left))
+
+pub keep-part-spec : {M : Type 1} → statement M
+keep-part-spec =
+    tie.close
+    (tie.spec has-requires plane-requires keep-plane-requires same-length returns returns-2)

@@ -1,0 +1,73 @@
+use mathlib.Core.List.{List, _++_}
+use mathlib.Core.Path.{_∙_, ap}
+use Prim.Native.Nat.{_+_, ℕ}
+use lib.ListN.{length}
+use borrow.Author.Needs.{needs}
+use denote.Ref.{now}
+use Rattle.laws.proofs.Writing.{Writing, writing-fits, writing-last, writing-run, writing-start}
+use Rattle.laws.specs.Puts.{puts}
+use Rattle.numbers.specs.Number.{numberBytes}
+use Rattle.image.specs.Bytes.{dataOf}
+use Rattle.resample.proofs.attach.keep_plane.Statement.{statement}
+use Rattle.resample.specs.Attach.{keptPlane}
+use Rattle.resample.proofs.attach.keep_plane.Tie as tie
+use Rattle.resample.proofs.attach.keep_plane.Reads as reads
+use Rattle.resample.proofs.attach.keep_plane.Lts as lts
+use Rattle.image.proofs.copy_row.Reads as copy-row-reads
+use Rattle.image.proofs.plane_data.Reads as plane-data-reads
+use Rattle.numbers.proofs.write_number.Reads as write-number-reads
+
+begun : (c : tie.Start) → Writing (now (c .args .out)) (c .args .at) (keptPlane (now (c .args .s)) (c .args .q)) (now (c .args .out)) (c .args .at) (numberBytes (c .args .q .stride) ++ (numberBytes (c .args .q .len) ++ dataOf (now (c .args .s)) (c .args .q)))
+unfolding keptPlane
+begun c = writing-start _ _ _ (c .pre .1)
+
+w1 : (c : tie.After-write-number) → Writing (now (c .before .before .before .before .before .args .out)) (c .before .before .before .before .before .args .at) (keptPlane (now (c .before .before .before .before .before .args .s)) (c .before .before .before .before .before .args .q)) (c .write-number .last .0) (c .write-number .result) (numberBytes (c .before .before .before .before .before .args .q .len) ++ dataOf (now (c .before .before .before .before .before .args .s)) (c .before .before .before .before .before .args .q))
+w1 c = writing-run (numberBytes (c .before .before .before .before .before .args .q .stride)) (begun ((c .before .before .before .before .before))) (c .write-number .ensures .0) (c .write-number .ensures .1)
+
+w2 : (c : tie.After-write-number2) → Writing (now (c .before .before .before .before .before .before .before .before .before .before .args .out)) (c .before .before .before .before .before .before .before .before .before .before .args .at) (keptPlane (now (c .before .before .before .before .before .before .before .before .before .before .args .s)) (c .before .before .before .before .before .before .before .before .before .before .args .q)) (c .write-number2 .last .0) (c .write-number2 .result) (dataOf (now (c .before .before .before .before .before .before .before .before .before .before .args .s)) (c .before .before .before .before .before .before .before .before .before .before .args .q))
+w2 c = writing-run (numberBytes (c .before .before .before .before .before .before .before .before .before .before .args .q .len)) (w1 ((c .before .before .before .before .before))) (c .write-number2 .ensures .0) (c .write-number2 .ensures .1)
+
+-- src/attach.rt:77:44
+cast-write-number : tie.Need-cast-write-number
+cast-write-number c = search needs
+
+-- src/attach.rt:77:9
+write-number-requires : tie.Need-write-number-requires
+write-number-requires c κs = writing-fits (numberBytes (c .before .before .before .before .args .q .stride)) _ (begun ((c .before .before .before .before)))
+
+-- src/attach.rt:78:43
+cast-write-number-2 : tie.Need-cast-write-number-2
+cast-write-number-2 c = search needs
+
+-- src/attach.rt:78:9
+write-number-requires-2 : tie.Need-write-number-requires-2
+write-number-requires-2 c κs = writing-fits (numberBytes (c .before .before .before .before .before .before .before .before .before .args .q .len)) _ (w1 ((c .before .before .before .before)))
+
+-- src/attach.rt:79:29
+plane-data-requires : tie.Need-plane-data-requires
+plane-data-requires c κs = search needs
+
+-- src/attach.rt:79:5
+copy-row-requires : tie.Need-copy-row-requires
+copy-row-requires c κs = rw (c .plane-data .ensures) (w2 ((c .before .before .before .before)) .room)
+
+-- src/attach.rt:73:1
+same-length : tie.Need-same-length
+same-length c = search needs
+
+-- src/attach.rt:73:1
+returns : tie.Need-returns
+returns c = writing-last (w2 ((c .before .before .before .before .before .before .before))) (c .before .before .copy-row .ensures .0 ∙ ap (λ (l : List ℕ). c .before .before .before .before .before .before .before .write-number2 .result + length l) (c .before .before .before .plane-data .ensures)) (c .before .before .copy-row .ensures .1 ∙ ap (puts (c .before .before .before .before .before .before .before .write-number2 .last .0) (c .before .before .before .before .before .before .before .write-number2 .result)) (c .before .before .before .plane-data .ensures))
+
+pub keep-plane-spec : {M : Type 1} → statement M
+keep-plane-spec =
+    tie.close
+    (tie.spec
+    cast-write-number
+    write-number-requires
+    cast-write-number-2
+    write-number-requires-2
+    plane-data-requires
+    copy-row-requires
+    same-length
+    returns)

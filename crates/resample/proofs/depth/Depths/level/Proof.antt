@@ -1,0 +1,78 @@
+use mathlib.Core.Path.{_∙_, _≡_, sym}
+use Prim.Native.Nat.{_*_, _+_, _/_}
+use native.Mathlib.Omega.{arith}
+use borrow.Author.Needs.{needs}
+use borrow.Author.Tests.{eq-eqb}
+use Rattle.laws.proofs.Order.{mul-below}
+use Rattle.laws.specs.Pick.{pick}
+use Rattle.resample.proofs.FootLaws.{least-left, least-right}
+use Rattle.resample.proofs.PlaceLaws.{level-other}
+use Rattle.resample.proofs.depth.Depths.level.Statement.{statement}
+use Rattle.resample.specs.Depth.{levelOf, topAt}
+use Rattle.resample.specs.Rounded.{rounded}
+use Rattle.resample.proofs.depth.Depths.level.Tie as tie
+use Rattle.resample.proofs.depth.Depths.level.Reads as reads
+use Rattle.resample.proofs.depth.Depths.level.Lts as lts
+use Rattle.resample.proofs.depth.top_at.Reads as top-at-reads
+
+worked : (c : tie.After-top-at2) → (c .before .before .before .before .args .v * c .top-at2 .result + c .before .top-at .result / 2) / c .before .top-at .result ≡ rounded (c .before .before .before .before .args .v * topAt (c .before .before .before .before .args .self .new)) (topAt (c .before .before .before .before .args .self .old))
+unfolding rounded
+worked c = rw (c .before .top-at .ensures .0, c .top-at2 .ensures .0)
+
+-- src/depth.rt:36:13
+returns : tie.Need-returns
+unfolding levelOf pick
+returns c =
+    simp (
+    eq-eqb _ _ (c .if1 .taken))
+
+-- src/depth.rt:38:13
+top-at-requires : tie.Need-top-at-requires
+top-at-requires c κs = search needs
+
+-- src/depth.rt:39:13
+top-at-requires-2 : tie.Need-top-at-requires-2
+top-at-requires-2 c κs = search needs
+
+-- src/depth.rt:40:22
+mul-level : tie.Need-mul-level
+mul-level c = omega (arith, mul-below 65535 65535 (c .before .before .before .before .args .v) (c .top-at2 .result) (omega (arith, c .before .before .before .before .fits .v)) (omega (arith, c .top-at2 .ensures .2)))
+
+-- src/depth.rt:40:22
+add-level : tie.Need-add-level
+add-level c = omega (arith, mul-below 65535 65535 (c .before .before .before .before .args .v) (c .top-at2 .result) (omega (arith, c .before .before .before .before .fits .v)) (omega (arith, c .top-at2 .ensures .2)), c .before .top-at .ensures .2)
+
+-- src/depth.rt:40:21
+div-level : tie.Need-div-level
+div-level c = search needs
+
+-- src/depth.rt:42:20
+cast-result : tie.Need-cast-result
+cast-result c = search needs
+
+-- src/depth.rt:42:13
+returns-2 : tie.Need-returns-2
+returns-2 c = c .before .top-at2 .ensures .0 ∙ sym (level-other _ _ _ (c .before .before .before .if1 .left) ∙ least-right _ _ (rw (worked ((c .before)), c .before .top-at2 .ensures .0) at (c .if2 .taken)))
+
+-- src/depth.rt:44:9
+cast-result-2 : tie.Need-cast-result-2
+cast-result-2 c = search needs
+
+-- src/depth.rt:31:5
+returns-3 : tie.Need-returns-3
+returns-3 c = worked ((c .before)) ∙ sym (level-other _ _ _ (c .before .before .before .if1 .left) ∙ least-left _ _ (rw (worked ((c .before)), c .before .top-at2 .ensures .0) at (c .if2 .left)))
+
+pub level-spec : {M : Type 1} → statement M
+level-spec =
+    tie.close
+    (tie.spec
+    returns
+    top-at-requires
+    top-at-requires-2
+    mul-level
+    add-level
+    div-level
+    cast-result
+    returns-2
+    cast-result-2
+    returns-3)

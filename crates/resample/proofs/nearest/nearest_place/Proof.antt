@@ -1,0 +1,31 @@
+use mathlib.Core.Path.{_∙_, ap, refl, sym}
+use Prim.Native.Nat.{_^_, ℕ}
+use native.Mathlib.Omega.{arith}
+use borrow.Author.Needs.{needs}
+use Rattle.laws.proofs.Order.{mul-below}
+use Rattle.resample.proofs.PlaceLaws.{near-same}
+use Rattle.resample.proofs.nearest.nearest_place.Statement.{statement}
+use Rattle.resample.specs.Nearest.{nearPlace}
+use Rattle.resample.proofs.nearest.nearest_place.Tie as tie
+use Rattle.resample.proofs.nearest.nearest_place.Reads as reads
+use Rattle.resample.proofs.nearest.nearest_place.Lts as lts
+
+-- src/nearest.rt:25:9
+returns : tie.Need-returns
+returns c = sym (ap (λ (n : ℕ). nearPlace n (c .before .args .a .to) (c .before .args .k)) (c .if1 .taken) ∙ near-same _ _ (c .before .pre .0))
+
+-- src/nearest.rt:27:5
+mul-result : tie.Need-mul-result
+mul-result c = omega (arith, mul-below (2 ^ 30) (2 ^ 30) (c .before .args .k) (c .before .args .a .from) (omega (arith, c .before .pre .1, c .before .pre .2)) (c .before .pre .3))
+
+-- src/nearest.rt:27:5
+div-result : tie.Need-div-result
+div-result c = search needs
+
+-- src/nearest.rt:18:1
+returns-2 : tie.Need-returns-2
+unfolding nearPlace
+returns-2 c = refl
+
+pub nearest-place-spec : {M : Type 1} → statement M
+nearest-place-spec = tie.close (tie.spec returns mul-result div-result returns-2)

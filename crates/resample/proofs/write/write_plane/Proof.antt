@@ -1,0 +1,97 @@
+use mathlib.Core.Bool.{true}
+use mathlib.Core.List.{List, _++_}
+use mathlib.Core.Path.{_∙_, _≡_, ap, sym}
+use Prim.Native.Nat.{_*_, _+_, ℕ}
+use lib.ListN.{length}
+use borrow.Author.Needs.{needs}
+use denote.Ref.{now}
+use Rattle.laws.proofs.Writing.{Writing, writing-begin, writing-fits, writing-last, writing-none, writing-run}
+use Rattle.laws.specs.Puts.{puts}
+use Rattle.image.proofs.RoundTrip.{plane-none}
+use Rattle.image.specs.Bytes.{dataOf, decode, planeBytes, planeHead}
+use Rattle.image.specs.Format.{hasPart}
+use Rattle.image.specs.Record.{planeOf}
+use Rattle.image.specs.declared.record.Plane.{Plane}
+use Rattle.resample.proofs.RedrawLaws.{Worked, length-rasterBytes, plane-drawn, plane-raster, plane-rule, worked-bytes, worked-fits, worked-rule, worked-size}
+use Rattle.resample.proofs.write.write_plane.Statement.{statement}
+use Rattle.resample.specs.Redraw.{RasterFits, RuleFits, rasterBytes, rasterOf, redrawn}
+use Rattle.resample.specs.declared.write.Raster.{Raster}
+use Rattle.resample.proofs.write.write_plane.Tie as tie
+use Rattle.resample.proofs.write.write_plane.Reads as reads
+use Rattle.resample.proofs.write.write_plane.Lts as lts
+use Rattle.image.proofs.format.PixelFormat.has.Reads as has-reads
+use Rattle.image.proofs.write_plane_head.Reads as write-plane-head-reads
+use Rattle.image.proofs.record.Frame.plane.Reads as plane-reads
+use Rattle.resample.proofs.write.plane_raster.Reads as plane-raster-reads
+use Rattle.image.proofs.plane_data.Reads as plane-data-reads
+use Rattle.resample.proofs.write.write_rows.Reads as write-rows-reads
+
+-- the plane is there
+module _ (c : tie.Then1) where
+  abbrev q : Plane
+  q = planeOf (c .before .before .before .before .before .args .fr) (c .before .before .before .before .before .args .part)
+
+  abbrev r : Raster
+  r = rasterOf (c .before .before .before .before .before .args .fr .form) (c .before .before .before .before .before .args .form) (q .stride) (c .before .before .before .before .before .args .part) (c .before .before .before .before .before .args .rule)
+
+  abbrev head : List ℕ
+  head = planeHead (c .before .before .before .before .before .args .form) (c .before .before .before .before .before .args .part)
+
+  abbrev rest : List ℕ
+  rest = rasterBytes (dataOf (now (c .before .before .before .before .before .args .s)) q) r
+
+  there : hasPart (c .before .before .before .before .before .args .form .format) (c .before .before .before .before .before .args .part) ≡ true
+  there = sym (c .before .has .ensures) ∙ c .if1 .taken
+
+  start : Writing (now (c .before .before .before .before .before .args .out)) (c .before .before .before .before .before .args .at) (planeBytes (redrawn (c .before .before .before .before .before .args .form) (c .before .before .before .before .before .args .rule) (decode (now (c .before .before .before .before .before .args .s)) (c .before .before .before .before .before .args .fr))) (c .before .before .before .before .before .args .part)) (now (c .before .before .before .before .before .args .out)) (c .before .before .before .before .before .args .at) (head ++ rest)
+  start = writing-begin _ _ _ _ (plane-drawn (now (c .before .before .before .before .before .args .s)) (c .before .before .before .before .before .args .fr) (c .before .before .before .before .before .args .form) (c .before .before .before .before .before .args .rule) (c .before .before .before .before .before .args .part) there (c .before .before .before .before .before .pre .0) (c .before .before .before .before .before .pre .1)) (c .before .before .before .before .before .pre .2)
+
+  fits : RasterFits (dataOf (now (c .before .before .before .before .before .args .s)) q) r
+  fits = plane-raster (now (c .before .before .before .before .before .args .s)) (c .before .before .before .before .before .args .fr) (c .before .before .before .before .before .args .form) (c .before .before .before .before .before .args .rule) (c .before .before .before .before .before .args .part) there (c .before .before .before .before .before .pre .0) (c .before .before .before .before .before .pre .1)
+
+  rule : RuleFits (r .rule) (r .across) (r .down)
+  unfolding rasterOf
+  rule = plane-rule (now (c .before .before .before .before .before .args .s)) (c .before .before .before .before .before .args .fr) (c .before .before .before .before .before .args .form) (c .before .before .before .before .before .args .rule) (c .before .before .before .before .before .args .part) there (c .before .before .before .before .before .pre .0) (c .before .before .before .before .before .pre .1)
+
+  size : length rest ≡ r .down .to * (r .across .to * r .«to_bytes»)
+  size = length-rasterBytes _ _ fits
+
+first : (c : tie.After-write-plane-head) → Writing (now (c .before .before .before .before .before .before .before .args .out)) (c .before .before .before .before .before .before .before .args .at) (planeBytes (redrawn (c .before .before .before .before .before .before .before .args .form) (c .before .before .before .before .before .before .before .args .rule) (decode (now (c .before .before .before .before .before .before .before .args .s)) (c .before .before .before .before .before .before .before .args .fr))) (c .before .before .before .before .before .before .before .args .part)) (c .write-plane-head .last .0) (c .write-plane-head .result) (rest ((c .before .before)))
+first c = writing-run (head ((c .before .before))) (start ((c .before .before))) (c .write-plane-head .ensures .0) (c .write-plane-head .ensures .1)
+
+worked : (c : tie.After-plane-data) → Worked (dataOf (now (c .before .before .before .before .before .before .before .before .before .before .before .before .before .args .s)) (q ((c .before .before .before .before .before .before .before .before)))) (now (c .plane-data .result)) (r ((c .before .before .before .before .before .before .before .before))) (c .before .before .plane-raster .result)
+worked c = record {
+  bits = c .plane-data .ensures ∙ ap (dataOf (now (c .before .before .before .before .before .before .before .before .before .before .before .before .before .args .s))) (c .before .before .before .plane .ensures);
+  same = c .before .before .plane-raster .ensures ∙ ap (λ (k : Plane). rasterOf (c .before .before .before .before .before .before .before .before .before .before .before .before .before .args .fr .form) (c .before .before .before .before .before .before .before .before .before .before .before .before .before .args .form) (k .stride) (c .before .before .before .before .before .before .before .before .before .before .before .before .before .args .part) (c .before .before .before .before .before .before .before .before .before .before .before .before .before .args .rule)) (c .before .before .before .plane .ensures);
+}
+
+has-requires : tie.Need-has-requires
+has-requires c κs = search needs
+
+write-plane-head-requires : tie.Need-write-plane-head-requires
+write-plane-head-requires c κs = (c .before .before .before .before .before .before .pre .1 .new, writing-fits (head ((c .before))) (rest ((c .before))) (start ((c .before))))
+
+plane-requires : tie.Need-plane-requires
+plane-requires c κs = search needs
+
+plane-raster-requires : tie.Need-plane-raster-requires
+plane-raster-requires c κs = search needs
+
+plane-data-requires : tie.Need-plane-data-requires
+plane-data-requires c κs = rw (c .before .before .plane .ensures) (c .before .before .before .before .before .before .before .before .before .before .before .before .pre .0 .planes (c .before .before .before .before .before .before .before .before .before .before .before .before .args .part) (c .before .before .before .before .before .before .before .before .before .before .before .before .pre .1 .parts _ (there ((c .before .before .before .before .before .before .before)))) .inside)
+
+write-rows-requires : tie.Need-write-rows-requires
+write-rows-requires c κs = (worked-fits (worked (c)) (fits ((c .before .before .before .before .before .before .before .before))), worked-rule (worked (c)) (rule ((c .before .before .before .before .before .before .before .before))), rw (worked-size (worked (c)) ∙ sym (size ((c .before .before .before .before .before .before .before .before)))) (first ((c .before .before .before .before .before .before)) .room))
+
+same-length : tie.Need-same-length
+same-length c = search needs
+
+returns : tie.Need-returns
+returns c = writing-last (first ((c .before .before .before .before .before .before .before .before .before))) (c .before .before .write-rows .ensures .0 ∙ ap (λ (k : ℕ). c .before .before .before .before .before .before .before .before .before .write-plane-head .result + k) (worked-size (worked ((c .before .before .before))) ∙ sym (size ((c .before .before .before .before .before .before .before .before .before .before .before))))) (c .before .before .write-rows .ensures .1 ∙ ap (puts (c .before .before .before .before .before .before .before .before .before .write-plane-head .last .0) (c .before .before .before .before .before .before .before .before .before .write-plane-head .result)) (worked-bytes (worked ((c .before .before .before)))))
+
+returns-2 : tie.Need-returns-2
+unfolding redrawn
+returns-2 c = writing-none (now (c .before .before .before .before .before .args .out)) (c .before .before .before .before .before .args .at) _ (plane-none (redrawn (c .before .before .before .before .before .args .form) (c .before .before .before .before .before .args .rule) (decode (now (c .before .before .before .before .before .args .s)) (c .before .before .before .before .before .args .fr))) (c .before .before .before .before .before .args .part) (sym (c .before .has .ensures) ∙ c .if1 .left))
+
+pub write-plane-spec : {M : Type 1} → statement M
+write-plane-spec = tie.close (tie.spec has-requires write-plane-head-requires plane-requires plane-raster-requires plane-data-requires write-rows-requires same-length returns returns-2)

@@ -1,0 +1,91 @@
+use mathlib.Core.List.{List, _++_}
+use mathlib.Core.Path.{_∙_, _≡_, ap, refl, sym}
+use Prim.Native.Nat.{_+_, _-_, _<_, _≤_, ℕ}
+use lib.ListN.{length}
+use borrow.Author.Needs.{needs}
+use denote.Ref.{now}
+use Rattle.laws.proofs.Span.{span-end, span-step}
+use Rattle.laws.proofs.Writing.{Writing, writing-as, writing-done, writing-fits, writing-run, writing-start}
+use Rattle.laws.specs.Puts.{puts}
+use Rattle.laws.specs.Span.{span}
+use Rattle.image.proofs.ByteLaws.{length-sampleBytes}
+use Rattle.image.specs.Bytes.{sampleBytes, samplesOf}
+use Rattle.resample.proofs.RedrawLaws.{length-rasterRow}
+use Rattle.resample.proofs.write.write_row.Statement.{statement}
+use Rattle.resample.specs.Redraw.{rasterAt, rasterRow}
+use Rattle.resample.proofs.write.write_row.Tie as tie
+use Rattle.resample.proofs.write.write_row.Reads as reads
+use Rattle.resample.proofs.write.write_row.Lts as lts
+use Rattle.image.proofs.put_sample.Reads as put-sample-reads
+use Rattle.resample.proofs.write.row_sample.Reads as row-sample-reads
+
+abbrev Inv-loop : tie.InvT-loop
+Inv-loop out₀ at plane r row n i₀ x₀ out i x = (n ≡ r .across .to) × Writing out₀ at (rasterRow plane r row) out i (span (λ u. sampleBytes (r .«to_bytes») (rasterAt plane r row u)) x (r .across .to))
+
+abbrev μ-loop : tie.MeasureT-loop
+μ-loop out₀ at plane r row n i₀ x₀ out i x = n - x
+
+-- sample x of the row
+module _ (c : tie.In-loop Inv-loop μ-loop) where
+  abbrev item : ℕ → List ℕ
+  item u = sampleBytes (c .before .before .before .before .before .args .r .«to_bytes») (rasterAt (now (c .before .before .before .before .before .args .plane)) (c .before .before .before .before .before .args .r) (c .before .before .before .before .before .args .row) u)
+
+  left : c .before .loop .x < c .before .before .before .before .before .args .r .across .to
+  left = rw (c .before .loop .inv .0) at (c .loop-test .taken)
+
+  step : span item (c .before .loop .x) (c .before .before .before .before .before .args .r .across .to) ≡ item (c .before .loop .x) ++ span item (c .before .loop .x + 1) (c .before .before .before .before .before .args .r .across .to)
+  step = span-step item (c .before .loop .x) (c .before .before .before .before .before .args .r .across .to) left
+
+  long : length (item (c .before .loop .x)) ≡ c .before .before .before .before .before .args .r .«to_bytes»
+  long = length-sampleBytes (c .before .before .before .before .before .args .r .«to_bytes») _ (c .before .before .before .before .before .pre .0 .toSome) (c .before .before .before .before .before .pre .0 .toFew)
+
+  room : c .before .loop .i + c .before .before .before .before .before .args .r .«to_bytes» ≤ length (c .before .loop .out)
+  room = rw (← long) (writing-fits (item (c .before .loop .x)) _ (writing-as (c .before .loop .inv .1) step))
+
+-- src/write.rt:101:5
+loop-holds : tie.Need-loop-holds Inv-loop μ-loop
+unfolding rasterRow samplesOf
+loop-holds c = (refl, writing-start _ _ _ (rw (length-rasterRow (now (c .before .before .before .args .plane)) (c .before .before .before .args .r) (c .before .before .before .args .row) (c .before .before .before .pre .0)) (c .before .before .before .pre .2)))
+
+-- src/write.rt:102:51
+row-sample-requires : tie.Need-row-sample-requires Inv-loop μ-loop
+row-sample-requires c κs = (c .before .before .before .before .before .before .pre .0, c .before .before .before .before .before .before .pre .1, left ((c .before)))
+
+-- src/write.rt:102:9
+put-sample-requires : tie.Need-put-sample-requires Inv-loop μ-loop
+put-sample-requires c κs = (c .before .before .before .before .before .before .before .pre .0 .toSome, c .before .before .before .before .before .before .before .pre .0 .toFew, room ((c .before .before)))
+
+-- src/write.rt:103:9
+add-x : tie.Need-add-x Inv-loop μ-loop
+add-x c = search needs
+
+-- src/write.rt:101:5
+loop-less : tie.Need-loop-less Inv-loop μ-loop
+loop-less c = search needs
+
+-- src/write.rt:101:5
+loop-again : tie.Need-loop-again Inv-loop μ-loop
+loop-again c = (c .before .before .before .before .before .before .loop .inv .0, writing-run (item ((c .before .before .before .before .before)) (c .before .before .before .before .before .before .loop .x)) (writing-as (c .before .before .before .before .before .before .loop .inv .1) (step ((c .before .before .before .before .before)))) (c .before .before .put-sample .ensures .0 ∙ ap (λ (k : ℕ). c .before .before .before .before .before .before .loop .i + k) (sym (long ((c .before .before .before .before .before))))) (c .before .before .put-sample .ensures .1 ∙ ap (λ (v : ℕ). puts (c .before .before .before .before .before .before .loop .out) (c .before .before .before .before .before .before .loop .i) (sampleBytes (c .before .before .before .before .before .before .before .before .before .before .args .r .«to_bytes») v)) (c .before .before .before .row-sample .ensures)))
+
+-- src/write.rt:93:1
+same-length : tie.Need-same-length Inv-loop μ-loop
+same-length c = c .before .loop .inv .1 .long
+
+-- src/write.rt:93:1
+returns : tie.Need-returns Inv-loop μ-loop
+returns c = let w = writing-done (writing-as (c .before .loop .inv .1) (span-end _ _ _ (rw (c .before .loop .inv .0) at (c .loop-test .left)))) in (w .0 ∙ ap (λ (k : ℕ). c .before .before .before .before .before .args .at + k) (length-rasterRow (now (c .before .before .before .before .before .args .plane)) (c .before .before .before .before .before .args .r) (c .before .before .before .before .before .args .row) (c .before .before .before .before .before .pre .0)), w .1)
+
+pub write-row-spec : {M : Type 1} → statement M
+write-row-spec =
+    tie.close
+    (tie.spec
+    Inv-loop
+    μ-loop
+    loop-holds
+    row-sample-requires
+    put-sample-requires
+    add-x
+    loop-less
+    loop-again
+    same-length
+    returns)

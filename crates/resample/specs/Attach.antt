@@ -1,0 +1,66 @@
+-- An attached alpha plane (document 01, "Other operations", `attach_alpha`): the master's colour planes as they stand, stride and
+-- spare bytes with them; as alpha the other record's luma, as it stands where neither size nor depth changes, else at the nearest
+-- samples and then the master's depth, tight. Assumes nothing.
+use mathlib.Core.Bool.{Bool, _&&_}
+use mathlib.Core.List.{List, [], _++_}
+use Prim.Native.Nat.{_+_, _<_, _^_, _≤_, ℕ}
+use lib.Dec.{eqb}
+use lib.ListN.{length}
+use Rattle.laws.specs.Pick.{pick}
+use Rattle.numbers.specs.Number.{numberBytes}
+use Rattle.image.specs.Bytes.{dataOf, decode, headBytes, planeBytes}
+use Rattle.image.specs.Format.{hasPart}
+use Rattle.image.specs.Picture.{Pic}
+use Rattle.image.specs.Record.{planeOf}
+use Rattle.image.specs.Sound.{Sound}
+use Rattle.image.specs.declared.format.Form.{Form}
+use Rattle.image.specs.declared.format.Part.{Part}
+use Rattle.image.specs.declared.format.Part.the-variants.{Cb, Cr, Luma}
+use Rattle.image.specs.declared.record.Frame.{Frame}
+use Rattle.image.specs.declared.record.Plane.{Plane}
+use Rattle.resample.specs.Depth.{rescaled}
+use Rattle.resample.specs.Nearest.{nearest, sameSize}
+
+-- the form with an alpha plane, whether it had one or not
+unfoldable pub withAlpha : Form → Form
+withAlpha m = record { width = m .width; height = m .height; format = record { chroma = m .format .chroma; depth = m .format .depth; alpha = 1 } }
+
+-- the form, and the picture, of the luma alone
+unfoldable pub lumaForm : Form → Form
+lumaForm m = record { width = m .width; height = m .height; format = record { chroma = 0; depth = m .format .depth; alpha = 0 } }
+
+unfoldable pub lumaOf : Pic → Pic
+lumaOf P = record { form = lumaForm (P .form); at = P .at }
+
+-- a plane as it stands: its stride, its length, its bytes
+unfoldable pub keptPlane : List ℕ → Plane → List ℕ
+keptPlane s q = numberBytes (q .stride) ++ (numberBytes (q .len) ++ dataOf s q)
+
+unfoldable pub keptPart : List ℕ → Frame → Part → List ℕ
+keptPart s fr p = pick (hasPart (fr .form .format) p) (keptPlane s (planeOf fr p)) []
+
+-- the alpha plane for a picture of the form m
+unfoldable pub coverKept : Form → Form → Bool
+coverKept m n = sameSize n (m .width) (m .height) && eqb (m .format .depth) (n .format .depth)
+
+unfoldable pub coverBytes : Form → List ℕ → Frame → List ℕ
+coverBytes m t gr =
+    pick (coverKept m (gr .form)) (keptPlane t (gr .luma))
+    (planeBytes (rescaled (nearest (lumaOf (decode t gr)) (m .width) (m .height)) (m .format .depth)) Luma)
+
+unfoldable pub attachBytes : List ℕ → Frame → List ℕ → Frame → List ℕ
+attachBytes s fr t gr =
+    headBytes (withAlpha (fr .form)) ++ (keptPart s fr Luma ++ (keptPart s fr Cb ++ (keptPart s fr Cr ++ coverBytes (fr .form) t gr)))
+
+-- ---- what writing it asks
+
+-- a plane inside its record, its stride and its length small enough to be written
+pub record KeptFits (s : List ℕ) (q : Plane) : Type 0 where
+  pub inside : q .start + q .len ≤ length s
+  pub stride : q .stride < 2 ^ 32
+  pub len : q .len < 2 ^ 32
+
+-- the same of every plane of a frame
+pub record Whole (s : List ℕ) (fr : Frame) : Type 0 where
+  pub sound : Sound s fr
+  pub lens : (p : Part) → planeOf fr p .len < 2 ^ 32

@@ -1,0 +1,7 @@
+pub mod Rounded
+pub mod Depth
+pub mod Nearest
+pub mod Area
+pub mod Redraw
+pub mod Attach
+pub mod Run

@@ -1,0 +1,24 @@
+-- Another size by nearest samples (document 01, "Other operations", `resize_nearest`): each plane between its own sizes. Assumes
+-- nothing.
+use mathlib.Core.Bool.{Bool, _&&_}
+use Prim.Native.Nat.{_*_, _/_, ℕ}
+use lib.Dec.{eqb}
+use Rattle.image.specs.Format.{columnsOf, rowsOf}
+use Rattle.image.specs.Picture.{Pic, sized}
+use Rattle.image.specs.declared.format.Form.{Form}
+
+-- whether a size is the picture's own
+unfoldable pub sameSize : Form → ℕ → ℕ → Bool
+sameSize m w h = eqb (m .width) w && eqb (m .height) h
+
+-- the sample, of so many that there were, that stands for sample k of so many that there are to be
+unfoldable pub nearPlace : ℕ → ℕ → ℕ → ℕ
+nearPlace from to k = k * from / to
+
+unfoldable pub nearest : Pic → ℕ → ℕ → Pic
+nearest P w h =
+    let m = sized (P .form) w h in
+    record {
+      form = m;
+      at = λ p x y. P .at p (nearPlace (columnsOf (P .form) p) (columnsOf m p) x) (nearPlace (rowsOf (P .form) p) (rowsOf m p) y);
+    }

@@ -1,0 +1,145 @@
+// Another size, each sample the mean over its footprint, in 256ths of a sample along each axis.
+ghost use mathlib.Core.Path.{_≡_};
+ghost use Prim.Native.Nat.{_-_, _*_, _<_, _≤_, _^_};
+ghost use lib.ListN.{length};
+ghost use Rattle.laws.specs.Out.{answerOf, fitted, written};
+ghost use Rattle.image.specs.Bytes.{sampleIn};
+ghost use Rattle.resample.specs.Area.{footOf, firstOf, pastOf, weightOf, weighed, areaMean, AreaFits, RowSumFits};
+ghost use Rattle.resample.specs.Rounded.{greatest, least};
+ghost use Rattle.image.specs.Sound.{Sound};
+ghost use Rattle.resample.specs.Redraw.{ScaleFits};
+ghost use Rattle.resample.specs.Run.{areaBytes, isclRun};
+use crate::write::Axis;
+use crate::write::Rule;
+use image::Frame;
+use image::FrameRead;
+use laws::Answer;
+use props::Iscl;
+use props::Size;
+use props::SizeAnswer;
+
+// A part of an axis, in 256ths of a sample.
+pub struct Foot {
+    pub start: usize,
+    pub end: usize,
+}
+
+fn least(a: usize, b: usize) -> usize
+    ensures { λ r. ⌜ r ≡ least a b ⌝ }
+{
+    if a <= b {
+        return a;
+    }
+    b
+}
+
+fn greatest(a: usize, b: usize) -> usize
+    ensures { λ r. ⌜ r ≡ greatest a b ⌝ }
+{
+    if a <= b {
+        return b;
+    }
+    a
+}
+
+// a - b, or 0 where that is less.
+fn above(a: usize, b: usize) -> usize
+    ensures { λ r. ⌜ r ≡ a - b ⌝ }
+{
+    if a <= b {
+        return 0;
+    }
+    a - b
+}
+
+// The footprint of sample k: its share of the axis where there are to be no more samples than there were; else the width of
+// one sample around its centre, kept inside the axis.
+pub fn footprint(a: Axis, k: usize) -> Foot
+    requires { ⌜ (k < a .to) × (1 ≤ a .from) × (a .to ≤ 2 ^ 26) × (a .from ≤ 2 ^ 26) ⌝ }
+    ensures { λ r. ⌜ r ≡ footOf (a .from) (a .to) k ⌝ }
+{
+    let from = a.from;
+    let to = a.to;
+    if to <= from {
+        return Foot {
+            start: k * from * 256 / to,
+            end: (k + 1) * from * 256 / to,
+        };
+    }
+    let centre = (2 * k + 1) * from * 256 / (2 * to);
+    let start = least(above(centre, 128), 256 * (from - 1));
+    Foot {
+        start,
+        end: start + 256,
+    }
+}
+
+// How much of a footprint lies in sample j.
+fn weight(f: Foot, j: usize) -> usize
+    requires { ⌜ (f .start < f .end) × (f .end ≤ 2 ^ 40) × (firstOf f ≤ j) × (j < pastOf f) ⌝ }
+    ensures { λ r. ⌜ (r ≡ weightOf f j) × (r ≤ 256) ⌝ }
+{
+    least(f.end, 256 * j + 256) - greatest(f.start, 256 * j)
+}
+
+// The samples of row y under a footprint, each times its weight.
+fn row_sum(plane: &[u8], bytes: usize, stride: usize, f: Foot, y: usize) -> usize
+    requires { ⌜ RowSumFits (now plane) bytes stride f y ⌝ }
+    ensures { λ r. ⌜ (r ≡ weighed f (λ x. sampleIn (now (plane .entry)) bytes stride x y)) × (r ≤ (f .end - f .start) * 65535) ⌝ }
+{
+    let past = (f.end + 255) / 256;
+    let mut sum: usize = 0;
+    let mut j = f.start / 256;
+    while j < past {
+        sum += image::sample(plane, bytes, stride, j, y) as usize * weight(f, j);
+        j += 1;
+    }
+    sum
+}
+
+// The mean of the samples under two footprints, to the nearest whole number, a half up.
+pub fn area_sample(plane: &[u8], bytes: usize, stride: usize, across: Foot, down: Foot) -> u16
+    requires { ⌜ AreaFits (now plane) bytes stride across down ⌝ }
+    ensures { λ r. ⌜ r ≡ areaMean across down (λ x y. sampleIn (now (plane .entry)) bytes stride x y) ⌝ }
+{
+    let past = (down.end + 255) / 256;
+    let mut sum: usize = 0;
+    let mut j = down.start / 256;
+    while j < past {
+        sum += row_sum(plane, bytes, stride, across, j) * weight(down, j);
+        j += 1;
+    }
+    let whole = (across.end - across.start) * (down.end - down.start);
+    ((sum + whole / 2) / whole) as u16
+}
+
+// A record's picture at a size that iscl allows, each sample the mean over its footprint; an unchanged size hands the record back.
+// Refusal: 17.
+pub fn resize_area(record: &[u8], fr: Frame, z: Size, out: &mut [u8]) -> Answer
+    requires { ⌜ Sound (now «record») fr × ScaleFits (fr .form) z ⌝ }
+    ensures { λ a. ⌜ (a ≡ answerOf (fitted (length (now (out .entry))) (areaBytes (now («record» .entry)) fr (z .width) (z .height))))
+        × (now (out .exit) ≡ written (fitted (length (now (out .entry))) (areaBytes (now («record» .entry)) fr (z .width) (z .height))) (now (out .entry))) ⌝ }
+{
+    let m = fr.form;
+    if crate::write::same_size(m, z) {
+        return image::hand_back(record, out);
+    }
+    crate::write::draw(record, fr, m.sized(z.width, z.height), Rule::Area, out)
+}
+
+// A record's picture scaled by an iscl property. Refusals: the record's, 7, 10, 4, 17.
+pub fn apply_iscl(record: &[u8], iscl: Iscl, out: &mut [u8]) -> Answer
+    ensures { λ a. ⌜ (a ≡ answerOf (isclRun (now («record» .entry)) iscl (length (now (out .entry)))))
+        × (now (out .exit) ≡ written (isclRun (now («record» .entry)) iscl (length (now (out .entry)))) (now (out .entry))) ⌝ }
+{
+    match image::parse_record(record) {
+        FrameRead::Refused(e) => Answer::Refused(e),
+        FrameRead::Read(f) => {
+            let m = f.form;
+            match iscl.output_size(m.width, m.height) {
+                SizeAnswer::Refused(e) => Answer::Refused(e),
+                SizeAnswer::Size(z) => resize_area(record, f, z, out),
+            }
+        }
+    }
+}

@@ -1,0 +1,52 @@
+// Another size, each sample the nearest one at or before its place.
+ghost use mathlib.Core.Path.{_≡_};
+ghost use Prim.Native.Nat.{_*_, _<_, _≤_, _^_};
+ghost use lib.ListN.{length};
+ghost use Rattle.laws.specs.Out.{answerOf, written};
+ghost use Rattle.resample.specs.Nearest.{nearPlace};
+ghost use Rattle.resample.specs.Run.{nearestRun};
+use crate::depth::Depths;
+use crate::write::Axis;
+use crate::write::Rule;
+use image::FrameRead;
+use laws::Answer;
+use props::Size;
+use props::SizeAnswer;
+
+// Which of the samples that there were stands for sample k.
+pub fn nearest_place(a: Axis, k: usize) -> usize
+    requires { ⌜ (1 ≤ a .to) × (k < a .to) × (a .to ≤ 2 ^ 30) × (a .from ≤ 2 ^ 30) ⌝ }
+    ensures { λ r. ⌜ r ≡ nearPlace (a .from) (a .to) k ⌝ }
+{
+    let from = a.from;
+    let to = a.to;
+    if from == to {
+        return k;
+    }
+    k * from / to
+}
+
+// A record's picture at another size, by nearest samples. Refusals: the record's, 3, 4, 17.
+pub fn resize_nearest(record: &[u8], width: u32, height: u32, out: &mut [u8]) -> Answer
+    ensures { λ a. ⌜ (a ≡ answerOf (nearestRun (now («record» .entry)) width height (length (now (out .entry)))))
+        × (now (out .exit) ≡ written (nearestRun (now («record» .entry)) width height (length (now (out .entry)))) (now (out .entry))) ⌝ }
+{
+    match image::parse_record(record) {
+        FrameRead::Refused(e) => Answer::Refused(e),
+        FrameRead::Read(f) => match Size::judge(width, height) {
+            SizeAnswer::Refused(e) => Answer::Refused(e),
+            SizeAnswer::Size(z) => {
+                let m = f.form;
+                if crate::write::same_size(m, z) {
+                    return image::hand_back(record, out);
+                }
+                let g = m.format;
+                let rule = Rule::Near(Depths {
+                    old: g.depth,
+                    new: g.depth,
+                });
+                crate::write::draw(record, f, m.sized(z.width, z.height), rule, out)
+            }
+        },
+    }
+}

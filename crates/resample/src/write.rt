@@ -1,0 +1,202 @@
+// One writer for every picture whose samples are worked out from another's: a rule for one sample, planes at their own sizes.
+ghost use mathlib.Core.Path.{_≡_};
+ghost use Prim.Native.Nat.{_+_, _*_, _<_, _≤_};
+ghost use lib.ListN.{length};
+ghost use Rattle.laws.specs.Out.{answerOf, written, fitted};
+ghost use Rattle.laws.specs.Puts.{puts};
+ghost use Rattle.image.specs.Bytes.{decode, planeBytes, encode};
+ghost use Rattle.image.specs.Sound.{Sound};
+ghost use Rattle.resample.specs.Nearest.{sameSize};
+ghost use Rattle.resample.specs.Redraw.{rowOf, rasterAt, rasterRow, rasterOf, rasterBytes, redrawn, RuleFits, RowFits, AxisFits, RasterFits, RedrawFits};
+use crate::area::Foot;
+use crate::depth::Depths;
+use image::Form;
+use image::Frame;
+use image::Part;
+use laws::Answer;
+use laws::Refusal;
+use props::Size;
+
+// Along one axis of a plane: how many samples there were, and how many there are to be.
+pub struct Axis {
+    pub from: usize,
+    pub to: usize,
+}
+
+// How a sample is worked out: from the nearest one, at another depth; or as the mean over its footprint.
+pub enum Rule {
+    Near(Depths),
+    Area,
+}
+
+// A plane by its bytes, and the plane that is made of it.
+pub struct Raster {
+    pub bytes: usize,
+    pub stride: usize,
+    pub to_bytes: usize,
+    pub across: Axis,
+    pub down: Axis,
+    pub rule: Rule,
+}
+
+// What is fixed along a row: the row of the nearest samples, or the row's footprint.
+pub struct NearRow {
+    pub y: usize,
+    pub depths: Depths,
+}
+
+pub enum RowRule {
+    Near(NearRow),
+    Area(Foot),
+}
+
+// What is fixed along row y.
+fn row_rule(r: Raster, y: usize) -> RowRule
+    requires { ⌜ RuleFits (r .rule) (r .across) (r .down) × AxisFits (r .down) × (y < r .down .to) ⌝ }
+    ensures { λ k. ⌜ k ≡ rowOf (r .rule) (r .down) y ⌝ }
+{
+    let down = r.down;
+    let rule = r.rule;
+    match rule {
+        Rule::Near(depths) => RowRule::Near(NearRow {
+            y: crate::nearest::nearest_place(down, y),
+            depths,
+        }),
+        Rule::Area => RowRule::Area(crate::area::footprint(down, y)),
+    }
+}
+
+// Sample x of a row.
+fn row_sample(plane: &[u8], r: Raster, row: RowRule, x: usize) -> u16
+    requires { ⌜ RasterFits (now plane) r × RowFits row (r .across) (r .down .from) × (x < r .across .to) ⌝ }
+    ensures { λ v. ⌜ v ≡ rasterAt (now (plane .entry)) r row x ⌝ }
+{
+    let across = r.across;
+    match row {
+        RowRule::Near(k) => {
+            let depths = k.depths;
+            let u = crate::nearest::nearest_place(across, x);
+            depths.level(image::sample(plane, r.bytes, r.stride, u, k.y))
+        }
+        RowRule::Area(down) => crate::area::area_sample(
+            plane,
+            r.bytes,
+            r.stride,
+            crate::area::footprint(across, x),
+            down,
+        ),
+    }
+}
+
+// Writes a row of the new plane, and returns the place past it.
+fn write_row(out: &mut [u8], at: usize, plane: &[u8], r: Raster, row: RowRule) -> usize
+    requires { ⌜ RasterFits (now plane) r × RowFits row (r .across) (r .down .from) × (at + r .across .to * r .«to_bytes» ≤ length (now out)) ⌝ }
+    ensures { λ e. ⌜ (e ≡ at + r .across .to * r .«to_bytes») × (now (out .exit) ≡ puts (now (out .entry)) at (rasterRow (now (plane .entry)) r row)) ⌝ }
+{
+    let across = r.across;
+    let n = across.to;
+    let mut i = at;
+    let mut x: usize = 0;
+    while x < n {
+        i = image::put_sample(out, i, r.to_bytes, row_sample(plane, r, row, x));
+        x += 1;
+    }
+    i
+}
+
+// Writes the rows of the new plane, and returns the place past them.
+fn write_rows(out: &mut [u8], at: usize, plane: &[u8], r: Raster) -> usize
+    requires { ⌜ RasterFits (now plane) r × RuleFits (r .rule) (r .across) (r .down) × (at + r .down .to * (r .across .to * r .«to_bytes») ≤ length (now out)) ⌝ }
+    ensures { λ e. ⌜ (e ≡ at + r .down .to * (r .across .to * r .«to_bytes»)) × (now (out .exit) ≡ puts (now (out .entry)) at (rasterBytes (now (plane .entry)) r)) ⌝ }
+{
+    let down = r.down;
+    let n = down.to;
+    let mut i = at;
+    let mut y: usize = 0;
+    while y < n {
+        i = write_row(out, i, plane, r, row_rule(r, y));
+        y += 1;
+    }
+    i
+}
+
+// A plane of a picture, and what is made of it for a picture of another form.
+fn plane_raster(m: Form, form: Form, stride: usize, part: Part, rule: Rule) -> Raster
+    ensures { λ r. ⌜ r ≡ rasterOf m form stride part rule ⌝ }
+{
+    let f = m.format;
+    let g = form.format;
+    Raster {
+        bytes: f.bytes_per_sample(),
+        stride,
+        to_bytes: g.bytes_per_sample(),
+        across: Axis {
+            from: f.columns(m.width, part),
+            to: g.columns(form.width, part),
+        },
+        down: Axis {
+            from: f.rows(m.height, part),
+            to: g.rows(form.height, part),
+        },
+        rule,
+    }
+}
+
+// Writes a plane of the new picture, and returns the place past it.
+pub fn write_plane(
+    out: &mut [u8],
+    at: usize,
+    s: &[u8],
+    fr: Frame,
+    form: Form,
+    rule: Rule,
+    part: Part,
+) -> usize
+    requires { ⌜ Sound (now s) fr × RedrawFits (fr .form) form rule × (at + length (planeBytes (redrawn form rule (decode (now s) fr)) part) ≤ length (now out)) ⌝ }
+    ensures { λ e. ⌜ (e ≡ at + length (planeBytes (redrawn form rule (decode (now (s .entry)) fr)) part))
+        × (now (out .exit) ≡ puts (now (out .entry)) at (planeBytes (redrawn form rule (decode (now (s .entry)) fr)) part)) ⌝ }
+{
+    let g = form.format;
+    if g.has(part) {
+        let first = image::write_plane_head(out, at, form, part);
+        let q = fr.plane(part);
+        let r = plane_raster(fr.form, form, q.stride, part, rule);
+        return write_rows(out, first, image::plane_data(s, q), r);
+    }
+    at
+}
+
+// Writes the new picture's record at the start.
+fn write_record(out: &mut [u8], s: &[u8], fr: Frame, form: Form, rule: Rule) -> usize
+    requires { ⌜ Sound (now s) fr × RedrawFits (fr .form) form rule × (length (encode (redrawn form rule (decode (now s) fr))) ≤ length (now out)) ⌝ }
+    ensures { λ e. ⌜ (e ≡ length (encode (redrawn form rule (decode (now (s .entry)) fr))))
+        × (now (out .exit) ≡ puts (now (out .entry)) 0 (encode (redrawn form rule (decode (now (s .entry)) fr)))) ⌝ }
+{
+    let a = image::write_head(out, 0, form);
+    let b = write_plane(out, a, s, fr, form, rule, Part::Luma);
+    let c = write_plane(out, b, s, fr, form, rule, Part::Cb);
+    let d = write_plane(out, c, s, fr, form, rule, Part::Cr);
+    write_plane(out, d, s, fr, form, rule, Part::Alpha)
+}
+
+// Draws a picture of another form by a rule, where there is room for its record.
+pub fn draw(record: &[u8], fr: Frame, form: Form, rule: Rule, out: &mut [u8]) -> Answer
+    requires { ⌜ Sound (now «record») fr × RedrawFits (fr .form) form rule ⌝ }
+    ensures { λ r. ⌜ (r ≡ answerOf (fitted (length (now (out .entry))) (encode (redrawn form rule (decode (now («record» .entry)) fr)))))
+        × (now (out .exit) ≡ written (fitted (length (now (out .entry))) (encode (redrawn form rule (decode (now («record» .entry)) fr)))) (now (out .entry))) ⌝ }
+{
+    if out.len() < image::record_size(form) {
+        return Answer::Refused(Refusal::ROOM);
+    }
+    Answer::Wrote(write_record(out, record, fr, form, rule))
+}
+
+// Whether a size is the picture's own.
+pub fn same_size(m: Form, z: Size) -> bool
+    ensures { λ r. ⌜ r ≡ sameSize m (z .width) (z .height) ⌝ }
+{
+    if m.width == z.width {
+        return m.height == z.height;
+    }
+    false
+}

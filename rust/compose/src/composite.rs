@@ -1,0 +1,89 @@
+//! Tiles joined to one picture, and inputs laid over a canvas, with oxideav-heif's names.
+//!
+//! ```
+//! use compose::image::{Chroma, HeifFrame, HeifPixelFormat};
+//! use compose::{GridDescriptor, composite_grid};
+//!
+//! let format = HeifPixelFormat::new(Chroma::Mono, 8, false)?;
+//! let tiles = [HeifFrame::filled(2, 2, format, 1)?, HeifFrame::filled(2, 2, format, 5)?];
+//! // One row of two tiles; the canvas cuts the second one.
+//! let slope = composite_grid(&GridDescriptor::new(1, 2, 3, 2), &tiles)?;
+//! assert_eq!((slope.sample(0, 1, 0), slope.sample(0, 2, 1)), (1, 5));
+//! # Ok::<(), compose::Refusal>(())
+//! ```
+
+use crate::derived::{GridDescriptor, OverlayDescriptor};
+use crate::image::HeifFrame;
+use crate::lend::written;
+use crate::props::Colr;
+use crate::{Refusal, Result, sys, tray};
+
+/// One input of an overlay.
+#[derive(Clone, Debug)]
+#[non_exhaustive]
+pub struct OverlayInput<'a> {
+    /// The picture.
+    pub frame: &'a HeifFrame,
+    /// Whether its samples are multiplied by its alpha already.
+    pub premultiplied: bool,
+}
+
+impl<'a> OverlayInput<'a> {
+    /// An input of its two fields.
+    pub fn new(frame: &'a HeifFrame, premultiplied: bool) -> Self {
+        Self {
+            frame,
+            premultiplied,
+        }
+    }
+}
+
+/// The tray of `frames`.
+fn tray_of<'a>(frames: impl Iterator<Item = &'a HeifFrame>) -> Result<Vec<u8>> {
+    let records: Result<Vec<Vec<u8>>> = frames.map(HeifFrame::to_record).collect();
+    tray::join(&records?)
+}
+
+/// The record that a grid's body and a tray of tiles come to. Refusals: 5 a tray count that cannot
+/// be read; the body's; 11; the records'; 12; tile by tile 13 and 14.
+pub fn grid(body: &[u8], tray: &[u8]) -> Result<Vec<u8>> {
+    written(tray.len(), |out| sys::compose_grid(body, tray, out))
+}
+
+/// The record that an overlay's body, a tray of inputs and one premultiplied byte an input come to.
+/// Refusals: 5 a tray count that cannot be read; the body's; 15; 11; the records'; 14; 16.
+pub fn overlay(
+    body: &[u8],
+    tray: &[u8],
+    premultiplied: &[u8],
+    colr: Option<&Colr>,
+) -> Result<Vec<u8>> {
+    let (colour, matrix, full_range) = Colr::words(colr);
+    written(tray.len(), |out| {
+        sys::compose_overlay(body, tray, premultiplied, colour, matrix, full_range, out)
+    })
+}
+
+/// The tiles of a grid, each in its cell. Refusals: 11 another number of tiles; the frames'; 12, 13,
+/// 14.
+pub fn composite_grid(desc: &GridDescriptor, tiles: &[HeifFrame]) -> Result<HeifFrame> {
+    HeifFrame::from_record(&grid(&desc.to_bytes(), &tray_of(tiles.iter())?)?)
+}
+
+/// The inputs of an overlay, the last on top; `colr` is for the fill. Refusals: 11 another number of
+/// inputs; 15 none; the frames'; 14; 16.
+pub fn composite_overlay(
+    desc: &OverlayDescriptor,
+    inputs: &[OverlayInput<'_>],
+    colr: Option<&Colr>,
+) -> Result<HeifFrame> {
+    if inputs.len() != desc.offsets.len() {
+        return Err(Refusal::COUNT);
+    }
+    let list: Vec<u8> = inputs
+        .iter()
+        .map(|input| input.premultiplied.into())
+        .collect();
+    let tray = tray_of(inputs.iter().map(|input| input.frame))?;
+    HeifFrame::from_record(&overlay(&desc.to_bytes(), &tray, &list, colr)?)
+}
