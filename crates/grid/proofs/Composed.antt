@@ -46,21 +46,21 @@ sized-format : (t : Form) (w h : ℕ) → sized t w h .format ≡ t .format
 unfolding sized
 sized-format t w h = refl
 
-tile-chroma : (b : Bool) (m t : Form) → m .format .chroma ≡ t .format .chroma → tileForm b m .format .chroma ≡ tileForm b t .format .chroma
+pub tile-chroma : (b : Bool) (m t : Form) → m .format .chroma ≡ t .format .chroma → tileForm b m .format .chroma ≡ tileForm b t .format .chroma
 unfolding tileForm pick as444
 tile-chroma true m t e = refl
 tile-chroma false m t e = e
 
-canvas-chroma : (g : GridDescriptor) (t : Form) (a : ℕ) → canvasForm g t a .format .chroma ≡ tileForm (promotesOf g t) t .format .chroma
+pub canvas-chroma : (g : GridDescriptor) (t : Form) (a : ℕ) → canvasForm g t a .format .chroma ≡ tileForm (promotesOf g t) t .format .chroma
 unfolding canvasForm withAlpha
 canvas-chroma g t a = tile-chroma (promotesOf g t) (sized t (g .«output_width») (g .«output_height»)) t (ap (λ (f : PixelFormat). f .chroma) (sized-format t _ _))
 
-tile-depth : (b : Bool) (m : Form) → tileForm b m .format .depth ≡ m .format .depth
+pub tile-depth : (b : Bool) (m : Form) → tileForm b m .format .depth ≡ m .format .depth
 unfolding tileForm pick as444
 tile-depth true m = refl
 tile-depth false m = refl
 
-canvas-depth : (g : GridDescriptor) (t : Form) (a : ℕ) → canvasForm g t a .format .depth ≡ t .format .depth
+pub canvas-depth : (g : GridDescriptor) (t : Form) (a : ℕ) → canvasForm g t a .format .depth ≡ t .format .depth
 unfolding canvasForm withAlpha
 canvas-depth g t a = tile-depth (promotesOf g t) (sized t (g .«output_width») (g .«output_height»)) ∙ ap (λ (f : PixelFormat). f .depth) (sized-format t _ _)
 
@@ -68,12 +68,12 @@ pub canvas-alpha-is : (g : GridDescriptor) (t : Form) (a : ℕ) → canvasForm g
 unfolding canvasForm withAlpha
 canvas-alpha-is g t a = refl
 
-mono-same : (f g : PixelFormat) → f .chroma ≡ g .chroma → isMono f ≡ isMono g
+pub mono-same : (f g : PixelFormat) → f .chroma ≡ g .chroma → isMono f ≡ isMono g
 unfolding isMono
 mono-same f g e = ap (λ (n : ℕ). eqb n 0) e
 
 -- what is promoted has chroma
-promotes-colour : (g : GridDescriptor) (t : Form) → promotesOf g t ≡ true → isMono (t .format) ≡ false
+pub promotes-colour : (g : GridDescriptor) (t : Form) → promotesOf g t ≡ true → isMono (t .format) ≡ false
 unfolding promotesOf
 promotes-colour g t e =
     by-test (needs444 (t .format) (odd (t .width)) (odd (t .height)))
@@ -107,11 +107,11 @@ unfolding tileForm pick as444
 tile-width true m = (refl, refl)
 tile-width false m = (refl, refl)
 
-columns-same : (b : Bool) (m t : Form) (p : Part) → m .width ≡ t .width → m .format .chroma ≡ t .format .chroma → columnsOf (tileForm b m) p ≡ columnsOf (tileForm b t) p
+pub columns-same : (b : Bool) (m t : Form) (p : Part) → m .width ≡ t .width → m .format .chroma ≡ t .format .chroma → columnsOf (tileForm b m) p ≡ columnsOf (tileForm b t) p
 unfolding columnsOf
 columns-same b m t p w e = ap₂ (λ (h : Bool) (n : ℕ). sideOf (halved h p) n) (halves-tile b m t e .0) (tile-width b m .0 ∙ w ∙ sym (tile-width b t .0))
 
-rows-same-form : (b : Bool) (m t : Form) (p : Part) → m .height ≡ t .height → m .format .chroma ≡ t .format .chroma → rowsOf (tileForm b m) p ≡ rowsOf (tileForm b t) p
+pub rows-same-form : (b : Bool) (m t : Form) (p : Part) → m .height ≡ t .height → m .format .chroma ≡ t .format .chroma → rowsOf (tileForm b m) p ≡ rowsOf (tileForm b t) p
 unfolding rowsOf
 rows-same-form b m t p w e = ap₂ (λ (h : Bool) (n : ℕ). sideOf (halved h p) n) (halves-tile b m t e .1) (tile-width b m .1 ∙ w ∙ sym (tile-width b t .1))
 

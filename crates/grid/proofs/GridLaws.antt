@@ -96,7 +96,7 @@ frames-sound (suc n) s at frs e i l =
 
 -- ---- the whole
 
-canvas-sound : (g : GridDescriptor) (t : Form) (a : ℕ) → GridSound g → FormSound t → a ≤ 1 → FormSound (canvasForm g t a)
+pub canvas-sound : (g : GridDescriptor) (t : Form) (a : ℕ) → GridSound g → FormSound t → a ≤ 1 → FormSound (canvasForm g t a)
 unfolding canvasForm withAlpha sized
 canvas-sound g t a ok m l =
     let k = tile-sound (promotesOf g t) (sized t (g .«output_width») (g .«output_height»)) (record { chroma = m .chroma; low = m .low; high = m .high; alpha = m .alpha; wide = ok .canvas .wide; tall = ok .canvas .tall; area = ok .canvas .area }) in

@@ -47,7 +47,7 @@ unfolding tileForm pick as444 bytesOf
 tile-bytes true m = refl
 tile-bytes false m = refl
 
-tile-alpha : (b : Bool) (m : Form) → tileForm b m .format .alpha ≡ m .format .alpha
+pub tile-alpha : (b : Bool) (m : Form) → tileForm b m .format .alpha ≡ m .format .alpha
 unfolding tileForm pick as444
 tile-alpha true m = refl
 tile-alpha false m = refl
@@ -94,7 +94,7 @@ module _ (b : Bool) (m : Form) (p : Part) where
 
 -- ---- a tile and its canvas
 
-canvas-has : (f g : PixelFormat) (p : Part) → g .chroma ≡ f .chroma → f .alpha ≤ g .alpha → hasPart f p ≡ true → hasPart g p ≡ true
+pub canvas-has : (f g : PixelFormat) (p : Part) → g .chroma ≡ f .chroma → f .alpha ≤ g .alpha → hasPart f p ≡ true → hasPart g p ≡ true
 unfolding hasPart isMono hasAlpha
 canvas-has f g Luma e l h = refl
 canvas-has f g Cb e l h = rw e h
@@ -166,7 +166,7 @@ decode-at : (s : List ℕ) (fr : Frame) (p : Part) (x y : ℕ) (b : Bool)
 unfolding decode sampleIn
 decode-at s fr p x y b = refl
 
-tile-sample : (b : Bool) (P : Pic) (p : Part) → hasPart (P .form .format) p ≡ true → (x y : ℕ) → tilePic b P .at p x y ≡ P .at p (cover (b && halfX (P .form .format) p) x) (cover (b && halfY (P .form .format) p) y)
+pub tile-sample : (b : Bool) (P : Pic) (p : Part) → hasPart (P .form .format) p ≡ true → (x y : ℕ) → tilePic b P .at p x y ≡ P .at p (cover (b && halfX (P .form .format) p) x) (cover (b && halfY (P .form .format) p) y)
 unfolding tilePic pick promote full pixel cover
 tile-sample true P p h x y = pick-true _ _ _ h
 tile-sample false P p h x y = refl

@@ -31,7 +31,7 @@ pub(crate) fn visible(canvas: usize, tile: usize, i: u32) -> usize
 }
 
 // The form of a tile, promoted to 4:4:4 or as it is.
-pub(crate) fn tile_form(promoted: bool, m: Form) -> Form
+pub fn tile_form(promoted: bool, m: Form) -> Form
     ensures { λ r. ⌜ r ≡ tileForm promoted m ⌝ }
 {
     if promoted {
@@ -91,7 +91,7 @@ pub struct Cell {
     pub down: usize,
 }
 
-pub(crate) fn cell_of(canvas: Form, tile: Form, column: u32, row: u32, part: Part) -> Cell
+pub fn cell_of(canvas: Form, tile: Form, column: u32, row: u32, part: Part) -> Cell
     requires { ⌜ FormSound canvas × FormSound tile × (hasPart (canvas .format) part ≡ true) × (bytesOf (tile .format) ≡ bytesOf (canvas .format)) × (sizeOf canvas < 2 ^ 64) ⌝ }
     ensures { λ r. ⌜ r ≡ cellOf canvas tile column row part ⌝ }
 {
@@ -171,7 +171,7 @@ fn draw_part(
 }
 
 // A tile in its cell. A part that it has not is left as it is there.
-pub(crate) fn draw_tile(
+pub fn draw_tile(
     out: &mut [u8],
     canvas: Form,
     s: &[u8],

@@ -25,7 +25,7 @@ fn paint_plane(out: &mut [u8], at: usize, form: Form, part: Part, v: u16) -> usi
 }
 
 // The canvas: samples 0, alpha at top, and a header that says that alpha number.
-pub(crate) fn paint_canvas(out: &mut [u8], canvas: Form, shown: u32)
+pub fn paint_canvas(out: &mut [u8], canvas: Form, shown: u32)
     requires { ⌜ FormSound canvas × (shown ≤ 1) × (sizeOf canvas ≤ length (now out)) ⌝ }
     ensures { λ r. ⌜ now (out .exit) ≡ puts (now (out .entry)) 0 (canvasBytes canvas shown) ⌝ }
 {

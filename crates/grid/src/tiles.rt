@@ -43,7 +43,7 @@ pub fn promotes(g: GridDescriptor, t: Form) -> bool
     )
 }
 
-pub(crate) fn with_alpha(m: Form, alpha: u32) -> Form
+pub fn with_alpha(m: Form, alpha: u32) -> Form
     ensures { λ r. ⌜ r ≡ withAlpha m alpha ⌝ }
 {
     let f = m.format;
@@ -67,7 +67,7 @@ pub fn canvas_form(g: GridDescriptor, t: Form, alpha: u32) -> Form
 }
 
 // Whether tiles of that size cover the canvas.
-fn covers(g: GridDescriptor, t: Form) -> bool
+pub fn covers(g: GridDescriptor, t: Form) -> bool
     ensures { λ r. ⌜ r ≡ coversOf g t ⌝ }
 {
     image::both(
@@ -76,13 +76,13 @@ fn covers(g: GridDescriptor, t: Form) -> bool
     )
 }
 
-fn same_size(t: Form, m: Form) -> bool
+pub fn same_size(t: Form, m: Form) -> bool
     ensures { λ r. ⌜ r ≡ sameSize t m ⌝ }
 {
     image::both(m.width == t.width, m.height == t.height)
 }
 
-fn same_layout(t: Form, m: Form) -> bool
+pub fn same_layout(t: Form, m: Form) -> bool
     ensures { λ r. ⌜ r ≡ sameLayout t m ⌝ }
 {
     let f = m.format;
@@ -91,7 +91,7 @@ fn same_layout(t: Form, m: Form) -> bool
 }
 
 // Whether a tile has alpha, or one before it.
-fn with_tile(alpha: u32, m: Form) -> u32
+pub fn with_tile(alpha: u32, m: Form) -> u32
     ensures { λ r. ⌜ r ≡ pick (hasAlpha (m .format)) 1 alpha ⌝ }
 {
     let f = m.format;

@@ -1,0 +1,4 @@
+pub mod MarkLaws
+pub mod StateLaws
+pub mod DrawLaws
+pub mod BlankLaws

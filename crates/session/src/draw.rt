@@ -1,0 +1,107 @@
+// What place and blank write: the canvas at the first place, the alpha number, a blank cell.
+ghost use mathlib.Core.Path.{_≡_};
+ghost use mathlib.Core.Bool.{true};
+ghost use Prim.Native.Nat.{_+_, _*_, _≤_, _<_, _^_};
+ghost use lib.ListN.{length};
+ghost use Rattle.image.specs.Bytes.{sizeOf};
+ghost use Rattle.image.specs.Sound.{FormSound};
+ghost use Prim.Native.Nat.{ℕ};
+ghost use Rattle.image.specs.Bytes.{encode, samplesOf, tightAt};
+ghost use Rattle.grid.specs.Cell.{storePart, storeRows, storeTile, tilePic, Suits};
+ghost use Rattle.session.specs.Session.{begun, alphaTold, blankAt, blankPic};
+use image::Form;
+use image::Part;
+use image::PixelFormat;
+
+// The canvas, before its first tile.
+pub fn begin(out: &mut [u8], first: bool, canvas: Form)
+    requires { ⌜ FormSound canvas × (sizeOf canvas ≤ length (now out)) ⌝ }
+    ensures { λ r. ⌜ now (out .exit) ≡ begun first canvas (now (out .entry)) ⌝ }
+{
+    if first {
+        grid::paint_canvas(out, canvas, 0);
+    }
+}
+
+// The alpha number, when a tile has alpha.
+pub fn tell_alpha(out: &mut [u8], canvas: Form, tile: Form)
+    requires { ⌜ (canvas .format .alpha ≡ 1) × (sizeOf canvas ≤ length (now out)) ⌝ }
+    ensures { λ r. ⌜ now (out .exit) ≡ alphaTold canvas tile (now (out .entry)) ⌝ }
+{
+    let f = tile.format;
+    if f.alpha != 0 {
+        out[image::head_size(canvas) - 1] = 1;
+    }
+}
+
+// Rows of one sample, stored from `at` on, `stride` bytes from row to row.
+fn fill_rows(
+    out: &mut [u8],
+    at: usize,
+    stride: usize,
+    bytes: usize,
+    v: u16,
+    across: usize,
+    down: usize,
+)
+    requires { ⌜ (1 ≤ bytes) × (bytes ≤ 2) × ((y : ℕ) → y < down → at + y * stride + across * bytes ≤ length (now out)) ⌝ }
+    ensures { λ r. ⌜ now (out .exit) ≡ storeRows (now (out .entry)) at stride (λ y. samplesOf bytes (λ x. v) across) down ⌝ }
+{
+    let mut y: usize = 0;
+    while y < down {
+        image::fill_row(out, at + y * stride, bytes, v, across);
+        y += 1;
+    }
+}
+
+// A blank tile's sample: no colour, alpha at top.
+fn blank_sample(f: PixelFormat, part: Part) -> u16
+    requires { ⌜ (1 ≤ f .depth) × (f .depth ≤ 16) ⌝ }
+    ensures { λ r. ⌜ r ≡ blankAt f part ⌝ }
+{
+    match part {
+        Part::Luma => f.middle(),
+        Part::Cb => f.middle(),
+        Part::Cr => f.middle(),
+        Part::Alpha => f.top(),
+    }
+}
+
+// One part of a blank tile in its cell, if the tile has it.
+fn blank_part(
+    out: &mut [u8],
+    canvas: Form,
+    tile: Form,
+    promoted: bool,
+    column: u32,
+    row: u32,
+    part: Part,
+)
+    requires { ⌜ Suits (encode (blankPic tile)) (tightAt tile 0) canvas promoted (length (now out)) ⌝ }
+    ensures { λ r. ⌜ now (out .exit) ≡ storePart canvas (tilePic promoted (blankPic tile)) column row part (now (out .entry)) ⌝ }
+{
+    let f = tile.format;
+    if f.has(part) {
+        let cell = grid::cell_of(canvas, grid::tile_form(promoted, tile), column, row, part);
+        fill_rows(
+            out,
+            cell.at,
+            cell.stride,
+            f.bytes_per_sample(),
+            blank_sample(f, part),
+            cell.across,
+            cell.down,
+        );
+    }
+}
+
+// A blank tile of that form in its cell.
+pub fn draw_blank(out: &mut [u8], canvas: Form, tile: Form, promoted: bool, column: u32, row: u32)
+    requires { ⌜ Suits (encode (blankPic tile)) (tightAt tile 0) canvas promoted (length (now out)) ⌝ }
+    ensures { λ r. ⌜ now (out .exit) ≡ storeTile canvas (tilePic promoted (blankPic tile)) column row (now (out .entry)) ⌝ }
+{
+    blank_part(out, canvas, tile, promoted, column, row, Part::Luma);
+    blank_part(out, canvas, tile, promoted, column, row, Part::Cb);
+    blank_part(out, canvas, tile, promoted, column, row, Part::Cr);
+    blank_part(out, canvas, tile, promoted, column, row, Part::Alpha);
+}
