@@ -2,3 +2,4 @@ pub mod MarkLaws
 pub mod StateLaws
 pub mod DrawLaws
 pub mod BlankLaws
+pub mod SequenceLaws

@@ -1,0 +1,143 @@
+-- Laws over calls in turn: the buffer shows a picture behind its header, and each cell that is drawn is pasted on it. Assumes nothing.
+use mathlib.Core.Bool.{Bool, _&&_, false, true}
+use mathlib.Core.List.{List, [], _++_, _∷_, append-assoc}
+use mathlib.Core.Path.{_∙_, _≡_, ap, refl, sym}
+use Prim.Native.Nat.{_%_, _/_, _<_, _≤_, ℕ}
+use native.Mathlib.Omega.{arith}
+use lib.Dec.{T}
+use lib.ListN.{drop, length, length-append}
+use Rattle.laws.proofs.Order.{by-test, pick-false, pick-le, pick-true}
+use Rattle.laws.proofs.Puts.{puts-middle, puts-start}
+use Rattle.laws.specs.Pick.{pick}
+use Rattle.laws.specs.Puts.{puts}
+use Rattle.numbers.proofs.Number.{bytes-last}
+use Rattle.numbers.specs.Number.{numberBytes}
+use Rattle.image.specs.Bytes.{headBytes, planeBytes, sizeOf}
+use Rattle.image.specs.Format.{columnsOf, hasAlpha, hasPart, rowsOf}
+use Rattle.image.specs.Picture.{Pic}
+use Rattle.image.specs.declared.format.Form.{Form}
+use Rattle.image.specs.declared.format.Part.{Part}
+use Rattle.image.specs.declared.format.Part.the-variants.{Alpha, Cb, Cr, Luma}
+use Rattle.derived.specs.declared.grid.GridDescriptor.{GridDescriptor}
+use Rattle.grid.proofs.Composed.{canvas-alpha-is}
+use Rattle.grid.proofs.MosaicLaws.{among, pastes, pastes-at, pastes-form, tile-at}
+use Rattle.grid.proofs.PaintLaws.{head-alpha, length-canvas}
+use Rattle.grid.proofs.PasteLaws.{Meets, pasteAt, pasteTile, shows, tile-pasted}
+use Rattle.grid.specs.Cell.{storeTile, tilePic}
+use Rattle.grid.specs.Mosaic.{canvasBytes, laid, plainPic, tileIndex}
+use Rattle.grid.specs.Tiles.{promotesOf, withAlpha}
+use Rattle.session.proofs.DrawLaws.{begun-first}
+use Rattle.session.specs.Session.{alphaPlace, alphaTold, begun, drawnOn, reservedForm}
+
+-- ---- the header's last byte
+
+abbrev head-front : Form → List ℕ
+head-front c = numberBytes (c .width) ++ (numberBytes (c .height) ++ (numberBytes (c .format .chroma) ++ numberBytes (c .format .depth)))
+
+head-split : (c : Form) (a : ℕ) → a ≤ 1 → headBytes (withAlpha c a) ≡ head-front c ++ (a ∷ [])
+unfolding headBytes withAlpha
+head-split c a l = rw (bytes-last a (omega arith)) (simp append-assoc)
+
+front-length : (c : Form) → c .format .alpha ≡ 1 → length (head-front c) ≡ alphaPlace c
+unfolding alphaPlace headBytes
+front-length c e =
+    let k : length (numberBytes (c .format .alpha)) ≡ 1 = ap length (bytes-last (c .format .alpha) (omega arith)) in
+    simp (length-append) (omega arith)
+
+told-front : (c : Form) (a : ℕ) (rest : List ℕ) → c .format .alpha ≡ 1 → puts (head-front c ++ ((a ∷ []) ++ rest)) (alphaPlace c) (1 ∷ []) ≡ head-front c ++ ((1 ∷ []) ++ rest)
+told-front c a rest e = puts-middle (head-front c) (a ∷ []) rest (1 ∷ []) (alphaPlace c) (front-length c e) refl
+
+-- the alpha number turns 1 at a tile with alpha, and stays without
+pub alpha-told : (c m : Form) (a : ℕ) (rest : List ℕ) → c .format .alpha ≡ 1 → a ≤ 1 → alphaTold c m (headBytes (withAlpha c a) ++ rest) ≡ headBytes (withAlpha c (pick (hasAlpha (m .format)) 1 a)) ++ rest
+unfolding alphaTold
+alpha-told c m a rest e l =
+    by-test (hasAlpha (m .format))
+    (λ h.
+    pick-true _ _ _ h
+    ∙ ap (λ (q : List ℕ). puts (q ++ rest) (alphaPlace c) (1 ∷ [])) (head-split c a l)
+    ∙ ap (λ (q : List ℕ). puts q (alphaPlace c) (1 ∷ [])) (append-assoc (head-front c) (a ∷ []) rest)
+    ∙ told-front c a rest e
+    ∙ sym (append-assoc (head-front c) (1 ∷ []) rest)
+    ∙ ap (λ (q : List ℕ). q ++ rest) (sym (head-split c 1 (omega arith)))
+    ∙ ap (λ (n : ℕ). headBytes (withAlpha c n) ++ rest) (sym (pick-true (hasAlpha (m .format)) 1 a h)))
+    (λ h. pick-false _ _ _ h ∙ ap (λ (n : ℕ). headBytes (withAlpha c n) ++ rest) (sym (pick-false (hasAlpha (m .format)) 1 a h)))
+
+-- ---- a cell drawn on the buffer's picture
+
+abbrev planes-of : Pic → List ℕ
+planes-of P = planeBytes P Luma ++ (planeBytes P Cb ++ (planeBytes P Cr ++ planeBytes P Alpha))
+
+laid-as : (h : List ℕ) (P : Pic) (rest : List ℕ) → laid h P ++ rest ≡ h ++ (planes-of P ++ rest)
+unfolding laid
+laid-as h P rest = append-assoc h (planes-of P) rest
+
+pub drawn-laid : (g : GridDescriptor) (t m : Form) (i a : ℕ) (T P : Pic) (rest : List ℕ) → P .form ≡ reservedForm g t → Meets (tilePic (promotesOf g t) T .form) (reservedForm g t) → a ≤ 1
+    → drawnOn g t i m T (laid (headBytes (withAlpha (reservedForm g t) a)) P ++ rest)
+    ≡ laid (headBytes (withAlpha (reservedForm g t) (pick (hasAlpha (m .format)) 1 a))) (pasteTile (tilePic (promotesOf g t) T) (i % g .columns) (i / g .columns) P) ++ rest
+unfolding drawnOn
+drawn-laid g t m i a T P rest e meets l =
+    ap (storeTile (reservedForm g t) (tilePic (promotesOf g t) T) (i % g .columns) (i / g .columns)) told
+    ∙ tile-pasted (tilePic (promotesOf g t) T) P (reservedForm g t) (i % g .columns) (i / g .columns) _ rest e meets (head-alpha (reservedForm g t) _ (pick-le (hasAlpha (m .format)) 1 a 1 (omega arith) l) small) .0
+  where
+    one : reservedForm g t .format .alpha ≡ 1
+    one = unfold reservedForm in canvas-alpha-is g t 1
+
+    small : reservedForm g t .format .alpha ≤ 1
+    small = rw one (omega arith)
+
+    told : alphaTold (reservedForm g t) m (laid (headBytes (withAlpha (reservedForm g t) a)) P ++ rest) ≡ laid (headBytes (withAlpha (reservedForm g t) (pick (hasAlpha (m .format)) 1 a))) P ++ rest
+    told = ap (alphaTold (reservedForm g t) m) (laid-as _ P rest) ∙ alpha-told (reservedForm g t) m a (planes-of P ++ rest) one l ∙ sym (laid-as _ P rest)
+
+-- the first accepted place begins with the canvas: samples 0, alpha at top, alpha number 0, and what lay past it
+pub begun-laid : (c : Form) (d : List ℕ) → c .format .alpha ≡ 1 → sizeOf c ≤ length d → begun true c d ≡ laid (headBytes (withAlpha c 0)) (plainPic c) ++ drop (sizeOf c) d
+begun-laid c d e l =
+    let n = length-canvas c 0 (omega arith) (rw e (omega arith)) in
+    begun-first true c d refl ∙ puts-start d (canvasBytes c 0) (rw n l) ∙ ap (λ (k : ℕ). canvasBytes c 0 ++ drop k d) n ∙ (unfold canvasBytes in refl)
+
+-- ---- a tile without alpha leaves the alpha there
+
+pub keeps-alpha : (T P : Pic) (column row x y : ℕ) → hasPart (T .form .format) Alpha ≡ false → pasteTile T column row P .at Alpha x y ≡ P .at Alpha x y
+keeps-alpha T P column row x y h = tile-at T column row P Alpha x y ∙ pick-false _ _ _ h
+
+-- ---- a cell drawn again is overwritten in each part that the tile has: what was drawn there before does not show
+
+pub again-shows : (T P Q : Pic) (column row x y : ℕ) (p : Part) → P .form ≡ Q .form → hasPart (T .form .format) p ≡ true → shows (P .form) (T .form) column row p x y ≡ true
+    → pasteTile T column row P .at p x y ≡ pasteTile T column row Q .at p x y
+unfolding pasteAt
+again-shows T P Q column row x y p e h s =
+    tile-at T column row P p x y ∙ pick-true _ _ _ h ∙ pick-true _ _ _ s
+    ∙ sym (tile-at T column row Q p x y ∙ pick-true _ _ _ h ∙ pick-true _ _ _ (ap (λ (m : Form). shows m (T .form) column row p x y) (sym e) ∙ s))
+
+-- ---- cells drawn in turn, the last at the head of the list
+
+unfoldable pub drawnAll : GridDescriptor → Form → (ℕ → Pic) → List ℕ → List ℕ → List ℕ
+drawnAll g t T [] d = d
+drawnAll g t T (j ∷ js) d = drawnOn g t j (T j .form) (T j) (drawnAll g t T js d)
+
+-- the alpha number after them
+unfoldable pub alphaAfter : (ℕ → Pic) → List ℕ → ℕ → ℕ
+alphaAfter T [] a = a
+alphaAfter T (j ∷ js) a = pick (hasAlpha (T j .form .format)) 1 (alphaAfter T js a)
+
+alpha-small : (T : ℕ → Pic) (js : List ℕ) (a : ℕ) → a ≤ 1 → alphaAfter T js a ≤ 1
+unfolding alphaAfter
+alpha-small T [] a l = l
+alpha-small T (j ∷ js) a l = pick-le _ 1 (alphaAfter T js a) 1 (omega arith) (alpha-small T js a l)
+
+pub all-laid : (g : GridDescriptor) (t : Form) (T : ℕ → Pic) (js : List ℕ) (a : ℕ) (P : Pic) (rest : List ℕ) → P .form ≡ reservedForm g t → ((j : ℕ) → Meets (tilePic (promotesOf g t) (T j) .form) (reservedForm g t)) → a ≤ 1
+    → drawnAll g t T js (laid (headBytes (withAlpha (reservedForm g t) a)) P ++ rest)
+    ≡ laid (headBytes (withAlpha (reservedForm g t) (alphaAfter T js a))) (pastes (λ j. tilePic (promotesOf g t) (T j)) (g .columns) js P) ++ rest
+unfolding drawnAll alphaAfter pastes
+all-laid g t T [] a P rest e meets l = refl
+all-laid g t T (j ∷ js) a P rest e meets l =
+    ap (drawnOn g t j (T j .form) (T j)) (all-laid g t T js a P rest e meets l)
+    ∙ drawn-laid g t (T j .form) j (alphaAfter T js a) (T j) _ rest (pastes-form _ (g .columns) js P ∙ e) (meets j) (alpha-small T js a l)
+
+-- ---- in any order: cells drawn once or more, with the same tile each time, show the same at every place
+
+pub any-order : (c : Form) (T : ℕ → Pic) (columns : ℕ) (p : Part) (w h x y : ℕ) → x < columnsOf c p → y < rowsOf c p → 0 < w → 0 < h → x / w < columns → (js ks : List ℕ) (P : Pic) → P .form ≡ c
+    → ((i : ℕ) → (columnsOf (T i .form) p ≡ w) × (rowsOf (T i .form) p ≡ h)) → ((i : ℕ) → among i js ≡ among i ks) → pastes T columns js P .at p x y ≡ pastes T columns ks P .at p x y
+any-order c T columns p w h x y inX inY someX someY column js ks P e sizes same =
+    pastes-at c T columns p w h x y inX inY someX someY column js P e (λ i m. sizes i)
+    ∙ ap (λ (b : Bool). pick (b && hasPart (T (tileIndex columns w h x y) .form .format) p) (T (tileIndex columns w h x y) .at p (x % w) (y % h)) (P .at p x y)) (same (tileIndex columns w h x y))
+    ∙ sym (pastes-at c T columns p w h x y inX inY someX someY column ks P e (λ i m. sizes i))
