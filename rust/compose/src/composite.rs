@@ -87,3 +87,32 @@ pub fn composite_overlay(
     let tray = tray_of(inputs.iter().map(|input| input.frame))?;
     HeifFrame::from_record(&overlay(&desc.to_bytes(), &tray, &list, colr)?)
 }
+
+#[cfg(test)]
+mod tests {
+    use super::overlay;
+    use crate::OverlayDescriptor;
+    use crate::record::push_number;
+
+    /// As many inputs as there may be, each one pixel, laid over a canvas of 256 × 256; and one more.
+    #[test]
+    fn an_overlay_of_65536_inputs() {
+        let body = |inputs: i32| {
+            let offsets = (0..inputs).map(|at| (at % 256, at / 256 % 256)).collect();
+            OverlayDescriptor::new([0, 0, 0, 65_535], 256, 256, offsets).to_bytes()
+        };
+        let tray = |inputs: u32| {
+            let mut tray = Vec::new();
+            push_number(&mut tray, inputs);
+            for at in 0..inputs {
+                tray.extend([1, 1, 0, 8, 0, 1, 1, (at % 251) as u8]);
+            }
+            tray
+        };
+        let made = overlay(&body(65_536), &tray(65_536), &[0; 65_536], None).expect("a record");
+        let samples = &made[made.len() - 65_536..];
+        assert!((0..65_536).all(|at| samples[at] == (at % 251) as u8));
+        let refusal = overlay(&body(65_537), &tray(65_537), &[0; 65_537], None).unwrap_err();
+        assert_eq!(refusal.number(), 4);
+    }
+}
