@@ -145,6 +145,67 @@ uint64_t compose_overlay(const uint8_t *body, size_t body_len, const uint8_t *tr
                          const uint8_t *premultiplied, size_t premultiplied_len, uint8_t colour, uint16_t matrix,
                          uint8_t full_range, uint8_t *out, size_t out_len);
 
+/* A grid or an overlay composed, then a chain of transforms. Each answers the length of the record at the start of output;
+ * past it output is zero, and the spare, which must be as long, is all zero. A refusal leaves both as they were. An
+ * essential_only of 0 applies every entry of the chain. 17 is an output or a spare shorter than the longest of the composed
+ * record and the records after each entry. */
+
+/* A grid. Refusals: 5 a tray count that cannot be read; the chain's; the body's; 11; the records'; 12; 13 and 14; the
+ * entries' in turn; 17. */
+uint64_t compose_grid_scene(const uint8_t *body, size_t body_len, const uint8_t *tray, size_t tray_len,
+                            const uint8_t *chain, size_t chain_len, uint8_t essential_only, uint8_t *output,
+                            size_t output_len, uint8_t *spare, size_t spare_len);
+
+/* An overlay. Refusals: 5 a tray count that cannot be read; the chain's; the body's; 15; 11; the records'; 14; 16; the
+ * entries' in turn; 17. */
+uint64_t compose_overlay_scene(const uint8_t *body, size_t body_len, const uint8_t *tray, size_t tray_len,
+                               const uint8_t *chain, size_t chain_len, uint8_t essential_only,
+                               const uint8_t *premultiplied, size_t premultiplied_len, uint8_t colour, uint16_t matrix,
+                               uint8_t full_range, uint8_t *output, size_t output_len, uint8_t *spare,
+                               size_t spare_len);
+
+/* Which input and which spot of it a final place shows, without drawing the picture. Column and row count from 0; an
+ * essential_only of 0 applies every entry of the chain. Each answers 0 and writes 10 words, leaving what is past them: 1
+ * an input or 0 fill; the input, the spot's column and row (0 for fill); the chain's rectangle in the composed picture as
+ * x, y, width, height; 1 where left and right are exchanged, else 0; then 0 to 3 quarter turns anticlockwise. */
+
+/* The tile of a grid. Refusals: 5 a tray count that cannot be read; the chain's; the body's; 11; the records'; 12; 13 and
+ * 14; the entries' in turn, 18 an applied iscl; 18 a place outside; 17 an answer below 10 words. */
+uint64_t compose_grid_point(const uint8_t *body, size_t body_len, const uint8_t *tray, size_t tray_len,
+                            const uint8_t *chain, size_t chain_len, uint8_t essential_only, uint32_t column,
+                            uint32_t row, uint32_t *answer, size_t answer_len);
+
+/* The topmost input of an overlay, or fill. The colour description has no effect. Refusals: 5 a tray count that cannot be
+ * read; the chain's; the body's; 15; 11; the records'; 14; 18 an input with alpha; the entries' in turn, 18 an applied
+ * iscl; 18 a place outside; 17 an answer below 10 words. */
+uint64_t compose_overlay_point(const uint8_t *body, size_t body_len, const uint8_t *tray, size_t tray_len,
+                               const uint8_t *chain, size_t chain_len, uint8_t essential_only,
+                               const uint8_t *premultiplied, size_t premultiplied_len, uint8_t colour, uint16_t matrix,
+                               uint8_t full_range, uint32_t column, uint32_t row, uint32_t *answer, size_t answer_len);
+
+/* The canvas session: the tiles of a grid placed one by one, in any order, in one buffer that each call is lent. Between
+ * the calls the caller keeps the state, COMPOSE_STATE words, and the buffer; a refused call changes neither. A state is
+ * plain words and any of them are safe: one that no call can have made is 5. A state below COMPOSE_STATE words cannot be
+ * read, and is 17 at once. From the first tile on, the buffer holds the canvas's record with an alpha plane reserved
+ * behind it; 17 is also a buffer below both. */
+#define COMPOSE_STATE 1034
+
+/* A canvas for the grid of a descriptor body. Answers 0. Refusals: the body's; 17 a state below COMPOSE_STATE words,
+ * last here. */
+uint64_t compose_canvas_start(const uint8_t *body, size_t body_len, uint64_t *state, size_t state_len);
+
+/* A tile's record in its cell, over what was there; a tile without alpha leaves the alpha there. Answers 0. Refusals: 5;
+ * 11 an index outside; the record's; 12, 13, 14; 17. */
+uint64_t compose_canvas_place(uint64_t *state, size_t state_len, uint32_t index, const uint8_t *record,
+                              size_t record_len, uint8_t *buffer, size_t buffer_len);
+
+/* A blank cell of the first tile's form. Answers 0. Refusals: 5; 15 nothing placed; 11 an index outside; 17. */
+uint64_t compose_canvas_blank(uint64_t *state, size_t state_len, uint32_t index, uint8_t *buffer, size_t buffer_len);
+
+/* The length of the canvas's record at the start of the buffer, without alpha if no tile had it. Nothing is written, and
+ * it may be asked again. Refusals: 5; 15 a cell missing; 17. */
+uint64_t compose_canvas_finish(const uint64_t *state, size_t state_len, const uint8_t *buffer, size_t buffer_len);
+
 #ifdef __cplusplus
 }
 #endif

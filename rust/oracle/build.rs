@@ -25,7 +25,7 @@ fn declarations(folder: &Path) -> String {
         .iter()
         .map(|name| {
             let path = folder.join(name).with_extension("rs");
-            format!("#[allow(warnings, clippy::all)]\n#[path = {path:?}]\nmod {name};\n")
+            format!("#[allow(warnings, clippy::all)]\n#[path = {path:?}]\npub mod {name};\n")
         })
         .collect()
 }

@@ -3,3 +3,5 @@ pub mod Read
 pub mod Fill
 pub mod Descriptors
 pub mod Properties
+pub mod Spots
+pub mod Canvas

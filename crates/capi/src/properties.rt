@@ -18,7 +18,7 @@ use props::Resolved;
 use props::SizeAnswer;
 
 // Two words at `at`, and the place past them.
-fn put_sides(answer: &mut [u32], at: usize, a: u32, b: u32) -> usize
+pub(crate) fn put_sides(answer: &mut [u32], at: usize, a: u32, b: u32) -> usize
     requires { ⌜ at + 2 ≤ length (now answer) ⌝ }
     ensures { λ r. ⌜ (r ≡ at + 2) × (now (answer .exit) ≡ puts (now (answer .entry)) at (a ∷ b ∷ [])) ⌝ }
 {

@@ -159,7 +159,7 @@ shown-opaque T p x y here v e f =
     (λ h. pick-true _ _ _ (true-and _ _ e h) ∙ sym (pick-true _ _ _ h))
     (λ h. pick-false _ _ _ (rw e h) ∙ f h ∙ sym (pick-false _ _ _ h))
 
-plain-form : (c : Form) → plainPic c .form ≡ c
+pub plain-form : (c : Form) → plainPic c .form ≡ c
 unfolding plainPic
 plain-form c = refl
 
@@ -202,7 +202,7 @@ module _ (tray : List ℕ) (t : Tiles) (ok : TilesTaken tray t) where
   abbrev T : ℕ → Pic
   T i = tilePic b (tileIn tray (framesIn tray t) i)
 
-  T-form : (i : ℕ) → T i .form ≡ tileForm b (frame i .form)
+  pub T-form : (i : ℕ) → T i .form ≡ tileForm b (frame i .form)
   unfolding tileIn decode
   T-form i = tilePic-form b (decode tray (frame i))
 
@@ -216,20 +216,20 @@ module _ (tray : List ℕ) (t : Tiles) (ok : TilesTaken tray t) where
       }
 
   -- every tile is as wide and as high as the first, part by part
-  columns-of : (i : ℕ) → i < countOf (t .desc) → (p : Part) → columnsOf (T i .form) p ≡ columnsOf (tileForm b (t .tile)) p
+  pub columns-of : (i : ℕ) → i < countOf (t .desc) → (p : Part) → columnsOf (T i .form) p ≡ columnsOf (tileForm b (t .tile)) p
   columns-of i l p = let k = ok .alike i l in ap (λ (m : Form). columnsOf m p) (T-form i) ∙ columns-same b (frame i .form) (t .tile) p (k .width) (k .chroma)
 
-  rows-of : (i : ℕ) → i < countOf (t .desc) → (p : Part) → rowsOf (T i .form) p ≡ rowsOf (tileForm b (t .tile)) p
+  pub rows-of : (i : ℕ) → i < countOf (t .desc) → (p : Part) → rowsOf (T i .form) p ≡ rowsOf (tileForm b (t .tile)) p
   rows-of i l p = let k = ok .alike i l in ap (λ (m : Form). rowsOf m p) (T-form i) ∙ rows-same-form b (frame i .form) (t .tile) p (k .height) (k .chroma)
 
   -- a place of a plane is in a cell of the grid
-  column-in : (p : Part) (x : ℕ) → x < columnsOf canvas p → x / columnsOf (tileForm b (t .tile)) p < t .desc .columns
+  pub column-in : (p : Part) (x : ℕ) → x < columnsOf canvas p → x / columnsOf (tileForm b (t .tile)) p < t .desc .columns
   column-in p x l = below x _ _ _ l (columns-some (tileForm b (t .tile)) (tile-sound b (t .tile) (ok .tile)) p) (canvas-columns (t .desc) (t .tile) (t .alpha) p (ok .coverX))
 
-  row-in : (p : Part) (y : ℕ) → y < rowsOf canvas p → y / rowsOf (tileForm b (t .tile)) p < t .desc .rows
+  pub row-in : (p : Part) (y : ℕ) → y < rowsOf canvas p → y / rowsOf (tileForm b (t .tile)) p < t .desc .rows
   row-in p y l = below y _ _ _ l (rows-some (tileForm b (t .tile)) (tile-sound b (t .tile) (ok .tile)) p) (canvas-rows (t .desc) (t .tile) (t .alpha) p (ok .coverY))
 
-  index-in : (p : Part) (x y : ℕ) → x < columnsOf canvas p → y < rowsOf canvas p → tileIndex (t .desc .columns) (columnsOf (tileForm b (t .tile)) p) (rowsOf (tileForm b (t .tile)) p) x y < countOf (t .desc)
+  pub index-in : (p : Part) (x y : ℕ) → x < columnsOf canvas p → y < rowsOf canvas p → tileIndex (t .desc .columns) (columnsOf (tileForm b (t .tile)) p) (rowsOf (tileForm b (t .tile)) p) x y < countOf (t .desc)
   unfolding tileIndex countOf
   index-in p x y lx ly = digits-lt (row-in p y ly) (column-in p x lx)
 

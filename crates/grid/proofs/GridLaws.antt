@@ -1,6 +1,7 @@
 -- Laws of a grid that was taken: what holds of its tiles, and that its tiles, stored in turn, are the composed picture. Assumes nothing.
-use mathlib.Core.Bool.{false, not}
+use mathlib.Core.Bool.{false, not, true}
 use mathlib.Core.List.{List, [], _∷_}
+use mathlib.Core.Logic.{_⊎_, inl, inr}
 use mathlib.Core.Path.{_∙_, _≡_, ap, refl, sym}
 use Prim.Native.Nat.{_<_, _≤_, suc, zero, ℕ}
 use native.Mathlib.Nat.{not-suc-le-zero}
@@ -25,6 +26,7 @@ use Rattle.image.specs.declared.format.Form.{Form}
 use Rattle.image.specs.declared.format.PixelFormat.{PixelFormat}
 use Rattle.image.specs.declared.record.Frame.{Frame}
 use Rattle.derived.proofs.Taken.{grid-taken}
+use Rattle.derived.specs.Grid.{gridOf}
 use Rattle.derived.specs.Sound.{GridSound}
 use Rattle.derived.specs.declared.grid.GridDescriptor.{GridDescriptor}
 use Rattle.grid.proofs.Suited.{tile-sound}
@@ -150,3 +152,42 @@ tiles-taken body tray t small e =
   where
     first-in : {fr : Frame} {frs rest : List Frame} → frs ≡ fr ∷ rest → (0 < length frs) × (getD frs 0 noFrame ≡ fr)
     first-in q = rw q (omega arith, refl)
+
+-- ---- whether a tile has alpha
+
+-- the alpha number is the one begun with, or a tile has alpha
+alpha-some : (t : Form) (a b : ℕ) (frs : List Frame) → alikeFrom t a frs ≡ done b → (b ≡ a) ⊎ ((i : ℕ) × (i < length frs) × (hasAlpha (getD frs i noFrame .form .format) ≡ true))
+unfolding alikeFrom
+alpha-some t a b [] e = inl (sym (done-same a b e))
+alpha-some t a b (fr ∷ frs) e =
+    let u = refuse-done _ 13 _ b e in
+    let v = refuse-done _ 14 _ b (u .1) in
+    by-test (hasAlpha (fr .form .format))
+    (λ h. inr (0, omega arith, h))
+    (λ h. elim (alpha-some t (pick (hasAlpha (fr .form .format)) 1 a) b frs (v .1)) [ inl q ↦ inl (q ∙ pick-false _ _ _ h) | inr k ↦ inr (suc (k .0), later (k .0) (k .1), k .2) ])
+  where
+    later : (i : ℕ) → i < length frs → suc i < length (fr ∷ frs)
+    later i l = omega arith
+
+-- what a grid's tiles take from its body, and where its alpha number comes from
+pub record TilesFrom (body tray : List ℕ) (t : Tiles) : Type 0 where
+  pub desc : gridOf body ≡ done (t .desc)
+  pub alpha : (t .alpha ≡ 0) ⊎ ((i : ℕ) × (i < countOf (t .desc)) × (hasAlpha (getD (framesIn tray t) i noFrame .form .format) ≡ true))
+
+from : (body tray : List ℕ) (g : GridDescriptor) (at : ℕ) (frs : List Frame) (m : Form) (a : ℕ) → gridOf body ≡ done g → framesAt (countOf g) tray at ≡ done frs → alikeFrom m 0 frs ≡ done a → TilesFrom body tray (record { desc = g; tile = m; alpha = a; first = at })
+unfolding framesIn takenOf
+from body tray g at frs m a here taken alike =
+    let n : length frs ≡ countOf g = frames-length (countOf g) tray at frs taken in
+    let q : framesIn tray (record { desc = g; tile = m; alpha = a; first = at }) ≡ frs = ap takenOf taken in
+    record { desc = here; alpha = elim (alpha-some m 0 a frs alike) [ inl z ↦ inl z | inr k ↦ inr (k .0, rw (← n) (k .1), rw q (k .2)) ] }
+
+pub tiles-from : (body tray : List ℕ) (t : Tiles) → tilesOf body tray ≡ done t → TilesFrom body tray t
+unfolding tilesOf tilesAt
+tiles-from body tray t e =
+    let o = on-number (readNumber tray 0) (tilesAt body tray) t e in
+    let u = andThen-done _ _ t (o .3) in
+    let v = refuse-done _ 11 _ t (u .2) in
+    let w = andThen-done _ _ t (v .1) in
+    let n : o .0 ≡ countOf (u .0) = eqb-true _ _ (not-false _ (v .0)) in
+    let k = tiles-shape (u .0) (o .1) (w .0) t (w .2) in
+    rw (← (k .6)) (from body tray (u .0) (o .1) (w .0) (k .0 .form) (k .2) (u .1) (ap (λ (j : ℕ). framesAt j tray (o .1)) (sym n) ∙ w .1) (k .5))

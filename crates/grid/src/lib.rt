@@ -9,6 +9,7 @@ pub use crate::cell::cell_of;
 pub use crate::cell::draw_tile;
 pub use crate::cell::tile_form;
 pub use crate::compose::composite_grid;
+pub use crate::compose::draw_grid;
 pub use crate::paint::paint_canvas;
 pub use crate::tiles::Tiles;
 pub use crate::tiles::TilesRead;

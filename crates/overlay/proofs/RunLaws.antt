@@ -33,7 +33,7 @@ use Rattle.overlay.specs.Plan.{planAt, planOf}
 use Rattle.overlay.specs.Run.{Inputs, alphaAbove, composed, composedForm, fillFor, firstForm, firstFormat, inputsAt, layersOf, overlayRun}
 use Rattle.overlay.specs.declared.inputs.Plan.{Plan}
 
-refused-back : {A B : Type 0} (o : Out A) (g : A → B) (r : Refusal) → andThen o (λ a. done (g a)) ≡ refused r → o ≡ refused r
+pub refused-back : {A B : Type 0} (o : Out A) (g : A → B) (r : Refusal) → andThen o (λ a. done (g a)) ≡ refused r → o ≡ refused r
 unfolding andThen
 refused-back (refused s) g r e = cc
 refused-back (done a) g r e = not-done r (g a) (sym e)
@@ -48,17 +48,17 @@ frames-sound (suc n) s at frs h e =
 
 module _ (body tray list : List ℕ) (n at : ℕ) where
   -- what was taken
-  record Took (q : Inputs) : Type 0 where
-    offsets : OverlaySound body (q .descriptor)
-    count : q .descriptor .count ≡ n
-    any : 0 < n
-    many : length list ≡ n
-    frames : framesAt n tray at ≡ done (q .frames)
+  pub record Took (q : Inputs) : Type 0 where
+    pub offsets : OverlaySound body (q .descriptor)
+    pub count : q .descriptor .count ≡ n
+    pub any : 0 < n
+    pub many : length list ≡ n
+    pub frames : framesAt n tray at ≡ done (q .frames)
 
   took-as : (q q′ : Inputs) → q ≡ q′ → Took q → Took q′
   took-as q q′ e k = rw e at k
 
-  took : (q : Inputs) → inputsAt body tray list n at ≡ done q → Took q
+  pub took : (q : Inputs) → inputsAt body tray list n at ≡ done q → Took q
   unfolding inputsAt
   took q e =
       let a = andThen-done _ _ q e in
@@ -84,11 +84,11 @@ module _ (body tray list : List ℕ) (n at : ℕ) where
           area = k .offsets .canvas .area;
         }
 
-    plan-sound : PlanSound body list (planOf body tray list at q)
+    pub plan-sound : PlanSound body list (planOf body tray list at q)
     unfolding planOf
     plan-sound = record { form = form-taken; offsets = k .offsets; list = k .many ∙ sym (k .count) }
 
-    frames-are : q .frames ≡ framesFrom (q .descriptor .count) tray at
+    pub frames-are : q .frames ≡ framesFrom (q .descriptor .count) tray at
     frames-are = frames-from n tray at (q .frames) (k .frames) ∙ ap (λ (m : ℕ). framesFrom m tray at) (sym (k .count))
 
 -- what goes on with a plan

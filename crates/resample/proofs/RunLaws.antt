@@ -93,7 +93,7 @@ module _ (s : List ℕ) (fr : Frame) (taken : recordOf s ≡ done fr) (depth roo
 
 -- ---- another size
 
-sized-sound : (m : Form) (z : Size) → FormSound m → SizeSound z → FormSound (sized m (z .width) (z .height))
+pub sized-sound : (m : Form) (z : Size) → FormSound m → SizeSound z → FormSound (sized m (z .width) (z .height))
 unfolding sized
 sized-sound m z ok k = record { chroma = ok .chroma; low = ok .low; high = ok .high; alpha = ok .alpha; wide = k .wide; tall = k .tall; area = k .area }
 

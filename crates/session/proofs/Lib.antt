@@ -3,3 +3,5 @@ pub mod StateLaws
 pub mod DrawLaws
 pub mod BlankLaws
 pub mod SequenceLaws
+pub mod KeepLaws
+pub mod ComposeLaws

@@ -119,7 +119,7 @@ unfoldable pub alphaAfter : (ℕ → Pic) → List ℕ → ℕ → ℕ
 alphaAfter T [] a = a
 alphaAfter T (j ∷ js) a = pick (hasAlpha (T j .form .format)) 1 (alphaAfter T js a)
 
-alpha-small : (T : ℕ → Pic) (js : List ℕ) (a : ℕ) → a ≤ 1 → alphaAfter T js a ≤ 1
+pub alpha-small : (T : ℕ → Pic) (js : List ℕ) (a : ℕ) → a ≤ 1 → alphaAfter T js a ≤ 1
 unfolding alphaAfter
 alpha-small T [] a l = l
 alpha-small T (j ∷ js) a l = pick-le _ 1 (alphaAfter T js a) 1 (omega arith) (alpha-small T js a l)

@@ -59,7 +59,7 @@ form-sound m e =
     let s = sides-sound _ _ (d .1) in
     record { chroma = leb-true _ _ (a .0); low = leb-true _ _ (b .0); high = leb-true _ _ (c .0); alpha = leb-true _ _ (d .0); wide = s .wide; tall = s .tall; area = s .area }
 
-state-parts : (s : Canvas) → stateOk s ≡ true → (gridOk (s .desc) ≡ true) × (pick (hasTile s) (tiledOk s) (bareOk s) ≡ true)
+pub state-parts : (s : Canvas) → stateOk s ≡ true → (gridOk (s .desc) ≡ true) × (pick (hasTile s) (tiledOk s) (bareOk s) ≡ true)
 unfolding stateOk
 state-parts s e = and-true (gridOk (s .desc)) (pick (hasTile s) (tiledOk s) (bareOk s)) e
 

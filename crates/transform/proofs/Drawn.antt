@@ -23,7 +23,7 @@ use Rattle.transform.specs.declared.moves.Move.{Move}
 use Rattle.transform.specs.declared.moves.Walk.{Walk}
 
 -- a promoted plane is halved along no axis
-full-sides : (m : Form) (p : Part) → (halfX (as444 m .format) p ≡ false) × (halfY (as444 m .format) p ≡ false)
+pub full-sides : (m : Form) (p : Part) → (halfX (as444 m .format) p ≡ false) × (halfY (as444 m .format) p ≡ false)
 unfolding as444 halved halvesX halvesY
 full-sides m Luma = (refl, refl)
 full-sides m Cb = (refl, refl)

@@ -18,7 +18,7 @@ use Rattle.image.specs.declared.samples.Line.{Line}
 use Rattle.props.specs.Size.{swapped}
 use Rattle.props.specs.declared.clap.CropRect.{CropRect}
 use Rattle.transform.specs.Place.{sideways}
-use Rattle.transform.specs.Turn.{lopsided}
+use Rattle.transform.specs.Turn.{Quarter, lopsided, q0, q1, q2, q3}
 use Rattle.transform.specs.declared.moves.Axis.{Axis}
 use Rattle.transform.specs.declared.moves.Move.{Move}
 use Rattle.transform.specs.declared.moves.Walk.{Walk}
@@ -158,6 +158,13 @@ halfWith b m = record {
 
 unfoldable pub halfMove : Form → Move
 halfMove m = halfWith (needs444 (m .format) (odd (m .width)) (odd (m .height))) m
+
+-- the form of a turn
+unfoldable pub turnForm : Form → Quarter → Form
+turnForm m q0 = m
+turnForm m q1 = quarterMove m true false .form
+turnForm m q2 = halfMove m .form
+turnForm m q3 = quarterMove m false true .form
 
 unfoldable pub mirrorMove : Form → Bool → Move
 mirrorMove m sideways = record {

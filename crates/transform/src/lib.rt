@@ -8,7 +8,8 @@ ghost use Rattle.laws.specs.Out.{answerOf, written, fitted};
 ghost use Rattle.image.specs.Picture.{odd};
 ghost use Rattle.image.specs.Sound.{FormSound, Sound};
 ghost use Rattle.image.specs.Bytes.{decode, encode};
-ghost use Rattle.transform.specs.Move.{moved, MoveFits, formWith, endAxis, cropMove, quarterMove, halfMove, mirrorMove};
+ghost use Rattle.transform.specs.Move.{moved, MoveFits, formWith, endAxis, cropMove, quarterMove, halfMove, mirrorMove, turnForm};
+ghost use Rattle.transform.specs.Turn.{quarterOf};
 ghost use Rattle.transform.specs.Run.{cropRun, clapRun, irotRun, imirRun};
 use crate::moves::Axis;
 use crate::moves::Move;
@@ -116,6 +117,31 @@ fn mirror_move(m: Form, sideways: bool) -> Move
         across: end_axis(sideways, m.width),
         down: end_axis(!sideways, m.height),
     }
+}
+
+// The form of a crop.
+pub fn crop_form(m: Form, r: CropRect) -> Form
+    ensures { λ f. ⌜ f ≡ cropMove m r .form ⌝ }
+{
+    let v = crop_move(m, r);
+    v.form
+}
+
+// The form of a turn.
+pub fn turn_form(m: Form, irot: Irot) -> Form
+    requires { ⌜ FormSound m ⌝ }
+    ensures { λ f. ⌜ f ≡ turnForm m (quarterOf (irot .angle)) ⌝ }
+{
+    let quarter = irot.angle % 4;
+    if quarter == 0 {
+        return m;
+    }
+    if quarter == 2 {
+        let v = half_move(m);
+        return v.form;
+    }
+    let v = quarter_move(m, quarter == 1, quarter == 3);
+    v.form
 }
 
 // Draws a move of a record where there is room for it.

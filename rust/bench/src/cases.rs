@@ -1,7 +1,9 @@
 //! What is timed, a line a case.
 
+use compose::canvas::STATE_WORDS;
 use compose::props::{self, Imir, Irot};
-use compose::{GridDescriptor, HeifFrame, OverlayDescriptor};
+use compose::{GridCanvas, GridDescriptor, HeifFrame, OverlayDescriptor};
+use differential::expected;
 use differential::generate::{self, Form};
 use differential::ours::{Answer, Composer, Linked};
 use differential::rng::Rng;
@@ -223,6 +225,46 @@ fn grid(side: u32, copied: bool) -> Case {
     }
 }
 
+/// A session over four by four tiles of 4:2:0: the cells placed from the last to the first.
+fn session(side: u32) -> Case {
+    let tiles: Vec<Frame> = (0..16).map(|_| picture(8, side / 4)).collect();
+    let grid = Grid {
+        rows: 4,
+        columns: 4,
+        width: side,
+        height: side,
+    };
+    let body = generate::grid_body(&grid, true);
+    let records: Vec<Vec<u8>> = tiles.iter().map(Frame::record).collect();
+    let frames: Vec<HeifFrame> = records
+        .iter()
+        .map(|record| HeifFrame::from_record(record).expect("a record"))
+        .collect();
+    let desc = GridDescriptor::parse(&body).expect("a grid");
+    Case {
+        name: format!("session, 4 × 4 tiles of {0} × {0} 4:2:0, 8 bits", side / 4),
+        // Luma, chroma and the reserved alpha plane, and the record's numbers.
+        room: (side * side) as usize * 5 / 2 + 65,
+        call: Box::new(move |buffer| {
+            let mut state = [0; STATE_WORDS];
+            answered(Linked.canvas_start(&body, &mut state));
+            for (index, record) in records.iter().enumerate().rev() {
+                let place = expected::Call::Place(index as u32, record);
+                answered(Linked.canvas_call(&place, &mut state, buffer));
+            }
+            answered(Linked.canvas_call(&expected::Call::Finish, &mut state, buffer));
+        }),
+        frames: Some(Box::new(move || {
+            let mut canvas = GridCanvas::new(&desc);
+            for (index, frame) in frames.iter().enumerate().rev() {
+                canvas.place(index, frame).expect("a cell");
+            }
+            drop(black_box(canvas.finish().expect("a picture")));
+        })),
+        theirs: Work::Session(grid, tiles),
+    }
+}
+
 /// So many inputs of one size, spread over a square canvas of 4:4:4.
 fn overlay(inputs: u32, size: u32, side: u32, alpha: u8) -> Case {
     let form = Form {
@@ -301,6 +343,7 @@ pub fn all(side: u32) -> Vec<Case> {
     }
     cases.push(grid(side, false));
     cases.push(grid(side, true));
+    cases.push(session(side));
     cases.push(overlay(8, half, half, 1));
     cases.push(overlay(1_000, (side / 64).max(1), side, 0));
     cases.push(grid_body());

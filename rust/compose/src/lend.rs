@@ -8,11 +8,26 @@ const MOST: usize = (1 << 33) + 64;
 /// What `call` writes to the output that it is lent: none at first, so that a refusal costs
 /// nothing; then `room` bytes, and twice as many while it says that they are too few.
 pub(crate) fn written(room: usize, call: impl Fn(&mut [u8]) -> Result<u64>) -> Result<Vec<u8>> {
-    let mut room = room.clamp(64, MOST);
+    up_to(MOST, room, call)
+}
+
+/// The same for a call that is lent an output and a spare of that length: the halves of one buffer.
+pub(crate) fn composed(
+    room: usize,
+    call: impl Fn(&mut [u8], &mut [u8]) -> Result<u64>,
+) -> Result<Vec<u8>> {
+    up_to(2 * MOST, room.saturating_mul(2), |both| {
+        let (output, spare) = both.split_at_mut(both.len() / 2);
+        call(output, spare)
+    })
+}
+
+fn up_to(most: usize, room: usize, call: impl Fn(&mut [u8]) -> Result<u64>) -> Result<Vec<u8>> {
+    let mut room = room.clamp(64, most);
     let mut output = Vec::new();
     loop {
         match call(&mut output) {
-            Err(Refusal::ROOM) if output.len() < MOST => output = vec![0; room.min(MOST)],
+            Err(Refusal::ROOM) if output.len() < most => output = vec![0; room.min(most)],
             Err(refusal) => return Err(refusal),
             Ok(length) => {
                 output.truncate(usize::try_from(length).expect("a length of the output"));

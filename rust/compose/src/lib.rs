@@ -6,9 +6,9 @@
 //!
 //! # In place of oxideav-heif
 //!
-//! Functions and types have oxideav-heif's names and shapes; a program changes its `use` lines.
-//! Its functions of `compose` stand at the top here, its modules [`derived`], [`image`], [`props`]
-//! and [`error`] where they were.
+//! Functions and types have oxideav-heif's names and shapes; a program changes its `use` lines: the
+//! crate's name in them, as its modules [`mod@compose`], [`derived`], [`image`], [`props`] and
+//! [`error`] are where they were. What they have in common use stands at the top here, too.
 //!
 //! ```
 //! use compose::image::{Chroma, HeifFrame, HeifPixelFormat, Plane};
@@ -22,11 +22,65 @@
 //! # Ok::<(), compose::Refusal>(())
 //! ```
 //!
+//! The slope importer joins the tiles of a photograph, and brings it to 8 bits:
+//!
+//! ```
+//! use compose::compose::{composite_grid, rescale_depth};
+//! use compose::derived::GridDescriptor;
+//! use compose::image::{Chroma, HeifFrame, HeifPixelFormat};
+//!
+//! let ten = HeifPixelFormat::new(Chroma::Yuv420, 10, false)?;
+//! let tiles = [100, 400].map(|sample| HeifFrame::filled(32, 32, ten, sample));
+//! let tiles = tiles.into_iter().collect::<Result<Vec<_>, _>>()?;
+//! let body = [0, 0, 0, 1, 0, 60, 0, 32];
+//! let slope = composite_grid(&GridDescriptor::parse(&body)?, &tiles)?;
+//! let slope = rescale_depth(&slope, 8)?;
+//! assert_eq!((slope.width, slope.height), (60, 32));
+//! assert_eq!((slope.sample(0, 31, 0), slope.sample(0, 32, 0)), (25, 100));
+//! # Ok::<(), compose::Refusal>(())
+//! ```
+//!
+//! The marker desk lays flags over it:
+//!
+//! ```
+//! use compose::compose::{OverlayInput, composite_overlay};
+//! use compose::derived::OverlayDescriptor;
+//! use compose::image::{Chroma, HeifFrame, HeifPixelFormat};
+//!
+//! let format = HeifPixelFormat::new(Chroma::Yuv420, 8, false)?;
+//! let slope = HeifFrame::filled(60, 32, format, 128)?;
+//! let flag = HeifFrame::filled(4, 4, format, 200)?;
+//! let places = OverlayDescriptor::new([0, 0, 0, 65_535], 60, 32, vec![(0, 0), (20, 10)]);
+//! let inputs = [&slope, &flag].map(|frame| OverlayInput::new(frame, false));
+//! let marked = composite_overlay(&places, &inputs, None)?;
+//! assert_eq!((marked.sample(0, 19, 10), marked.sample(0, 20, 10)), (128, 200));
+//! # Ok::<(), compose::Refusal>(())
+//! ```
+//!
+//! The projector shows it as its chain of properties says:
+//!
+//! ```
+//! use compose::compose::apply_transforms;
+//! use compose::image::{Chroma, HeifFrame, HeifPixelFormat};
+//! use compose::props::{Imir, Irot, Iscl, Property, PropertyEntry};
+//!
+//! let marked = HeifFrame::zeroed(60, 32, HeifPixelFormat::new(Chroma::Yuv420, 8, false)?)?;
+//! let chain = [
+//!     PropertyEntry::new(1, true, Property::Irot(Irot::new(3))),
+//!     PropertyEntry::new(2, true, Property::Imir(Imir::new(1))),
+//!     PropertyEntry::new(3, false, Property::Iscl(Iscl::new(1, 2, 1, 2))),
+//! ];
+//! let shown = apply_transforms(&marked, &chain, false)?;
+//! assert_eq!((shown.width, shown.height), (16, 30));
+//! # Ok::<(), compose::Refusal>(())
+//! ```
+//!
 //! # On records
 //!
 //! The calls work on records, and so can a program: [`record`] says what one holds, [`operation`]
 //! makes another of it, [`tray`] counts several, [`chain`] reads what is to be done to one, and
-//! [`steps`] says what sizes that gives.
+//! [`steps`] says what sizes that gives; [`mod@scene`] composes several and does it, in one call, and
+//! says which of them a place of the result shows.
 //!
 //! ```
 //! let bytes = [2, 1, 0, 8, 0, 2, 2, 10, 20];
@@ -39,6 +93,7 @@
 //! # Ok::<(), compose::Refusal>(())
 //! ```
 
+pub mod canvas;
 pub mod chain;
 pub mod composite;
 #[cfg(test)]
@@ -54,20 +109,35 @@ pub mod operation;
 pub mod props;
 pub mod record;
 mod refusal;
+pub mod scene;
 pub mod steps;
 pub mod sys;
 pub mod transform;
 pub mod tray;
 
+pub use canvas::GridCanvas;
 pub use composite::{OverlayInput, composite_grid, composite_overlay};
 pub use derived::{GridDescriptor, OverlayDescriptor};
 pub use fill::fill_to_ycbcr;
 pub use image::{Chroma, HeifFrame, HeifPixelFormat, Plane};
 pub use refusal::Refusal;
+pub use scene::{Point, Scene, Shows, point, scene};
 pub use transform::{
-    apply_clap, apply_imir, apply_irot, apply_iscl, attach_alpha, crop, rescale_depth,
-    resize_nearest,
+    apply_clap, apply_imir, apply_irot, apply_iscl, apply_transforms, apply_transforms_owned,
+    attach_alpha, crop, rescale_depth, resize_nearest,
 };
+
+/// The functions of oxideav-heif's module `compose` where they were, so that in a `use` line the
+/// crate's name alone changes.
+pub mod compose {
+    pub use crate::canvas::GridCanvas;
+    pub use crate::composite::{OverlayInput, composite_grid, composite_overlay};
+    pub use crate::fill::fill_to_ycbcr;
+    pub use crate::transform::{
+        apply_clap, apply_imir, apply_irot, apply_iscl, apply_transforms, apply_transforms_owned,
+        attach_alpha, crop, rescale_depth, resize_nearest,
+    };
+}
 
 /// What a call answers, or why it refused.
 pub type Result<T> = std::result::Result<T, Refusal>;

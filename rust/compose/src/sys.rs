@@ -188,6 +188,72 @@ library! {
         full_range: u8,
         out: &mut [u8],
     );
+
+    /// A grid composed and its chain applied; answers the length of the record in the output, whose
+    /// rest is then zero, as is the spare.
+    fn compose_grid_scene(
+        body: &[u8],
+        tray: &[u8],
+        chain: &[u8],
+        essential_only: u8,
+        output: &mut [u8],
+        spare: &mut [u8],
+    );
+
+    /// The same of an overlay.
+    fn compose_overlay_scene(
+        body: &[u8],
+        tray: &[u8],
+        chain: &[u8],
+        essential_only: u8,
+        premultiplied: &[u8],
+        colour: u8,
+        matrix: u16,
+        full_range: u8,
+        output: &mut [u8],
+        spare: &mut [u8],
+    );
+
+    /// The tile and the spot that a final place of a grid scene shows, in 10 words: 1 an input or 0
+    /// fill, the input, the spot's column and row; the chain's rectangle as x, y, width, height; 1
+    /// exchanged or 0, quarter turns.
+    fn compose_grid_point(
+        body: &[u8],
+        tray: &[u8],
+        chain: &[u8],
+        essential_only: u8,
+        column: u32,
+        row: u32,
+        answer: &mut [u32],
+    );
+
+    /// The topmost input and the spot that a final place of an overlay scene shows, or fill, in the
+    /// same 10 words. The colour description has no effect.
+    fn compose_overlay_point(
+        body: &[u8],
+        tray: &[u8],
+        chain: &[u8],
+        essential_only: u8,
+        premultiplied: &[u8],
+        colour: u8,
+        matrix: u16,
+        full_range: u8,
+        column: u32,
+        row: u32,
+        answer: &mut [u32],
+    );
+
+    /// A canvas for a grid's body, in 1034 words; answers 0, as the next two do.
+    fn compose_canvas_start(body: &[u8], state: &mut [u64]);
+
+    /// A tile's record in its cell of the canvas that the buffer holds.
+    fn compose_canvas_place(state: &mut [u64], index: u32, record: &[u8], buffer: &mut [u8]);
+
+    /// A blank cell.
+    fn compose_canvas_blank(state: &mut [u64], index: u32, buffer: &mut [u8]);
+
+    /// The length of the canvas's record at the start of the buffer.
+    fn compose_canvas_finish(state: &[u64], buffer: &[u8]);
 }
 
 #[cfg(test)]

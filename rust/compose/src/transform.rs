@@ -24,8 +24,8 @@
 //! ```
 
 use crate::image::HeifFrame;
-use crate::props::{Clap, Imir, Irot, Iscl};
-use crate::{Result, operation};
+use crate::props::{Clap, Imir, Irot, Iscl, Property, PropertyEntry};
+use crate::{Result, chain, operation};
 
 /// An operation on a record, on a frame.
 fn on_frame(f: &HeifFrame, operation: impl Fn(&[u8]) -> Result<Vec<u8>>) -> Result<HeifFrame> {
@@ -89,4 +89,77 @@ pub fn rescale_depth(f: &HeifFrame, depth: u8) -> Result<HeifFrame> {
 pub fn attach_alpha(master: &HeifFrame, alpha: &HeifFrame) -> Result<HeifFrame> {
     let alpha = alpha.to_record()?;
     on_frame(master, |record| operation::attach_alpha(record, &alpha))
+}
+
+/// The record after one property of a chain, or none where the property is skipped.
+fn after(record: &[u8], property: &Property) -> Option<Result<Vec<u8>>> {
+    match property {
+        Property::Other => None,
+        Property::Clap(clap) => Some(operation::clap(record, clap)),
+        Property::Irot(irot) => Some(operation::irot(record, irot.angle)),
+        Property::Imir(imir) => Some(operation::imir(record, imir.axis)),
+        Property::Iscl(iscl) => Some(operation::iscl(record, iscl)),
+    }
+}
+
+/// The properties of `chain` in turn, under `essential_only` the essential ones alone; without one
+/// that is applied the frame as it is. Refusals: 4 above 256 entries; the frame's, where one is
+/// applied; each entry's own, in turn.
+///
+/// ```
+/// use compose::image::{Chroma, HeifFrame, HeifPixelFormat};
+/// use compose::props::{Clap, Irot, Property, PropertyEntry};
+/// use compose::apply_transforms;
+///
+/// let frame = HeifFrame::zeroed(64, 48, HeifPixelFormat::new(Chroma::Yuv420, 8, false)?)?;
+/// let chain = [
+///     PropertyEntry::new(1, true, Property::Irot(Irot::new(1))),
+///     PropertyEntry::new(2, false, Property::Clap(Clap::integer(40, 60, 0, 0))),
+/// ];
+/// let shown = apply_transforms(&frame, &chain, false)?;
+/// assert_eq!((shown.width, shown.height), (40, 60));
+/// let turned = apply_transforms(&frame, &chain, true)?;
+/// assert_eq!((turned.width, turned.height), (48, 64));
+/// # Ok::<(), compose::Refusal>(())
+/// ```
+pub fn apply_transforms<'a>(
+    f: &HeifFrame,
+    chain: impl IntoIterator<Item = &'a PropertyEntry>,
+    essential_only: bool,
+) -> Result<HeifFrame> {
+    let entries: Vec<PropertyEntry> = chain.into_iter().copied().collect();
+    chain::join(&entries)?;
+    let mut record: Option<Vec<u8>> = None;
+    for entry in entries {
+        if essential_only && !entry.essential {
+            continue;
+        }
+        let before = match record.take() {
+            Some(record) => record,
+            None if entry.property.is_transformative() => f.to_record()?,
+            None => continue,
+        };
+        record = Some(after(&before, &entry.property).unwrap_or(Ok(before))?);
+    }
+    match record {
+        Some(record) => HeifFrame::from_record(&record),
+        None => Ok(f.clone()),
+    }
+}
+
+/// [`apply_transforms`] on a frame that is handed over: it comes back without a copy where no
+/// property is applied.
+pub fn apply_transforms_owned<'a>(
+    f: HeifFrame,
+    chain: impl IntoIterator<Item = &'a PropertyEntry>,
+    essential_only: bool,
+) -> Result<HeifFrame> {
+    let entries: Vec<PropertyEntry> = chain.into_iter().copied().collect();
+    let moves = |entry: &PropertyEntry| {
+        (entry.essential || !essential_only) && entry.property.is_transformative()
+    };
+    match entries.iter().any(moves) {
+        true => apply_transforms(&f, &entries, essential_only),
+        false => chain::join(&entries).map(|_| f),
+    }
 }

@@ -18,6 +18,16 @@ pub fn count(tray: &[u8]) -> Result<u32> {
     Ok(u32::try_from(count).expect("a tray's count is a house number"))
 }
 
+/// The count that `tray` begins with, if one can be read; its records are not looked at.
+///
+/// ```
+/// assert_eq!(compose::tray::announced(&[0x82, 1]), Some(130));
+/// assert_eq!(compose::tray::announced(&[0x82]), None);
+/// ```
+pub fn announced(tray: &[u8]) -> Option<u32> {
+    read_number(&mut &*tray)
+}
+
 /// The records of `tray`, each as its bytes. Refusals: as [`count`].
 pub fn records(tray: &[u8]) -> Result<Vec<&[u8]>> {
     let count = count(tray)?;

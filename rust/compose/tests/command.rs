@@ -1,6 +1,6 @@
 //! The command `compose`: what it prints, what it writes, and how it ends.
 
-use compose::operation::{crop, imir, irot};
+use compose::operation::{attach_alpha, crop, imir, irot, iscl, rescale_depth, resize_nearest};
 use compose::props::{Clap, Imir, Irot, Iscl, Property, PropertyEntry};
 use compose::{
     Chroma, HeifFrame, HeifPixelFormat, OverlayDescriptor, Refusal, chain, record, tray,
@@ -101,7 +101,7 @@ fn complaint(output: &Output) -> String {
     String::from_utf8_lossy(&output.stderr).into_owned()
 }
 
-const COMMANDS: [&str; 15] = [
+const COMMANDS: [&str; 25] = [
     "demo",
     "view",
     "record",
@@ -110,6 +110,8 @@ const COMMANDS: [&str; 15] = [
     "chain",
     "example",
     "pack",
+    "body",
+    "entries",
     "fill",
     "resolve",
     "steps",
@@ -117,6 +119,14 @@ const COMMANDS: [&str; 15] = [
     "clap",
     "irot",
     "imir",
+    "iscl",
+    "nearest",
+    "depth",
+    "attach",
+    "grid",
+    "overlay",
+    "scene",
+    "point",
 ];
 
 #[test]
@@ -169,8 +179,17 @@ fn without_a_word_it_is_the_demonstration() {
     let folder = Folder::new("demo");
     let shown = folder.done("");
     assert_eq!(shown, folder.done("demo"));
-    assert!(shown.contains("A slope with a flag on it: 48 × 32, 4:2:0, depth 8"));
-    assert!(shown.contains("A quarter turn anticlockwise: 22 × 28, 4:2:0, depth 8"));
+    for title in [
+        "A debris field, joined from four tiles: 48 × 32, 4:2:0, depth 8",
+        "Three flags laid over it: 48 × 32, 4:2:0, depth 8",
+        "Turned a quarter anticlockwise, and cropped: 24 × 36, 4:2:0, depth 8",
+    ] {
+        assert!(shown.contains(title), "{title}");
+    }
+    for flag in ["red", "yellow", "blue"] {
+        let line = format!(" shows the {flag} flag at (");
+        assert!(shown.contains(&line), "{flag}");
+    }
 }
 
 #[test]
@@ -214,6 +233,13 @@ fn operations_write_what_the_library_makes() {
             "clap a.rec 2 1 3 1 0 1 -1 2 out.rec",
             crop(&record, 2, 0, 2, 3),
         ),
+        (
+            "iscl a.rec 1 2 3 2 out.rec",
+            iscl(&record, &Iscl::new(1, 2, 3, 2)),
+        ),
+        ("nearest a.rec 9 5 out.rec", resize_nearest(&record, 9, 5)),
+        ("depth a.rec 12 out.rec", rescale_depth(&record, 12)),
+        ("attach a.rec a.rec out.rec", attach_alpha(&record, &record)),
     ] {
         let made = made.expect("a record");
         let info = record::inspect(&made).expect("a record");
@@ -222,6 +248,126 @@ fn operations_write_what_the_library_makes() {
         assert!(said.starts_with(&beginning), "{said}");
         assert_eq!(folder.get("out.rec"), made, "{words}");
     }
+}
+
+/// A folder with two tiles in a tray: mono, 2 × 2, as in document 01's case.
+fn with_tiles(name: &str) -> Folder {
+    let folder = Folder::new(name);
+    folder.put("one.rec", &[2, 2, 0, 8, 0, 2, 4, 1, 2, 3, 4]);
+    folder.put("two.rec", &[2, 2, 0, 8, 0, 2, 4, 5, 6, 7, 8]);
+    folder.done("pack one.rec two.rec tiles.tray");
+    folder
+}
+
+#[test]
+fn pictures_are_composed() {
+    let folder = with_tiles("composing");
+    assert_eq!(
+        folder.done("body grid 1 2 4 2 grid.body"),
+        "grid.body: grid body, 8 bytes\n"
+    );
+    assert_eq!(folder.get("grid.body"), [0, 0, 0, 1, 0, 4, 0, 2]);
+    let said = folder.done("grid grid.body tiles.tray out.rec");
+    assert_eq!(said, "out.rec: 4 × 2, mono, depth 8, 15 bytes\n");
+    let joined = [4, 2, 0, 8, 0, 4, 8, 1, 2, 5, 6, 3, 4, 7, 8];
+    assert_eq!(folder.get("out.rec"), joined);
+
+    // The second input a column to the left and a row down, on white.
+    folder.done("body overlay 3 2 65535 65535 65535 65535 overlay.body 0 0 -1 1");
+    for options in ["", " --premultiplied 0,1", " --matrix 1 --studio"] {
+        folder.done(&format!("overlay overlay.body tiles.tray out.rec{options}"));
+        let white = if options.ends_with("studio") {
+            235
+        } else {
+            255
+        };
+        let laid = [3, 2, 0, 8, 0, 3, 6, 1, 2, white, 6, 4, white];
+        assert_eq!(folder.get("out.rec"), laid, "{options}");
+    }
+    folder.done("body overlay 70000 2 0 0 0 0 none.body");
+    assert_eq!(
+        folder.done("descriptor overlay none.body 0"),
+        "70000 × 2, fill 0 0 0, alpha 0, 0 inputs\n"
+    );
+}
+
+/// Document 01's case: turned, the top row is 6 8, and (0, 0) is tile 1's (1, 0).
+#[test]
+fn scenes_are_composed_and_asked() {
+    let folder = with_tiles("scenes");
+    folder.done("body grid 1 2 4 2 grid.body");
+    folder.done("entries turn.chain irot! 1 imir 1");
+    folder.done("scene grid grid.body tiles.tray turn.chain out.rec --essential");
+    let turned = [2, 4, 0, 8, 0, 2, 8, 6, 8, 5, 7, 2, 4, 1, 3];
+    assert_eq!(folder.get("out.rec"), turned);
+    assert_eq!(
+        folder.done("point grid grid.body tiles.tray turn.chain 0 0 --essential"),
+        "input 1 at 1 0\nfrom 0 0, 4 × 2, 1 quarter turns\n"
+    );
+    folder.done("scene grid grid.body tiles.tray turn.chain out.rec");
+    let mirrored = [2, 4, 0, 8, 0, 2, 8, 8, 6, 7, 5, 4, 2, 3, 1];
+    assert_eq!(folder.get("out.rec"), mirrored);
+    assert_eq!(
+        folder.done("point grid grid.body tiles.tray turn.chain 0 0"),
+        "input 1 at 1 1\nfrom 0 0, 4 × 2, left and right exchanged, 3 quarter turns\n"
+    );
+    folder.fails(
+        "point grid grid.body tiles.tray turn.chain 2 0",
+        2,
+        "compose point: refused 18 (point): ",
+    );
+
+    folder.done("body overlay 3 2 65535 65535 65535 65535 overlay.body 0 0 -1 1");
+    folder.done("entries none.chain");
+    folder.done("scene overlay overlay.body tiles.tray none.chain out.rec");
+    let laid = [3, 2, 0, 8, 0, 3, 6, 1, 2, 255, 6, 4, 255];
+    assert_eq!(folder.get("out.rec"), laid);
+    assert_eq!(
+        folder.done("point overlay overlay.body tiles.tray none.chain 2 0"),
+        "fill\nfrom 0 0, 3 × 2, 0 quarter turns\n"
+    );
+    folder.done("entries scale.chain iscl 1 2 1 2");
+    folder.fails(
+        "point overlay overlay.body tiles.tray scale.chain 0 0",
+        2,
+        "compose point: refused 18 (point): ",
+    );
+    folder.fails(
+        "scene overlay overlay.body tiles.tray none.chain new.rec --premultiplied 1",
+        2,
+        "compose scene: refused 11 (count): ",
+    );
+    folder.fails(
+        "scene grid overlay.body tiles.tray overlay.body new.rec",
+        2,
+        "compose scene: refused 5 (malformed): ",
+    );
+    assert!(!folder.has("new.rec"));
+    folder.fails(
+        "scene grid grid.body tiles.tray none.chain",
+        1,
+        "compose: scene: OUT is missing",
+    );
+    folder.fails(
+        "point iden a b c 1 2",
+        1,
+        "compose: point: it takes grid or overlay, not iden",
+    );
+}
+
+#[test]
+fn chains_are_made() {
+    let folder = Folder::new("entries");
+    let said =
+        folder.done("entries c.chain irot! 1 clap 6 1 4 1 0 1 -1 2 other iscl 1 2 3 4 imir! 0");
+    assert_eq!(said, "c.chain: 5 entries, 29 bytes\n");
+    assert_eq!(
+        folder.done("chain c.chain"),
+        "5 entries\n    0  irot 1, essential\n    1  clap 6 1 4 1 0 1 -1 2\n    2  other\n    \
+         3  iscl 1 2 3 4\n    4  imir 0, essential\n"
+    );
+    folder.done("entries none.chain");
+    assert_eq!(folder.get("none.chain"), [0]);
 }
 
 #[test]
@@ -382,6 +528,9 @@ fn what_is_refused_writes_nothing() {
     let record = folder.get("a.rec");
     folder.put("cut.rec", &record[..record.len() - 1]);
     folder.put("old.rec", b"as it was");
+    folder.done("body overlay 4 4 0 0 0 0 one.body 0 0");
+    folder.done("pack a.rec one.tray");
+    folder.done("pack none.tray");
     for (words, beginning) in [
         ("record cut.rec", "compose record: refused 5 (malformed): "),
         ("view cut.rec", "compose view: refused 5 (malformed): "),
@@ -403,6 +552,39 @@ fn what_is_refused_writes_nothing() {
             "compose clap: refused 7 (zero): ",
         ),
         ("irot cut.rec 1 new.rec", "compose irot: refused 5 "),
+        (
+            "iscl a.rec 0 1 1 1 new.rec",
+            "compose iscl: refused 7 (zero): ",
+        ),
+        (
+            "nearest a.rec 0 1 new.rec",
+            "compose nearest: refused 3 (empty): ",
+        ),
+        (
+            "depth a.rec 17 old.rec",
+            "compose depth: refused 6 (depth): ",
+        ),
+        ("attach a.rec cut.rec new.rec", "compose attach: refused 5 "),
+        (
+            "body grid 1 1 0 4 new.rec",
+            "compose body: refused 3 (empty): ",
+        ),
+        (
+            "body overlay 65536 65536 0 0 0 0 new.rec 1 2",
+            "compose body: refused 4 (limit): ",
+        ),
+        (
+            "grid a.rec a.rec new.rec",
+            "compose grid: refused 2 (version): ",
+        ),
+        (
+            "overlay one.body none.tray new.rec",
+            "compose overlay: refused 15 (missing): ",
+        ),
+        (
+            "overlay one.body one.tray new.rec --premultiplied 0,0",
+            "compose overlay: refused 11 (count): ",
+        ),
         ("imir cut.rec 1 old.rec", "compose imir: refused 5 "),
     ] {
         folder.fails(words, 2, beginning);
@@ -460,6 +642,34 @@ fn wrong_words_write_nothing() {
             "compose: descriptor: 2 is a word too many",
         ),
         ("chain", "compose: chain: CHAIN is missing"),
+        ("entries", "compose: entries: OUT is missing"),
+        (
+            "entries new.rec turn 1",
+            "compose: entries: turn is no property",
+        ),
+        ("entries new.rec irot", "compose: entries: ANGLE is missing"),
+        (
+            "body grid 0 1 4 4 new.rec",
+            "compose: body: ROWS and COLUMNS go from 1 to 256",
+        ),
+        (
+            "body overlay 4 4 0 0 0 0 new.rec 1",
+            "compose: body: BELOW is missing",
+        ),
+        (
+            "body iden",
+            "compose: body: it takes grid or overlay, not iden",
+        ),
+        ("grid a.rec a.rec", "compose: grid: OUT is missing"),
+        (
+            "overlay a.rec a.rec new.rec --premultiplied 0,2",
+            "compose: overlay: LIST is a 0 or a 1 for each input, not 0,2",
+        ),
+        ("attach a.rec new.rec", "compose: attach: OUT is missing"),
+        (
+            "iscl a.rec 1 2 65536 3 new.rec",
+            "compose: iscl: HN is a number from 0 to 65535, not 65536",
+        ),
         ("resolve", "compose: resolve: clap or iscl is missing"),
         (
             "resolve irot 1 1 1",

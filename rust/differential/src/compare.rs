@@ -38,6 +38,11 @@ impl Input {
         &find(&self.numbers, name).1
     }
 
+    /// Whether there are bytes of this name.
+    pub fn has(&self, name: &str) -> bool {
+        self.bytes.iter().any(|(part, _)| *part == name)
+    }
+
     /// Whether the list `name` begins with a number other than 0.
     pub fn flag(&self, name: &str) -> bool {
         self.numbers(name)[0] != 0
@@ -167,7 +172,44 @@ impl fmt::Display for Report {
     }
 }
 
+/// A number with a comma before each three digits.
+fn grouped(number: u64) -> String {
+    let digits = number.to_string();
+    let mut text = String::new();
+    for (at, digit) in digits.chars().enumerate() {
+        if at > 0 && (digits.len() - at).is_multiple_of(3) {
+            text.push(',');
+        }
+        text.push(digit);
+    }
+    text
+}
+
+impl Report {
+    /// The report as a row of the table in docs/PERFORMANCE.md.
+    pub fn row(&self) -> String {
+        let refused = self.refused.iter();
+        let refused = refused.map(|(number, count)| format!("{number}: {}", grouped(*count)));
+        format!(
+            "| {} | {} | {} | {} | {} |",
+            self.name,
+            grouped(self.cases),
+            grouped(self.accepted),
+            refused.collect::<Vec<_>>().join(", "),
+            self.differences.len()
+        )
+    }
+}
+
 impl Comparison {
+    /// How many cases a long run judges: a million, or fewer where a case takes longer.
+    pub fn long(&self) -> u64 {
+        match self.name {
+            "iscl" | "session" | "grid-scene" | "overlay-scene" | "point" => 100_000,
+            _ => 1_000_000,
+        }
+    }
+
     /// The smallest input found that still differs, within a bounded number of trials.
     fn shrink(&self, sides: &Sides, mut input: Input, mut shows: String) -> (Input, String) {
         let mut trials = 20_000;
@@ -201,11 +243,23 @@ impl Comparison {
 
     /// Judges `cases` inputs made from `seed`. It stops at the tenth difference.
     pub fn run(&self, sides: &Sides, cases: u64, seed: u64) -> Report {
+        self.run_telling(sides, cases, seed, |_| {})
+    }
+
+    /// The same; `tell` is told how many are judged, before each.
+    pub fn run_telling(
+        &self,
+        sides: &Sides,
+        cases: u64,
+        seed: u64,
+        mut tell: impl FnMut(u64),
+    ) -> Report {
         let mut report = Report {
             name: self.name,
             ..Report::default()
         };
         for case in 0..cases {
+            tell(case);
             let input = self.input(case, seed);
             report.cases += 1;
             match (self.judge)(sides, &input) {

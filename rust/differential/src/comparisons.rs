@@ -1,16 +1,18 @@
 //! The comparisons by name.
 
 use crate::compare::{Comparison, Input, Sides, Verdict};
-use crate::damage::{self, BodyFault};
-use crate::expected::{self, Call, SceneParts, Stop, Want};
+use crate::damage::{self, BodyFault, SceneDraft, SceneFault};
+use crate::expected::{self, Call, Stop, Want};
 use crate::generate;
 use crate::ours::{self, Answer};
 use crate::rng::Rng;
 use model::{
-    Clap, Colour, Entry, Frame, Grid, Iscl, Operation, Outcome, Overlay, Property, Reader,
-    Rectangle, chain_bytes, fill_samples, number_bytes, parse_chain, parse_grid, parse_overlay,
-    parse_record, parse_steps, parse_tray, steps_text, tray_bytes,
+    Clap, Colour, Entry, Frame, Grid, Iscl, Marks, Named, Operation, Oracle, Outcome, Overlay,
+    OverlayInput, Point, Property, Reader, Rectangle, Scene, SceneParts, Sighted, Size,
+    chain_bytes, fill_samples, number_bytes, parse_chain, parse_grid, parse_overlay, parse_record,
+    parse_steps, parse_tray, steps_text, tray_bytes,
 };
+use std::collections::HashSet;
 use std::fmt::Debug;
 
 /// Every comparison.
@@ -116,19 +118,24 @@ pub const ALL: &[Comparison] = &[
         judge: composite_overlay,
     },
     Comparison {
-        name: "grid",
-        generate: grid_input,
-        judge: grid,
-    },
-    Comparison {
         name: "session",
         generate: session_input,
         judge: session,
     },
     Comparison {
-        name: "overlay",
-        generate: overlay_input,
-        judge: overlay,
+        name: "grid-scene",
+        generate: |rng| scene_input(rng, false),
+        judge: |sides, input| scene(sides, input, false),
+    },
+    Comparison {
+        name: "overlay-scene",
+        generate: |rng| scene_input(rng, true),
+        judge: |sides, input| scene(sides, input, true),
+    },
+    Comparison {
+        name: "point",
+        generate: point_input,
+        judge: point,
     },
 ];
 
@@ -490,7 +497,7 @@ fn property_numbers(property: Property) -> Vec<i64> {
 
 /// The operations on one record.
 #[derive(Clone, Copy)]
-enum Kind {
+pub(crate) enum Kind {
     Crop,
     Clap,
     Irot,
@@ -552,7 +559,7 @@ fn operation_input(rng: &mut Rng, kind: Kind) -> Input {
 }
 
 /// The operation of a kind with an input's fields.
-fn operation_of(input: &Input, kind: Kind) -> Operation {
+pub(crate) fn operation_of(input: &Input, kind: Kind) -> Operation {
     let field = |at: usize| input.numbers("fields")[at] as u32;
     match kind {
         Kind::Crop => Operation::Crop(Rectangle {
@@ -619,7 +626,7 @@ fn colour_numbers(colour: Option<Colour>) -> Vec<i64> {
     })
 }
 
-fn colour_of(input: &Input) -> Option<Colour> {
+pub(crate) fn colour_of(input: &Input) -> Option<Colour> {
     match input.numbers("colour") {
         [matrix, full_range] => Some(Colour {
             matrix: *matrix as u16,
@@ -651,31 +658,107 @@ fn fill(sides: &Sides, input: &Input) -> Verdict {
     })
 }
 
-/// Body, tray, chain and flag of a scene, each now and then loosened or damaged.
-fn scene_input(rng: &mut Rng, mut body: Vec<u8>, frames: &[Frame], canvas: (u32, u32)) -> Input {
-    let mut tray = tray_bytes(frames);
-    let mut chain = chain_bytes(&generate::chain(rng, canvas));
+/// A body, a tray and a chain as one input, each part now and then loosened or damaged.
+fn whole_input(rng: &mut Rng, draft: SceneDraft) -> Input {
+    let SceneDraft {
+        mut body,
+        mut tray,
+        mut chain,
+        premultiplied,
+    } = draft;
     generate::loosen_body(rng, &mut body);
     for part in [&mut body, &mut tray, &mut chain] {
         if rng.once_in(16) {
             damage::damage(rng, part);
         }
     }
-    Input::new()
+    let input = Input::new()
         .with_bytes("body", body)
         .with_bytes("tray", tray)
         .with_bytes("chain", chain)
-        .with_numbers("essential-only", vec![rng.within(0..=1)])
+        .with_numbers("essential-only", vec![rng.within(0..=1)]);
+    match premultiplied {
+        None => input,
+        Some(mut list) => {
+            if rng.once_in(24) {
+                damage::damage(rng, &mut list);
+            }
+            input
+                .with_bytes("premultiplied", list)
+                .with_numbers("colour", colour_numbers(generate::colour(rng)))
+        }
+    }
+}
+
+/// A premultiplied byte an input.
+fn list_of(rng: &mut Rng, inputs: &[OverlayInput]) -> Vec<u8> {
+    let byte = |input: &OverlayInput| {
+        let any = rng.byte() | 1;
+        if input.premultiplied { any } else { 0 }
+    };
+    inputs.iter().map(byte).collect()
+}
+
+fn frames_of(inputs: &[OverlayInput]) -> Vec<Frame> {
+    inputs.iter().map(|input| input.frame.clone()).collect()
+}
+
+/// Only where it `scales` the chain may have an iscl.
+fn grid_draft(rng: &mut Rng, scales: bool) -> SceneDraft {
+    let (grid, tiles) = generate::grid_scene(rng);
+    let chain = generate::entries(rng, (grid.width, grid.height), scales);
+    SceneDraft {
+        body: generate::grid_body(&grid, rng.flag()),
+        tray: tray_bytes(&tiles),
+        chain: chain_bytes(&chain),
+        premultiplied: None,
+    }
+}
+
+/// As [`grid_draft`]; only where it `shines` the inputs may have alpha.
+fn overlay_draft(rng: &mut Rng, scales: bool, shines: bool) -> SceneDraft {
+    let (overlay, mut inputs) = generate::overlay_scene(rng);
+    if !shines {
+        for OverlayInput { frame, .. } in &mut inputs {
+            frame.alpha = 0;
+            frame.planes.truncate(frame.plane_count());
+        }
+    }
+    let chain = generate::entries(rng, (overlay.width, overlay.height), scales);
+    SceneDraft {
+        body: generate::overlay_body(&overlay, rng.flag()),
+        tray: tray_bytes(&frames_of(&inputs)),
+        chain: chain_bytes(&chain),
+        premultiplied: Some(list_of(rng, &inputs)),
+    }
 }
 
 fn grid_input(rng: &mut Rng) -> Input {
-    let (grid, tiles) = generate::grid_scene(rng);
-    let body = generate::grid_body(&grid, rng.flag());
-    scene_input(rng, body, &tiles, (grid.width, grid.height))
+    let draft = grid_draft(rng, true);
+    whole_input(rng, draft)
+}
+
+fn overlay_input(rng: &mut Rng) -> Input {
+    let draft = overlay_draft(rng, true, true);
+    whole_input(rng, draft)
+}
+
+/// A scene; once in eight one with known faults.
+fn scene_input(rng: &mut Rng, overlay: bool) -> Input {
+    if rng.once_in(8) {
+        let faults = damage::some_faults(rng, |fault: SceneFault| fault.fits(overlay));
+        let draft = damage::faulty_scene(rng, &faults, overlay);
+        return whole_input(rng, draft);
+    }
+    if overlay {
+        overlay_input(rng)
+    } else {
+        grid_input(rng)
+    }
 }
 
 /// The parts that both scene calls are handed.
-fn parts_of(input: &Input) -> SceneParts<'_> {
+pub(crate) fn parts_of(input: &Input) -> SceneParts<'_> {
     SceneParts {
         body: input.bytes("body"),
         tray: input.bytes("tray"),
@@ -684,82 +767,212 @@ fn parts_of(input: &Input) -> SceneParts<'_> {
     }
 }
 
+pub(crate) fn marks_of(input: &Input) -> Marks<'_> {
+    Marks {
+        premultiplied: input.bytes("premultiplied"),
+        colour: colour_of(input),
+    }
+}
+
 /// The same without a chain: what composing alone writes.
-fn composed_of(input: &Input) -> SceneParts<'_> {
+pub(crate) fn composed_of(input: &Input) -> SceneParts<'_> {
     SceneParts {
         chain: &[0],
         ..parts_of(input)
     }
 }
 
+/// What the model composes, then what the composer writes.
 fn composite_grid(sides: &Sides, input: &Input) -> Verdict {
     let parts = composed_of(input);
     let wants = sides.wants(|build| Ok(expected::grid_scene(build, &parts)?.record));
     agree(wants, |want| {
+        let model = model::grid_scene(&parts).map(|scene| scene.record);
         let call = |output: &mut [u8]| sides.ours.grid(parts.body, parts.tray, output);
-        no_record(want).or_else(|| ours::writes(want, call))
+        model_answers(want, &model)
+            .or_else(|| no_record(want))
+            .or_else(|| ours::writes(want, call))
     })
 }
 
 fn composite_overlay(sides: &Sides, input: &Input) -> Verdict {
-    let (parts, colour) = (composed_of(input), colour_of(input));
-    let list = input.bytes("premultiplied");
-    let wants =
-        sides.wants(|build| Ok(expected::overlay_scene(build, &parts, list, colour)?.record));
+    let (parts, marks) = (composed_of(input), marks_of(input));
+    let wants = sides.wants(|build| Ok(expected::overlay_scene(build, &parts, &marks)?.record));
     agree(wants, |want| {
+        let model = model::overlay_scene(&parts, &marks).map(|scene| scene.record);
+        let (list, colour) = (marks.premultiplied, marks.colour);
         let call = |output: &mut [u8]| {
             sides
                 .ours
                 .overlay(parts.body, parts.tray, list, colour, output)
         };
-        no_record(want).or_else(|| ours::writes(want, call))
+        model_answers(want, &model)
+            .or_else(|| no_record(want))
+            .or_else(|| ours::writes(want, call))
     })
 }
 
-fn grid(sides: &Sides, input: &Input) -> Verdict {
+/// The oracle's scene, step by step and whole, the model's, and the composer's.
+fn scene(sides: &Sides, input: &Input, overlay: bool) -> Verdict {
     let parts = parts_of(input);
-    let wants = sides.wants(|build| expected::grid_scene(build, &parts));
+    let marks = overlay.then(|| marks_of(input));
+    let wants = sides.wants(|build| expected_scene(build, &parts, marks.as_ref()));
     agree(wants, |want| {
-        let call =
-            |output: &mut [u8], spare: &mut [u8]| sides.ours.grid_scene(&parts, output, spare);
-        no_record(want).or_else(|| ours::composes(want, call))
-    })
-}
-
-fn overlay_input(rng: &mut Rng) -> Input {
-    let (overlay, inputs) = generate::overlay_scene(rng);
-    let frames: Vec<Frame> = inputs.iter().map(|input| input.frame.clone()).collect();
-    let mut list: Vec<u8> = inputs
-        .iter()
-        .map(|input| {
-            if input.premultiplied {
-                rng.byte() | 1
-            } else {
-                0
-            }
-        })
-        .collect();
-    if rng.once_in(24) {
-        damage::damage(rng, &mut list);
-    }
-    let body = generate::overlay_body(&overlay, rng.flag());
-    scene_input(rng, body, &frames, (overlay.width, overlay.height))
-        .with_bytes("premultiplied", list)
-        .with_numbers("colour", colour_numbers(generate::colour(rng)))
-}
-
-fn overlay(sides: &Sides, input: &Input) -> Verdict {
-    let (parts, colour) = (parts_of(input), colour_of(input));
-    let list = input.bytes("premultiplied");
-    let wants = sides.wants(|build| expected::overlay_scene(build, &parts, list, colour));
-    agree(wants, |want| {
-        let call = |output: &mut [u8], spare: &mut [u8]| {
-            sides
-                .ours
-                .overlay_scene(&parts, list, colour, output, spare)
+        let model = match &marks {
+            Some(marks) => model::overlay_scene(&parts, marks),
+            None => model::grid_scene(&parts),
         };
-        no_record(want).or_else(|| ours::composes(want, call))
+        let call = |output: &mut [u8], spare: &mut [u8]| match &marks {
+            Some(marks) => sides.ours.overlay_scene(&parts, marks, output, spare),
+            None => sides.ours.grid_scene(&parts, output, spare),
+        };
+        model_answers(want, &model)
+            .or_else(|| no_record(want))
+            .or_else(|| ours::composes(want, call))
     })
+}
+
+fn expected_scene(build: &dyn Oracle, parts: &SceneParts, marks: Option<&Marks>) -> Want<Scene> {
+    match marks {
+        Some(marks) => expected::overlay_scene(build, parts, marks),
+        None => expected::grid_scene(build, parts),
+    }
+}
+
+/// A scene of a grid or an overlay, most of them such that the point call answers.
+fn point_input(rng: &mut Rng) -> Input {
+    let overlay = rng.flag();
+    let (scales, shines) = (rng.once_in(10), rng.once_in(10));
+    if rng.once_in(16) {
+        return scene_input(rng, overlay);
+    }
+    let draft = if overlay {
+        overlay_draft(rng, scales, shines)
+    } else {
+        grid_draft(rng, scales)
+    };
+    whole_input(rng, draft)
+}
+
+/// The most places that are asked for.
+const MANY: usize = 1 << 14;
+
+/// A tray alike in all but its samples.
+fn other_samples(tray: &[u8]) -> Vec<u8> {
+    let mut frames = parse_tray(tray).expect("a tray that was taken");
+    for plane in frames.iter_mut().flat_map(|frame| &mut frame.planes) {
+        for (byte, at) in plane.data.iter_mut().zip(1..) {
+            *byte = byte.wrapping_add(at).wrapping_mul(3);
+        }
+    }
+    tray_bytes(&frames)
+}
+
+/// The point call at every place of the final picture, and at places outside it (18). The model's
+/// answers are held to the oracle's picture: its size, and every sample at every place that it
+/// covers; the composer's to the model's, on a tray of other samples too. No spot is named twice.
+fn point(sides: &Sides, input: &Input) -> Verdict {
+    let parts = parts_of(input);
+    let overlay = input.has("premultiplied");
+    let marks = overlay.then(|| marks_of(input));
+    let sighted = match &marks {
+        Some(marks) => Sighted::overlay(&parts, marks),
+        None => Sighted::grid(&parts),
+    };
+    let ask = |tray: &[u8], place: Size, words: &mut [u32]| {
+        let parts = SceneParts { tray, ..parts };
+        match &marks {
+            Some(marks) => sides.ours.overlay_point(&parts, marks, place, words),
+            None => sides.ours.grid_point(&parts, place, words),
+        }
+    };
+    let ours = |tray: &[u8], place: Size, want: &Answer<Point>| {
+        let want = want.map(|point| point.words());
+        let departs = ours::fills(&want, |words| ask(tray, place, words));
+        departs.map(|shows| format!("at {place:?}: {shows}"))
+    };
+    let refused = |number| {
+        let places = [(0, 0), (1, 2), (u32::MAX, u32::MAX)];
+        let mut asked = places.into_iter();
+        asked.find_map(|place| ours(parts.tray, place, &Err(number)))
+    };
+    // Input with alpha, or an iscl: the scene may well be made.
+    if let Err(number @ model::refusal::POINT) = sighted {
+        return refused(number).map_or(Verdict::Refused(number), Verdict::Different);
+    }
+    let wants = sides.wants(|build| expected_scene(build, &parts, marks.as_ref()));
+    let mut many = false;
+    let verdict = agree(wants, |want| match (want, &sighted) {
+        (Err(number), Err(same)) if number == same => refused(*number),
+        (Ok(scene), Ok(sighted)) => {
+            let frame = parse_record(&scene.record).expect("a record that was made");
+            many = frame.width as usize * frame.height as usize > MANY;
+            if many {
+                return None;
+            }
+            agreement(&frame, sighted).or_else(|| {
+                let (width, height) = sighted.size();
+                let outside = [
+                    (width, 0),
+                    (0, height),
+                    (width, height),
+                    (u32::MAX, 0),
+                    (0, u32::MAX),
+                ];
+                let inside = places(sighted.size());
+                let mut places = inside.chain(outside);
+                let other = other_samples(parts.tray);
+                places.find_map(|place| {
+                    let want = sighted.at(place.0, place.1);
+                    ours(parts.tray, place, &want).or_else(|| {
+                        let departs = ours(&other, place, &want);
+                        departs.map(|shows| format!("with other samples {shows}"))
+                    })
+                })
+            })
+        }
+        (want, sighted) => {
+            let want = want.as_ref().map(|_| "a picture");
+            let sighted = sighted.as_ref().map(|_| "an answer");
+            Some(format!("the scene {want:?}, the point {sighted:?}"))
+        }
+    });
+    if many { Verdict::PassedOver } else { verdict }
+}
+
+fn places((width, height): Size) -> impl Iterator<Item = Size> {
+    (0..height).flat_map(move |y| (0..width).map(move |x| (x, y)))
+}
+
+/// How a picture departs from what the model's point call names in it: demand 3.
+pub fn agreement(frame: &Frame, sighted: &Sighted) -> Option<String> {
+    let size = (frame.width, frame.height);
+    if size != sighted.size() {
+        return Some(format!(
+            "the picture {size:?}, the point {:?}",
+            sighted.size()
+        ));
+    }
+    let mut named = HashSet::new();
+    for (x, y) in places(size) {
+        let at = sighted.at(x, y).map(|point| point.named);
+        let Ok(at) = at else {
+            return Some(format!("({x}, {y}) is refused"));
+        };
+        if at != Named::Fill && !named.insert(at) {
+            return Some(format!("({x}, {y}): {at:?} is named twice"));
+        }
+        for plane in 0..frame.plane_count() {
+            let part = frame.part(plane);
+            let (shown, read) = (frame.covering(part, x, y), sighted.reads(at, part));
+            if shown != read {
+                return Some(format!(
+                    "plane {plane} at ({x}, {y}) shows {shown}, {at:?} reads {read}"
+                ));
+            }
+        }
+    }
+    None
 }
 
 /// A session: a body, a tray of tiles to take from, one more record, and calls of three bytes
@@ -818,14 +1031,17 @@ fn session(sides: &Sides, input: &Input) -> Verdict {
     let tiles: Vec<Vec<u8>> = tiles.iter().map(Frame::record).collect();
     let calls = calls_of(input, &tiles);
     let [plain, checked] = sides.wants(|build| expected::session(build, &grid, &calls));
-    let ours = sides.ours.session(input.bytes("body"), &calls);
+    let departs = ours::places(sides.ours, input.bytes("body"), &calls, &plain);
     for (at, (plain, checked)) in plain.into_iter().zip(checked).enumerate() {
-        if plain.buffer != checked.buffer || plain.placed != checked.placed {
+        if (&plain.buffer, plain.numbers, &plain.placed)
+            != (&checked.buffer, checked.numbers, &checked.placed)
+        {
             return Verdict::Different(format!("call {at} leaves another canvas"));
         }
-        let departs = ours.as_ref().filter(|ours| ours[at] != plain);
-        let departs = departs.map(|ours| format!("the composer {:?}", ours[at]));
-        match agree([plain.answer, checked.answer], |_| departs) {
+        let departs = departs.iter().find(|(call, _)| *call == at);
+        match agree([plain.answer, checked.answer], |_| {
+            departs.map(|(_, shows)| shows.clone())
+        }) {
             Verdict::Different(shows) => {
                 return Verdict::Different(format!("call {at}: {shows}"));
             }

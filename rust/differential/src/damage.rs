@@ -4,7 +4,8 @@
 use crate::generate;
 use crate::rng::Rng;
 use model::{
-    Clap, Entry, Frame, Iscl, MAX_ENTRIES, Property, Refusal, chain_bytes, number_bytes, refusal,
+    Clap, Entry, Frame, Grid, Iscl, MAX_ENTRIES, Overlay, Property, Refusal, chain_bytes,
+    number_bytes, refusal,
 };
 use std::ops::Range;
 
@@ -502,6 +503,247 @@ pub fn faulty_body(rng: &mut Rng, faults: &[BodyFault], overlay: bool) -> (Vec<u
         fault.apply(rng, sides, &mut draft, &mut inputs);
     }
     (draft.bytes(), inputs)
+}
+
+/// The bytes that a scene call is handed; an overlay's have a premultiplied list.
+#[derive(Clone, Debug)]
+pub struct SceneDraft {
+    pub body: Vec<u8>,
+    pub tray: Vec<u8>,
+    pub chain: Vec<u8>,
+    pub premultiplied: Option<Vec<u8>>,
+}
+
+/// Faults of a scene, in document 01's order: tray count, chain, body, counts, records, tiles or
+/// inputs, entries in turn.
+#[derive(Clone, Copy, Debug, PartialEq, Eq, PartialOrd, Ord)]
+pub enum SceneFault {
+    TrayCount,
+    ChainLong,
+    ChainForm,
+    BodyEmpty,
+    BodyVersion,
+    BodyShort,
+    ZeroSide,
+    Limit,
+    Inputs,
+    OffsetsShort,
+    NoInputs,
+    Count,
+    RecordForm,
+    RecordDepth,
+    LeftOver,
+    Cover,
+    TileSize,
+    Form,
+    Alpha,
+    ZeroTerm,
+    Fraction,
+    Outside,
+    ScaleZero,
+    ScaleLimit,
+}
+
+impl Fault for SceneFault {
+    const ALL: &'static [Self] = &[
+        Self::TrayCount,
+        Self::ChainLong,
+        Self::ChainForm,
+        Self::BodyEmpty,
+        Self::BodyVersion,
+        Self::BodyShort,
+        Self::ZeroSide,
+        Self::Limit,
+        Self::Inputs,
+        Self::OffsetsShort,
+        Self::NoInputs,
+        Self::Count,
+        Self::RecordForm,
+        Self::RecordDepth,
+        Self::LeftOver,
+        Self::Cover,
+        Self::TileSize,
+        Self::Form,
+        Self::Alpha,
+        Self::ZeroTerm,
+        Self::Fraction,
+        Self::Outside,
+        Self::ScaleZero,
+        Self::ScaleLimit,
+    ];
+
+    fn refusal(self) -> Refusal {
+        match self {
+            Self::TrayCount | Self::ChainForm | Self::RecordForm | Self::LeftOver => {
+                refusal::MALFORMED
+            }
+            Self::ChainLong | Self::Limit | Self::Inputs | Self::ScaleLimit => refusal::LIMIT,
+            Self::BodyEmpty | Self::BodyShort | Self::OffsetsShort => refusal::SHORT,
+            Self::BodyVersion => refusal::VERSION,
+            Self::ZeroSide => refusal::ZERO_SIDE,
+            Self::NoInputs => refusal::MISSING,
+            Self::Count => refusal::COUNT,
+            Self::RecordDepth => refusal::DEPTH,
+            Self::Cover => refusal::COVER,
+            Self::TileSize => refusal::TILE_SIZE,
+            Self::Form => refusal::FORM,
+            Self::Alpha => refusal::ALPHA,
+            Self::ZeroTerm | Self::ScaleZero => refusal::ZERO_DENOMINATOR,
+            Self::Fraction => refusal::NOT_WHOLE,
+            Self::Outside => refusal::OUTSIDE,
+        }
+    }
+}
+
+impl SceneFault {
+    /// Whether a grid's scene, or an overlay's, can have it.
+    pub fn fits(self, overlay: bool) -> bool {
+        match self {
+            Self::Inputs | Self::OffsetsShort | Self::NoInputs | Self::Alpha => overlay,
+            Self::Cover | Self::TileSize => !overlay,
+            _ => true,
+        }
+    }
+
+    /// The number that a point call gives it: alpha and scaling are 18 there.
+    pub fn point_refusal(self) -> Refusal {
+        match self {
+            Self::Alpha | Self::ScaleZero | Self::ScaleLimit => refusal::POINT,
+            other => other.refusal(),
+        }
+    }
+}
+
+/// A scene of four tiles, or three inputs, with `faults` in it; every entry of its chain is
+/// essential.
+pub fn faulty_scene(rng: &mut Rng, faults: &[SceneFault], overlay: bool) -> SceneDraft {
+    let has = |fault| faults.contains(&fault);
+    let count = if overlay { 3 } else { 4 };
+    let side = 4 + 2 * rng.below(3) as u32;
+    let form = generate::Form {
+        depth: rng.number(9..=15) as u8,
+        ..generate::form(rng)
+    };
+    let mut frames: Vec<Frame> = (0..count)
+        .map(|_| {
+            let alpha = if overlay { 0 } else { rng.number(0..=1) as u8 };
+            generate::frame_of(rng, (side, side), generate::Form { alpha, ..form }, false)
+        })
+        .collect();
+    if has(SceneFault::Alpha) {
+        let form = generate::Form { alpha: 1, ..form };
+        frames[0] = generate::frame_of(rng, (side, side), form, false);
+        let stride = frames[0].planes[form.chroma.colour_planes()].stride;
+        let at = stride * rng.below(side as usize) + 2 * rng.below(side as usize);
+        let above = (1u16 << form.depth).to_le_bytes();
+        frames[0].planes[form.chroma.colour_planes()].data[at..at + 2].copy_from_slice(&above);
+    }
+    if has(SceneFault::TileSize) {
+        frames[2] = generate::frame_of(rng, (side, side + 1), form, false);
+    }
+    if has(SceneFault::Form) {
+        let (size, depth) = ((frames[2].width, frames[2].height), 16);
+        frames[2] = generate::frame_of(rng, size, generate::Form { depth, ..form }, false);
+        if overlay {
+            frames[2].alpha = 0;
+            let planes = frames[2].plane_count();
+            frames[2].planes.truncate(planes);
+        }
+    }
+    let mut drafts: Vec<Draft> = frames.iter().map(Draft::of_record).collect();
+    if has(SceneFault::RecordDepth) {
+        drafts[1].set(3, rng.pick(&[7, 17, 264]));
+    }
+    if has(SceneFault::RecordForm) {
+        drafts[1].set(2, rng.pick(&[4, 257]));
+    }
+    if has(SceneFault::LeftOver) {
+        drafts[count - 1].leave_over(rng);
+    }
+    let listed = count + usize::from(has(SceneFault::Count));
+    let mut tray = match listed {
+        _ if has(SceneFault::TrayCount) => malformed_number(rng),
+        _ if has(SceneFault::Inputs) => number_bytes(65_537),
+        _ if has(SceneFault::NoInputs) => number_bytes(0),
+        _ if overlay => number_bytes(count as u32),
+        listed => number_bytes(listed as u32),
+    };
+    for draft in &drafts {
+        tray.extend(draft.bytes());
+    }
+    let canvas = if overlay { side + 3 } else { 2 * side };
+    let wider = u32::from(has(SceneFault::Cover));
+    let (mut width, mut height) = (canvas + wider, canvas);
+    if has(SceneFault::Limit) {
+        (width, height) = (65_536, 65_536);
+    }
+    if has(SceneFault::ZeroSide) {
+        height = 0;
+    }
+    let mut body = if overlay {
+        let offset = |rng: &mut Rng| rng.within(-3..=3) as i32;
+        let offsets = (0..count).map(|_| (offset(rng), offset(rng))).collect();
+        let fill = [0; 4].map(|_: u16| rng.word() as u16);
+        let overlay = Overlay {
+            fill,
+            width,
+            height,
+            offsets,
+        };
+        generate::overlay_body(&overlay, true)
+    } else {
+        let grid = Grid {
+            rows: 2,
+            columns: 2,
+            width,
+            height,
+        };
+        generate::grid_body(&grid, true)
+    };
+    let fields = if overlay { 18 } else { 12 };
+    if has(SceneFault::OffsetsShort) {
+        body.truncate(fields + rng.below(8 * count));
+    }
+    if has(SceneFault::BodyShort) {
+        body.truncate(1 + rng.below(fields - 1));
+    }
+    if has(SceneFault::BodyVersion) {
+        body[0] = rng.byte().max(1);
+    }
+    if has(SceneFault::BodyEmpty) {
+        body.clear();
+    }
+    let clap = |fields| Property::Clap(Clap::from_fields(fields));
+    let scale = |fields| Property::Iscl(Iscl::from_fields(fields));
+    let slots = [
+        (SceneFault::ZeroTerm, clap([1, 0, 1, 1, 0, 1, 0, 1])),
+        (SceneFault::Fraction, clap([3, 2, 1, 1, 0, 1, 0, 1])),
+        (SceneFault::Outside, clap([0, 1, 1, 1, 0, 1, 0, 1])),
+        (SceneFault::ScaleZero, scale([1, 1, 0, 1])),
+        (SceneFault::ScaleLimit, scale([65_535, 1, 65_535, 1])),
+    ];
+    let mut entries = Vec::new();
+    for (fault, property) in slots {
+        let property = match has(fault) {
+            true => property,
+            false => rng.pick(&[Property::Other, Property::Irot(1), Property::Imir(0)]),
+        };
+        entries.push(Entry::new(true, property));
+    }
+    let mut chain = Draft::of_chain(&entries);
+    if has(SceneFault::ChainForm) {
+        chain.leave_over(rng);
+    }
+    if has(SceneFault::ChainLong) {
+        chain.set(0, rng.pick(&[257, 65_536]));
+    }
+    let long = usize::from(has(SceneFault::Count));
+    SceneDraft {
+        body,
+        tray,
+        chain: chain.bytes(),
+        premultiplied: overlay.then(|| rng.bytes(count + long)),
+    }
 }
 
 /// Blind damage, one to three times: an end cut off, a byte changed, put in or taken out.

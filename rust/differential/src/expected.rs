@@ -3,9 +3,10 @@
 
 use crate::refusals;
 use model::{
-    Canvas, CanvasState, Colour, Entry, Frame, Grid, Iscl, Operation, Oracle, Outcome,
-    OverlayInput, Property, Refusal, Size, parse_chain, parse_record, parse_steps, parse_tray,
-    parse_untested, push_number, refusal, steps_text, tray_count, untested_tray,
+    Canvas, CanvasState, Colour, Entry, Frame, Grid, Iscl, Marks, Operation, Oracle, Outcome,
+    OverlayInput, Property, Refusal, Scene, SceneParts, Size, parse_chain, parse_record,
+    parse_steps, parse_tray, parse_untested, push_number, refusal, steps_text, tray_count,
+    untested_tray,
 };
 use std::cell::Cell;
 
@@ -180,29 +181,6 @@ pub fn fill(
     settle(oracle.fill_to_ycbcr(fill, depth as u8, colour))
 }
 
-/// What both scene calls are handed.
-#[derive(Clone, Copy, Debug)]
-pub struct SceneParts<'a> {
-    pub body: &'a [u8],
-    pub tray: &'a [u8],
-    pub chain: &'a [u8],
-    pub essential_only: bool,
-}
-
-/// What a scene call writes.
-#[derive(Clone, Debug, PartialEq, Eq)]
-pub struct Scene {
-    pub record: Vec<u8>,
-    /// The longest of the composed and step records: output and spare must have it.
-    pub room: usize,
-}
-
-impl AsRef<[u8]> for Scene {
-    fn as_ref(&self) -> &[u8] {
-        &self.record
-    }
-}
-
 /// The applied entries of a chain in turn. The whole is held against `apply_transforms`.
 fn run_chain(
     oracle: &dyn Oracle,
@@ -213,17 +191,10 @@ fn run_chain(
     let mut frame = composed.clone();
     let mut record = frame.record();
     let mut room = record.len();
-    for entry in chain
+    for operation in chain
         .iter()
-        .filter(|entry| entry.essential || !essential_only)
+        .filter_map(|entry| entry.applied(essential_only))
     {
-        let operation = match entry.property {
-            Property::Other => continue,
-            Property::Clap(clap) => Operation::Clap(clap),
-            Property::Irot(angle) => Operation::Irot(angle),
-            Property::Imir(axis) => Operation::Imir(axis),
-            Property::Iscl(fields) => Operation::Iscl(fields),
-        };
         frame = apply(oracle, &frame, &operation)?;
         record = frame.record();
         room = room.max(record.len());
@@ -263,12 +234,8 @@ fn alpha_above_top(frame: &Frame) -> bool {
 
 /// The overlay scene: 5 tray count, the chain's form, the body with its offsets, 15, 11, the
 /// records, 14 and 16 over all inputs, then the entries in turn.
-pub fn overlay_scene(
-    oracle: &dyn Oracle,
-    parts: &SceneParts,
-    premultiplied: &[u8],
-    colour: Option<Colour>,
-) -> Want<Scene> {
+pub fn overlay_scene(oracle: &dyn Oracle, parts: &SceneParts, marks: &Marks) -> Want<Scene> {
+    let premultiplied = marks.premultiplied;
     let count = tray_count(parts.tray)? as usize;
     let chain = parse_chain(parts.chain)?;
     let overlay = settle(oracle.parse_overlay(parts.body, count))?;
@@ -296,7 +263,7 @@ pub fn overlay_scene(
         return Err(Stop::Refused(refusal::ALPHA));
     }
     bearable(overlay.width, overlay.height)?;
-    let composed = settle(oracle.composite_overlay(&overlay, &inputs, colour))?;
+    let composed = settle(oracle.composite_overlay(&overlay, &inputs, marks.colour))?;
     run_chain(oracle, composed, &chain, parts.essential_only)
 }
 
@@ -316,8 +283,35 @@ pub struct Event {
     pub answer: Want<usize>,
     /// The lent buffer as far as it is written, once it is.
     pub buffer: Option<Vec<u8>>,
+    /// The state's ten numbers: rows, columns, width, height; the first tile's width, height,
+    /// chroma, depth and alpha; whether a tile had alpha.
+    pub numbers: [u64; 10],
     /// The marks of the cells.
     pub placed: Vec<bool>,
+}
+
+/// The ten numbers that a session's state begins with.
+fn state_numbers(grid: &Grid, state: &CanvasState) -> [u64; 10] {
+    let [rows, columns] = [grid.rows, grid.columns].map(u64::from);
+    let tile = state.tile.as_ref().map_or([0; 5], |tile| {
+        let [chroma, depth, alpha] = [tile.chroma as u8, tile.depth, tile.alpha].map(u32::from);
+        [tile.width, tile.height, chroma, depth, alpha]
+    });
+    let alpha = state.canvas.as_ref().map_or(0, |canvas| canvas.alpha);
+    let [width, height] = [grid.width, grid.height].map(u64::from);
+    let [tile_width, tile_height, chroma, depth, tile_alpha] = tile.map(u64::from);
+    [
+        rows,
+        columns,
+        width,
+        height,
+        tile_width,
+        tile_height,
+        chroma,
+        depth,
+        tile_alpha,
+        u64::from(alpha),
+    ]
 }
 
 /// Places a tile or a blank: 11 first (after 15 for a blank), then the record, then 12 to 14.
@@ -355,6 +349,7 @@ pub fn session(oracle: &dyn Oracle, grid: &Grid, calls: &[Call]) -> Vec<Event> {
         events.push(Event {
             answer,
             buffer: canvas_buffer(&state),
+            numbers: state_numbers(grid, &state),
             placed: state.placed,
         });
     }

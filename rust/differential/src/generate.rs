@@ -476,9 +476,10 @@ pub fn turn(rng: &mut Rng, most: u32) -> u8 {
     rng.number(0..=most) as u8
 }
 
-/// One entry for a picture of the given size, and the size after it, were it applied whole.
-fn entry(rng: &mut Rng, (width, height): (u32, u32)) -> (Entry, (u32, u32)) {
-    let (property, after) = match rng.below(6) {
+/// One entry for a picture of the given size, and the size after it, were it applied whole. Only
+/// where it `scales` it may be an iscl.
+fn entry(rng: &mut Rng, (width, height): (u32, u32), scales: bool) -> (Entry, (u32, u32)) {
+    let (property, after) = match rng.below(if scales { 6 } else { 5 }) {
         0 => (Property::Other, (width, height)),
         1 | 2 => {
             let clap = clap(rng, (width, height));
@@ -517,13 +518,18 @@ fn entry(rng: &mut Rng, (width, height): (u32, u32)) -> (Entry, (u32, u32)) {
     (Entry::new(essential, property), after)
 }
 
-/// A chain for a picture of the given size.
+/// A chain of 0 to 6 entries for a picture of the given size.
 pub fn chain(rng: &mut Rng, size: (u32, u32)) -> Vec<Entry> {
+    entries(rng, size, true)
+}
+
+/// The same; only where it `scales` it may have an iscl.
+pub fn entries(rng: &mut Rng, size: (u32, u32), scales: bool) -> Vec<Entry> {
     let mut size = size;
-    let count = rng.pick(&[0, 0, 1, 1, 2, 3, 4, 5]);
+    let count = rng.pick(&[0, 0, 1, 1, 2, 3, 4, 5, 6]);
     (0..count)
         .map(|_| {
-            let (made, after) = entry(rng, size);
+            let (made, after) = entry(rng, size, scales);
             size = after;
             made
         })

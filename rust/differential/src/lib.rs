@@ -10,3 +10,4 @@ pub mod ours;
 pub mod refusals;
 pub mod rng;
 mod shrink;
+pub mod store;

@@ -1,9 +1,11 @@
 //! The composer's side of the comparisons: its calls on plain types, and what they are held to.
 
-use crate::expected::{Call, Event, Scene, SceneParts};
+use crate::expected::{Call, Event, Stop};
 use compose::sys;
 use model::refusal::ROOM;
-use model::{Clap, Colour, Iscl, Layout, Operation, Place, Refusal, Size};
+use model::{
+    Clap, Colour, Iscl, Layout, Marks, Operation, Place, Refusal, Scene, SceneParts, Size,
+};
 use std::fmt::Debug;
 
 /// What a call answers, or the number it refuses with.
@@ -117,16 +119,41 @@ pub trait Composer: Sync {
     fn overlay_scene(
         &self,
         _: &SceneParts,
-        _premultiplied: &[u8],
-        _: Option<Colour>,
+        _: &Marks,
         _output: &mut [u8],
         _spare: &mut [u8],
     ) -> Option<Answer<usize>> {
         None
     }
 
-    /// What each call after a start with `_body` answers and leaves.
-    fn session(&self, _body: &[u8], _calls: &[Call]) -> Option<Vec<Event>> {
+    /// What a column and a row of a grid's final picture show, in ten words at the start of
+    /// `_words` ([`model::Point::words`]).
+    fn grid_point(&self, _: &SceneParts, _: Size, _words: &mut [u32]) -> Option<Answer<u64>> {
+        None
+    }
+
+    /// The same of an overlay's.
+    fn overlay_point(
+        &self,
+        _: &SceneParts,
+        _: &Marks,
+        _: Size,
+        _words: &mut [u32],
+    ) -> Option<Answer<u64>> {
+        None
+    }
+
+    fn canvas_start(&self, _body: &[u8], _state: &mut [u64]) -> Option<Answer<u64>> {
+        None
+    }
+
+    /// A session's call after its start; a finish answers the record's length.
+    fn canvas_call(
+        &self,
+        _: &Call,
+        _state: &mut [u64],
+        _buffer: &mut [u8],
+    ) -> Option<Answer<usize>> {
         None
     }
 }
@@ -255,6 +282,104 @@ impl Composer for Linked {
         let written = sys::compose_overlay(body, tray, premultiplied, some, matrix, range, output);
         answer(written.map(|length| length as usize))
     }
+
+    fn canvas_start(&self, body: &[u8], state: &mut [u64]) -> Option<Answer<u64>> {
+        answer(sys::compose_canvas_start(body, state))
+    }
+
+    fn canvas_call(
+        &self,
+        call: &Call,
+        state: &mut [u64],
+        buffer: &mut [u8],
+    ) -> Option<Answer<usize>> {
+        let answered = match *call {
+            Call::Place(index, record) => sys::compose_canvas_place(state, index, record, buffer),
+            Call::Blank(index) => sys::compose_canvas_blank(state, index, buffer),
+            Call::Finish => sys::compose_canvas_finish(state, buffer),
+        };
+        answer(answered.map(|length| length as usize))
+    }
+
+    fn grid_scene(
+        &self,
+        parts: &SceneParts,
+        output: &mut [u8],
+        spare: &mut [u8],
+    ) -> Option<Answer<usize>> {
+        let written = sys::compose_grid_scene(
+            parts.body,
+            parts.tray,
+            parts.chain,
+            u8::from(parts.essential_only),
+            output,
+            spare,
+        );
+        answer(written.map(|length| length as usize))
+    }
+
+    fn overlay_scene(
+        &self,
+        parts: &SceneParts,
+        marks: &Marks,
+        output: &mut [u8],
+        spare: &mut [u8],
+    ) -> Option<Answer<usize>> {
+        let (some, matrix, range) = colour_words(marks.colour);
+        let written = sys::compose_overlay_scene(
+            parts.body,
+            parts.tray,
+            parts.chain,
+            u8::from(parts.essential_only),
+            marks.premultiplied,
+            some,
+            matrix,
+            range,
+            output,
+            spare,
+        );
+        answer(written.map(|length| length as usize))
+    }
+
+    fn grid_point(
+        &self,
+        parts: &SceneParts,
+        (column, row): Size,
+        words: &mut [u32],
+    ) -> Option<Answer<u64>> {
+        answer(sys::compose_grid_point(
+            parts.body,
+            parts.tray,
+            parts.chain,
+            u8::from(parts.essential_only),
+            column,
+            row,
+            words,
+        ))
+    }
+
+    fn overlay_point(
+        &self,
+        parts: &SceneParts,
+        marks: &Marks,
+        (column, row): Size,
+        words: &mut [u32],
+    ) -> Option<Answer<u64>> {
+        let (some, matrix, range) = colour_words(marks.colour);
+        answer(sys::compose_overlay_point(
+            parts.body,
+            parts.tray,
+            parts.chain,
+            u8::from(parts.essential_only),
+            marks.premultiplied,
+            some,
+            matrix,
+            range,
+            column,
+            row,
+            words,
+        ))
+    }
 }
 
 /// A colour description as the calls take it: 0 where there is none, matrix, range.
@@ -348,32 +473,115 @@ pub fn fills<T: PartialEq + Clone + From<u8>, const N: usize>(
     fills_start(want.map_err(|number| *number), call)
 }
 
-/// How a scene call departs from `want`. Output and spare have more than they need, just that, or
-/// one of them a byte less: 17. What is past the record is zero, and so is the spare.
+/// How a scene call departs from `want`. Output and spare have more than they need, just that, one
+/// of them or both a byte less, or nothing: 17.
 pub fn composes(
     want: &Answer<Scene>,
     call: impl Fn(&mut [u8], &mut [u8]) -> Option<Answer<usize>>,
 ) -> Option<String> {
-    let room = want.as_ref().map_or(1, |scene| scene.room);
-    let pairs = [[3, 5], [0, 0], [-1, 0], [0, -1]];
+    let room = want.as_ref().map_or(1, |scene| scene.room) as isize;
+    let pairs = [[3, 5], [0, 0], [-1, 0], [0, -1], [-1, -1], [-room, 0]];
     pairs.into_iter().find_map(|more| {
-        let lengths = more.map(|more| room.saturating_add_signed(more));
-        let want = want.clone().and_then(|Scene { mut record, .. }| {
-            if lengths.iter().any(|length| *length < room) {
-                return Err(ROOM);
-            }
-            let written = record.len();
-            record.resize(lengths[0], 0);
-            Ok((written, [record, vec![0; lengths[1]]]))
-        });
+        let lengths = more.map(|more| (room + more) as usize);
+        let [output, spare] = lengths;
+        let want = want.clone().and_then(|scene| scene.lent(output, spare));
         lend(lengths, want, |[output, spare]| call(output, spare))
     })
 }
 
+/// The words of a session's state: ten numbers, then a bit for each of 65,536 cells.
+const STATE: usize = 1034;
+/// What stands in each word past the state.
+const PAST: u64 = 0x5a5a_5a5a_5a5a_5a5a;
+
+/// The state after an event, and three words past it.
+fn state_words(event: &Event) -> Vec<u64> {
+    let mut words = event.numbers.to_vec();
+    words.resize(STATE, 0);
+    for (cell, _) in event
+        .placed
+        .iter()
+        .enumerate()
+        .filter(|(_, placed)| **placed)
+    {
+        words[10 + cell / 64] |= 1 << (cell % 64);
+    }
+    words.extend([PAST; 3]);
+    words
+}
+
+/// How a session departs from `want`, what each of its calls answers and leaves: the call at which
+/// it does, and what it shows there. Each call is made before with a byte less of the buffer than
+/// the canvas takes, and with a word less of the state: 17, or the refusal that comes before it.
+/// The buffer is then three bytes longer than the canvas; nothing past either is written.
+pub fn places(
+    ours: &dyn Composer,
+    body: &[u8],
+    calls: &[Call],
+    want: &[Event],
+) -> Option<(usize, String)> {
+    let mut state = vec![PAST; STATE + 3];
+    for room in [0, STATE - 1] {
+        let short = ours.canvas_start(body, &mut state[..room])?;
+        if short != Err(ROOM) {
+            return Some((0, format!("a start with {room} words {short:?}")));
+        }
+    }
+    let started = ours.canvas_start(body, &mut state)?;
+    let first = want.first()?;
+    let mut before = Event {
+        answer: Ok(0),
+        buffer: None,
+        numbers: first.numbers,
+        placed: vec![false; first.placed.len()],
+    };
+    before.numbers[4..].fill(0);
+    if started != Ok(0) || state != state_words(&before) {
+        return Some((
+            0,
+            format!("the start {started:?}, words {:?}", &state[..12]),
+        ));
+    }
+    let needed = want
+        .iter()
+        .find_map(|event| Some(event.buffer.as_ref()?.len()));
+    let mut buffer = vec![BEFORE; needed.unwrap_or(0) + 3];
+    for (at, (call, event)) in calls.iter().zip(want).enumerate() {
+        let wanted = match event.answer {
+            Ok(length) => Ok(length),
+            Err(Stop::Refused(number)) => Err(number),
+            Err(_) => return None,
+        };
+        let (words, bytes) = (state.clone(), buffer.clone());
+        let unread = ours.canvas_call(call, &mut state[..STATE - 1], &mut buffer)?;
+        let short = match needed {
+            Some(needed) => ours.canvas_call(call, &mut state, &mut buffer[..needed - 1])?,
+            None => Err(ROOM),
+        };
+        if unread != Err(ROOM) || short != wanted.and(Err(ROOM)) && needed.is_some() {
+            return Some((at, format!("short of room {unread:?} and {short:?}")));
+        }
+        if state != words || buffer != bytes {
+            return Some((at, "short of room, and something is written".into()));
+        }
+        let answered = ours.canvas_call(call, &mut state, &mut buffer)?;
+        let mut expected = event.buffer.clone().unwrap_or_default();
+        expected.resize(buffer.len(), BEFORE);
+        let departs = answers(&wanted, Some(answered))
+            .or_else(|| (state != state_words(event)).then(|| "another state is left".into()))
+            .or_else(|| (buffer != expected).then(|| "another buffer is left".into()));
+        if let Some(shows) = departs {
+            return Some((at, shows));
+        }
+    }
+    None
+}
+
 #[cfg(test)]
 mod tests {
-    use super::{Answer, answers, composes, writes};
-    use crate::expected::Scene;
+    use super::{Answer, Composer, Linked, answers, composes, places, writes};
+    use crate::expected::{Call, Event, Stop};
+    use model::Scene;
 
     const RECORD: [u8; 3] = [1, 2, 3];
 
@@ -453,6 +661,65 @@ mod tests {
                 }
                 write(output)
             })
+        });
+    }
+
+    /// The library with faults in its session: a cell drawn again without its mark, a byte past the
+    /// canvas, 15 with all cells placed.
+    struct Faulty([bool; 3]);
+
+    impl Composer for Faulty {
+        fn canvas_start(&self, body: &[u8], state: &mut [u64]) -> Option<Answer<u64>> {
+            Linked.canvas_start(body, state)
+        }
+
+        fn canvas_call(
+            &self,
+            call: &Call,
+            state: &mut [u64],
+            buffer: &mut [u8],
+        ) -> Option<Answer<usize>> {
+            let [unmarked, past, missing] = self.0;
+            let answer = Linked.canvas_call(call, state, buffer)?;
+            match (call, answer) {
+                (Call::Place(1, _), Ok(_)) if unmarked => state[10] = 1,
+                (Call::Place(..), Ok(_)) if past => *buffer.last_mut()? = 0,
+                (Call::Finish, Ok(_)) if missing => return Some(Err(15)),
+                _ => {}
+            }
+            Some(answer)
+        }
+    }
+
+    #[test]
+    fn sessions_are_held() {
+        let record = [1, 1, 0, 8, 0, 1, 1, 7];
+        let calls = [
+            Call::Blank(0),
+            Call::Place(0, &record),
+            Call::Place(1, &record),
+            Call::Finish,
+        ];
+        let event = |answer: Result<usize, Stop>, placed: [bool; 2]| {
+            let tile = u64::from(placed[0]);
+            let samples = placed.map(|placed| 7 * u8::from(placed));
+            let record = [2, 1, 0, 8, 0, 2, 2, samples[0], samples[1], 2, 2, 255, 255];
+            Event {
+                answer,
+                buffer: placed[0].then(|| record.to_vec()),
+                numbers: [1, 2, 2, 1, tile, tile, 0, 8 * tile, 0, 0],
+                placed: placed.to_vec(),
+            }
+        };
+        let want = [
+            event(Err(Stop::Refused(15)), [false, false]),
+            event(Ok(0), [true, false]),
+            event(Ok(0), [true, true]),
+            event(Ok(9), [true, true]),
+        ];
+        each_call(|faults| {
+            let departs = places(&Faulty(faults), &[0, 0, 0, 1, 0, 2, 0, 1], &calls, &want);
+            departs.map(|(call, shows)| format!("call {call}: {shows}"))
         });
     }
 }

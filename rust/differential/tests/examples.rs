@@ -6,7 +6,7 @@ use common::{bytes, on_each_build};
 use differential::expected;
 use model::{
     Chroma, Clap, Colour, Entry, Frame, Grid, Iscl, Oracle, Outcome, Overlay, OverlayInput,
-    Property, Rectangle, chain_bytes, parse_record, tray_bytes,
+    Property, Rectangle, SceneParts, chain_bytes, parse_record, tray_bytes,
 };
 
 /// A picture that must come.
@@ -157,7 +157,7 @@ fn grid_example_composes_and_turns() {
     let turn = Entry::new(true, Property::Irot(1));
     on_each_build(|oracle| {
         let scene = |chain: &[Entry]| {
-            let parts = expected::SceneParts {
+            let parts = SceneParts {
                 body: &body,
                 tray: &tray,
                 chain: &chain_bytes(chain),

@@ -4,9 +4,10 @@
 mod common;
 
 use common::{bytes, on_each_build};
-use compose::props::{Clap, CropRect, Imir, Irot};
+use compose::props::{Clap, CropRect, Imir, Irot, Property, PropertyEntry};
 use compose::{
-    Chroma, HeifFrame, HeifPixelFormat, Plane, Refusal, apply_clap, apply_imir, apply_irot, crop,
+    Chroma, HeifFrame, HeifPixelFormat, Plane, Refusal, apply_clap, apply_imir, apply_irot,
+    apply_transforms, apply_transforms_owned, chain, crop,
 };
 use differential::expected::{Stop, settle};
 use differential::generate;
@@ -188,6 +189,38 @@ fn frames_that_no_record_holds_are_refused() {
 }
 
 /// A rectangle's aperture resolves to the rectangle.
+/// A chain on a frame: the whole of `apply_transforms`, and its limit, which is added.
+#[test]
+fn chains_are_oxideav_heifs() {
+    on_each_build(|oracle| {
+        let mut rng = Rng::new(12);
+        for _ in 0..2_000 {
+            let frame = generate::frame(&mut rng);
+            let chain = generate::chain(&mut rng, (frame.width, frame.height));
+            let entries = chain::entries(&model::chain_bytes(&chain)).expect("a chain");
+            for essential_only in [false, true] {
+                let theirs = || oracle.apply_transforms(&frame, &chain, essential_only);
+                let ours = apply_transforms(&heif(&frame), &entries, essential_only);
+                hold(ours, theirs(), "apply_transforms");
+                let ours = apply_transforms_owned(heif(&frame), &entries, essential_only);
+                hold(ours, theirs(), "apply_transforms_owned");
+            }
+        }
+    });
+    let frame = heif(&Frame::mono(1, 1, &[7]));
+    let other = PropertyEntry::new(1, false, Property::Other);
+    assert_eq!(
+        apply_transforms(&frame, &[other; 256], true),
+        Ok(frame.clone())
+    );
+    for essential_only in [false, true] {
+        let long = apply_transforms(&frame, &[other; 257], essential_only);
+        assert_eq!(long, Err(Refusal::LIMIT));
+        let long = apply_transforms_owned(frame.clone(), &[other; 257], essential_only);
+        assert_eq!(long, Err(Refusal::LIMIT));
+    }
+}
+
 #[test]
 fn apertures_for_rectangles() {
     let mut rng = Rng::new(16);

@@ -1,6 +1,6 @@
 //! Document 01 as plain Rust: house numbers, frame records, trays, chains and descriptor bodies, with
-//! the refusals of each; the operations on one record, fill colours, and the text of the steps
-//! program.
+//! the refusals of each; the operations on one record, fill colours, grids and overlays, scenes and
+//! points, and the text of the steps program.
 //! All of it is written from the paper and shares nothing with the composer or with the published
 //! Rust, so that both can be held against it.
 //!
@@ -9,17 +9,21 @@
 //! crate, so a comparison can use either.
 
 mod chain;
+mod composite;
 mod derived;
 mod fill;
 mod number;
 mod operation;
 mod oracle;
 mod outcome;
+mod point;
 mod record;
 pub mod refusal;
+mod scene;
 mod steps;
 
 pub use chain::{Clap, Entry, Iscl, MAX_ENTRIES, Property, chain_bytes, parse_chain};
+pub use composite::{composite_grid, composite_overlay};
 pub use derived::{parse_grid, parse_overlay};
 pub use fill::fill_samples;
 pub use number::{Reader, number_bytes, push_number};
@@ -28,9 +32,11 @@ pub use oracle::{
     Canvas, CanvasState, Colour, Grid, Oracle, Overlay, OverlayInput, Rectangle, TileForm, Work,
 };
 pub use outcome::{Outcome, attempt};
+pub use point::{Named, Point, Sight, Sighted};
 pub use record::{
     Chroma, Frame, Layout, Place, Plane, parse_record, parse_tray, parse_untested, tray_bytes,
     tray_count, untested_tray,
 };
 pub use refusal::Refusal;
+pub use scene::{Marks, Scene, SceneParts, grid_scene, overlay_scene};
 pub use steps::{Size, parse_steps, steps_text};

@@ -41,7 +41,7 @@ impl Operation {
 const MAX_SCALED_SIDE: u32 = 1 << 26;
 
 /// The tight frame of a form, each sample worked out from its plane, column and row.
-fn tabulate(mut form: Frame, sample: impl Fn(&Frame, usize, u32, u32) -> u16) -> Frame {
+pub(crate) fn tabulate(mut form: Frame, sample: impl Fn(&Frame, usize, u32, u32) -> u16) -> Frame {
     let (size, chroma) = ((form.width, form.height), form.chroma);
     form.planes.clear();
     let planes: Vec<Vec<u16>> = (0..form.plane_count())
@@ -79,7 +79,7 @@ fn drawn(
 }
 
 /// Whether an odd number falls on a halved axis.
-fn promotes(frame: &Frame, across: &[u32], down: &[u32]) -> bool {
+pub(crate) fn promotes(frame: &Frame, across: &[u32], down: &[u32]) -> bool {
     let odd = |numbers: &[u32]| numbers.iter().any(|number| number % 2 == 1);
     let halved = frame.chroma.halved();
     halved.0 && odd(across) || halved.1 && odd(down)

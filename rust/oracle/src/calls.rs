@@ -198,6 +198,16 @@ impl Oracle for Published {
                 let (grid, tiles) = (descriptor(&grid), all_published(&tiles));
                 made(move || compose::composite_grid(&grid, &tiles))
             }
+            Work::Session(grid, tiles) => {
+                let (grid, tiles) = (descriptor(&grid), all_published(&tiles));
+                made(move || {
+                    let mut canvas = compose::GridCanvas::new(&grid);
+                    for (index, tile) in tiles.iter().enumerate().rev() {
+                        canvas.place(index, tile)?;
+                    }
+                    canvas.finish()
+                })
+            }
             Work::Overlay(overlay, inputs, colour) => {
                 let (overlay, colour) = (overlay_descriptor(&overlay), nclx(colour));
                 let frames = overlay_frames(&inputs);

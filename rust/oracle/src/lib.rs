@@ -19,6 +19,21 @@ mod stubs;
 #[cfg(source_present)]
 use stubs::{avcc, file, hvcc, meta, pixel_transform, vvcc};
 
+/// Items that name the published Rust's own modules (`oracle::compose`, `oracle::image` and so on):
+/// they are there where it is, and else left out.
+#[cfg(source_present)]
+#[macro_export]
+macro_rules! where_present {
+    ($($item:item)*) => { $($item)* };
+}
+
+/// Items that name the published Rust's own modules: left out, as it is absent.
+#[cfg(not(source_present))]
+#[macro_export]
+macro_rules! where_present {
+    ($($item:item)*) => {};
+}
+
 /// Whether the published Rust was there when this crate was built.
 pub const PRESENT: bool = cfg!(source_present);
 

@@ -22,11 +22,16 @@ impl Description {
 
     /// The options `--matrix N` and `--studio`.
     pub fn take(words: &mut Words) -> Result<Self, Failure> {
+        Ok(Self::given(words)?.unwrap_or(Self::DEFAULT))
+    }
+
+    /// The same options; none where neither is given.
+    pub fn given(words: &mut Words) -> Result<Option<Self>, Failure> {
         let matrix = words.number_option("--matrix")?;
-        Ok(Self {
-            matrix: matrix.unwrap_or(Self::DEFAULT.matrix),
-            studio: words.flag("--studio"),
-        })
+        let studio = words.flag("--studio");
+        let given = matrix.is_some() || studio;
+        let matrix = matrix.unwrap_or(Self::DEFAULT.matrix);
+        Ok(given.then_some(Self { matrix, studio }))
     }
 
     pub fn colr(self) -> Colr {

@@ -1,6 +1,6 @@
 //! What descriptor bodies hold.
 
-use super::files::{read, say};
+use super::files::{read, say, write};
 use super::words::Words;
 use super::{Command, Failure};
 use compose::{GridDescriptor, OverlayDescriptor};
@@ -17,6 +17,55 @@ its fill and a line an input: its index and how far right of and below the canva
 ",
     run,
 };
+
+pub const BODY: Command = Command {
+    name: "body",
+    takes: "grid|overlay FIELD.. OUT",
+    about: "a descriptor body",
+    more: "\
+Writes the body of a grid, from rows and columns of tiles and the size of its canvas:
+  compose body grid ROWS COLUMNS WIDTH HEIGHT OUT
+or of an overlay, from the size of its canvas, its fill (from 0 to 65535; an ALPHA of 65535 is
+opaque), and how far right of and below the canvas's corner each input goes:
+  compose body overlay WIDTH HEIGHT RED GREEN BLUE ALPHA OUT [RIGHT BELOW]..
+",
+    run: run_body,
+};
+
+fn run_body(words: &mut Words) -> Result<(), Failure> {
+    let sort = words.next("grid or overlay")?;
+    let (out, body) = match sort.as_str() {
+        "grid" => {
+            let [rows, columns] = words.numbers(["ROWS", "COLUMNS"])?;
+            let [width, height] = words.numbers(["WIDTH", "HEIGHT"])?;
+            let out = words.next("OUT")?;
+            words.end()?;
+            if ![rows, columns]
+                .iter()
+                .all(|tiles| (1..=256).contains(tiles))
+            {
+                return Err(words.wrong("ROWS and COLUMNS go from 1 to 256".into()));
+            }
+            let body = GridDescriptor::new(rows, columns, width, height).to_bytes();
+            (out, GridDescriptor::parse(&body).map(|_| body))
+        }
+        "overlay" => {
+            let [width, height] = words.numbers(["WIDTH", "HEIGHT"])?;
+            let fill = words.numbers(["RED", "GREEN", "BLUE", "ALPHA"])?;
+            let out = words.next("OUT")?;
+            let mut offsets = Vec::new();
+            while !words.is_empty() {
+                offsets.push((words.number("RIGHT")?, words.number("BELOW")?));
+            }
+            let count = offsets.len();
+            let body = OverlayDescriptor::new(fill, width, height, offsets).to_bytes();
+            (out, OverlayDescriptor::parse(&body, count).map(|_| body))
+        }
+        _ => return Err(words.wrong(format!("it takes grid or overlay, not {sort}"))),
+    };
+    let body = body.map_err(|refusal| words.refused(refusal))?;
+    write(&out, &body, &format!("{sort} body"))
+}
 
 fn run(words: &mut Words) -> Result<(), Failure> {
     let sort = words.next("grid or overlay")?;

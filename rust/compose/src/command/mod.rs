@@ -1,6 +1,7 @@
 //! The commands by name, what they take, and how they end.
 
 mod colour;
+mod composing;
 mod demo;
 mod descriptor;
 mod files;
@@ -48,7 +49,13 @@ const FAMILIES: &[Family] = &[
     },
     Family {
         title: "Make",
-        commands: &[records::EXAMPLE, records::PACK, fill::FILL],
+        commands: &[
+            records::EXAMPLE,
+            records::PACK,
+            descriptor::BODY,
+            properties::ENTRIES,
+            fill::FILL,
+        ],
     },
     Family {
         title: "Work out sizes",
@@ -61,6 +68,19 @@ const FAMILIES: &[Family] = &[
             operation::CLAP,
             operation::IROT,
             operation::IMIR,
+            operation::ISCL,
+            operation::NEAREST,
+            operation::DEPTH,
+            operation::ATTACH,
+        ],
+    },
+    Family {
+        title: "Compose several",
+        commands: &[
+            composing::GRID,
+            composing::OVERLAY,
+            composing::SCENE,
+            composing::POINT,
         ],
     },
 ];

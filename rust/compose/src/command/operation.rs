@@ -3,7 +3,10 @@
 use super::files::{about, read, write};
 use super::words::Words;
 use super::{Command, Failure};
-use compose::operation::{clap, crop, imir, irot};
+use compose::operation::{
+    attach_alpha, clap, crop, imir, irot, iscl, rescale_depth, resize_nearest,
+};
+use compose::props::Iscl;
 use compose::{HeifFrame, Result as Answer};
 
 pub const CROP: Command = Command {
@@ -45,6 +48,45 @@ pub const IMIR: Command = Command {
     run: run_imir,
 };
 
+pub const ISCL: Command = Command {
+    name: "iscl",
+    takes: "RECORD WN WD HN HD OUT",
+    about: "scaled by two fractions",
+    more: "\
+The width becomes WN/WD of what it is, the height HN/HD, both rounded up; samples are means of what
+they cover. The four numbers go from 1 to 65535.
+  compose iscl slope.rec 1 2 1 2 small.rec
+",
+    run: run_iscl,
+};
+
+pub const NEAREST: Command = Command {
+    name: "nearest",
+    takes: "RECORD WIDTH HEIGHT OUT",
+    about: "at another size, by nearest samples",
+    more: "  compose nearest slope.rec 96 64 large.rec\n",
+    run: run_nearest,
+};
+
+pub const DEPTH: Command = Command {
+    name: "depth",
+    takes: "RECORD DEPTH OUT",
+    about: "at another depth",
+    more: "DEPTH goes from 8 to 16; each sample keeps its part of the largest one.\n",
+    run: run_depth,
+};
+
+pub const ATTACH: Command = Command {
+    name: "attach",
+    takes: "RECORD ALPHA OUT",
+    about: "with another record as its alpha",
+    more: "\
+The luma of the record ALPHA becomes the alpha plane, brought to the size and the depth of RECORD. An
+alpha plane that RECORD had is dropped.
+",
+    run: run_attach,
+};
+
 /// The last word, then one operation from a record to it.
 fn apply(
     words: &mut Words,
@@ -54,10 +96,15 @@ fn apply(
     let out = words.next("OUT")?;
     words.end()?;
     let record = read(file)?;
+    keep(words, &out, operation(&record))
+}
+
+/// Writes the record that a call made.
+pub fn keep(words: &Words, out: &str, made: Answer<Vec<u8>>) -> Result<(), Failure> {
     let refused = |refusal| words.refused(refusal);
-    let made = operation(&record).map_err(refused)?;
+    let made = made.map_err(refused)?;
     let frame = HeifFrame::from_record(&made).map_err(refused)?;
-    write(&out, &made, &about(&frame))
+    write(out, &made, &about(&frame))
 }
 
 fn run_crop(words: &mut Words) -> Result<(), Failure> {
@@ -82,4 +129,32 @@ fn run_imir(words: &mut Words) -> Result<(), Failure> {
     let file = words.next("RECORD")?;
     let axis = words.number("AXIS")?;
     apply(words, &file, |record| imir(record, axis))
+}
+
+fn run_iscl(words: &mut Words) -> Result<(), Failure> {
+    let file = words.next("RECORD")?;
+    let [width_num, width_den, height_num, height_den] = words.numbers(["WN", "WD", "HN", "HD"])?;
+    let scale = Iscl::new(width_num, width_den, height_num, height_den);
+    apply(words, &file, |record| iscl(record, &scale))
+}
+
+fn run_nearest(words: &mut Words) -> Result<(), Failure> {
+    let file = words.next("RECORD")?;
+    let [width, height] = words.numbers(["WIDTH", "HEIGHT"])?;
+    apply(words, &file, |record| resize_nearest(record, width, height))
+}
+
+fn run_depth(words: &mut Words) -> Result<(), Failure> {
+    let file = words.next("RECORD")?;
+    let depth = words.number("DEPTH")?;
+    apply(words, &file, |record| rescale_depth(record, depth))
+}
+
+fn run_attach(words: &mut Words) -> Result<(), Failure> {
+    let file = words.next("RECORD")?;
+    let alpha = words.next("ALPHA")?;
+    let out = words.next("OUT")?;
+    words.end()?;
+    let (record, alpha) = (read(&file)?, read(&alpha)?);
+    keep(words, &out, attach_alpha(&record, &alpha))
 }

@@ -1,9 +1,9 @@
 //! Chains, and the sizes that properties give.
 
-use super::files::{read, say};
+use super::files::{read, say, write};
 use super::words::Words;
 use super::{Command, Failure};
-use compose::props::{Clap, Iscl, Property, PropertyEntry};
+use compose::props::{Clap, Imir, Irot, Iscl, Property, PropertyEntry};
 use compose::{chain, steps};
 
 pub const CHAIN: Command = Command {
@@ -17,6 +17,42 @@ Prints how many entries there are, then a line an entry: its index, its property
 ",
     run: run_chain,
 };
+
+pub const ENTRIES: Command = Command {
+    name: "entries",
+    takes: "OUT [PROPERTY FIELD..]..",
+    about: "a chain of properties",
+    more: "\
+Writes the chain of these properties, in this order; of none, too. A property is one of
+  clap WN WD HN HD XN XD YN YD   irot ANGLE   imir AXIS   iscl WN WD HN HD   other
+and one with a ! behind its name is essential.
+  compose entries turn.chain irot! 1 clap 24 1 16 1 0 1 -2 1
+",
+    run: run_entries,
+};
+
+fn run_entries(words: &mut Words) -> Result<(), Failure> {
+    let out = words.next("OUT")?;
+    let mut entries = Vec::new();
+    while !words.is_empty() {
+        let word = words.next("PROPERTY")?;
+        let name = word.trim_end_matches('!');
+        let property = match name {
+            "clap" => Property::Clap(words.clap()?),
+            "irot" => Property::Irot(Irot::new(words.number("ANGLE")?)),
+            "imir" => Property::Imir(Imir::new(words.number("AXIS")?)),
+            "iscl" => {
+                let [wn, wd, hn, hd] = words.numbers(["WN", "WD", "HN", "HD"])?;
+                Property::Iscl(Iscl::new(wn, wd, hn, hd))
+            }
+            "other" => Property::Other,
+            _ => return Err(words.wrong(format!("{word} is no property"))),
+        };
+        entries.push(PropertyEntry::new(0, name != word, property));
+    }
+    let chain = chain::join(&entries).map_err(|refusal| words.refused(refusal))?;
+    write(&out, &chain, &format!("{} entries", entries.len()))
+}
 
 pub const RESOLVE: Command = Command {
     name: "resolve",

@@ -63,6 +63,20 @@ impl Words {
         next.ok_or_else(|| self.wrong(format!("{what} is missing")))
     }
 
+    /// The next words, one for each name.
+    pub fn files<const N: usize>(&mut self, names: [&str; N]) -> Result<[String; N], Failure> {
+        let mut files = Vec::new();
+        for name in names {
+            files.push(self.next(name)?);
+        }
+        Ok(files.try_into().expect("a word for each name"))
+    }
+
+    /// Whether no word is left.
+    pub fn is_empty(&self) -> bool {
+        self.rest.is_empty()
+    }
+
     fn parse<T: Number>(&self, what: &str, word: &str) -> Result<T, Failure> {
         word.parse().map_err(|_| {
             let (least, most) = (T::LEAST, T::MOST);

@@ -1,0 +1,54 @@
+use mathlib.Core.Path.{_∙_, ap, sym}
+use lib.ListN.{length}
+use borrow.Author.Needs.{needs}
+use denote.Ref.{now}
+use Rattle.session.specs.declared.state.Canvas.{Canvas}
+use Rattle.session.specs.Session.{finishOf}
+use Rattle.capi.proofs.CanvasLaws.{length-code, state-read, state-short}
+use Rattle.capi.proofs.canvas.compose_canvas_finish.Statement.{statement}
+use Rattle.capi.specs.Canvas.{finishRun}
+use Rattle.capi.specs.Code.{answerCode, codeOf}
+use Rattle.capi.proofs.canvas.compose_canvas_finish.Tie as tie
+use Rattle.capi.proofs.canvas.compose_canvas_finish.Reads as reads
+use Rattle.capi.proofs.canvas.compose_canvas_finish.Lts as lts
+use Rattle.capi.proofs.canvas.canvas_of.Reads as canvas-of-reads
+use Rattle.capi.proofs.code.answer_code.Reads as answer-code-reads
+use Rattle.capi.proofs.code.refusal_code.Reads as refusal-code-reads
+use Rattle.session.proofs.state.Canvas.finish.Reads as finish-reads
+
+-- src/canvas.rt:187:9
+refusal-code-requires : tie.Need-refusal-code-requires
+refusal-code-requires c κs = search needs
+
+-- src/canvas.rt:187:9
+returns : tie.Need-returns
+unfolding finishRun codeOf
+returns c = c .refusal-code .ensures ∙ sym (ap codeOf (state-short _ _ (c .before .if1 .taken)))
+
+-- src/canvas.rt:189:9
+canvas-of-requires : tie.Need-canvas-of-requires
+canvas-of-requires c κs = search needs
+
+-- src/canvas.rt:190:17
+finish-requires : tie.Need-finish-requires
+finish-requires c κs = search needs
+
+-- src/canvas.rt:190:5
+answer-code-requires : tie.Need-answer-code-requires
+answer-code-requires c κs = search needs
+
+-- src/canvas.rt:182:1
+returns-2 : tie.Need-returns-2
+unfolding finishRun
+returns-2 c = c .answer-code .ensures ∙ ap answerCode (c .before .finish .ensures) ∙ length-code _ ∙ ap (λ (s : Canvas). codeOf (finishOf s (length (now (c .before .before .before .before .before .before .args .buffer))))) (c .before .before .canvas-of .ensures) ∙ ap codeOf (sym (state-read _ _ (c .before .before .before .if1 .left)))
+
+pub compose-canvas-finish-spec : {M : Type 1} → statement M
+compose-canvas-finish-spec =
+    tie.close
+    (tie.spec
+    refusal-code-requires
+    returns
+    canvas-of-requires
+    finish-requires
+    answer-code-requires
+    returns-2)

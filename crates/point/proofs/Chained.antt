@@ -1,0 +1,213 @@
+-- A chain on a composed picture and the point run on its size: they agree, for any naming of places that the picture reads by.
+-- Assumes nothing.
+use mathlib.Core.Bool.{Bool, true}
+use mathlib.Core.List.{List, [], _∷_}
+use mathlib.Core.Path.{_∙_, _≡_, ap, refl, sym}
+use Prim.Native.Nat.{_<_, _≤_, ℕ}
+use lib.ListN.{length}
+use borrow.Author.Tests.{le-ltb, leb-false}
+use Rattle.laws.proofs.Out.{Holds, Same, alike, andThen-done, both, done-same, not-done, refuse-done, refuse-no}
+use Rattle.laws.specs.Out.{Out, andThen, done, refused}
+use Rattle.image.proofs.FormLaws.{cover-in}
+use Rattle.image.proofs.RoundTrip.{Agree}
+use Rattle.image.specs.Bytes.{decode, encode, tightAt}
+use Rattle.image.specs.Format.{columnsOf, halfX, halfY, hasPart, rowsOf}
+use Rattle.image.specs.Picture.{Even, Pic, pixel}
+use Rattle.image.specs.Record.{recordOf}
+use Rattle.image.specs.declared.format.Form.{Form}
+use Rattle.image.specs.declared.format.Part.{Part}
+use Rattle.image.specs.declared.format.PixelFormat.{PixelFormat}
+use Rattle.props.proofs.ChainLaws.{Applied, fold-same}
+use Rattle.scene.specs.Chain.{Drawn, begun, chainDrawn, drawnAfter, longer, scaled}
+use Rattle.props.specs.declared.entry.Property.{Property}
+use Rattle.props.specs.declared.entry.PropertyEntry.{PropertyEntry}
+use Rattle.transform.specs.Place.{Place}
+use Rattle.sight.proofs.Agreement.{chain-sight-plain, seen-place}
+use Rattle.sight.proofs.Turns.{back-in, back-once}
+use Rattle.sight.specs.Chain.{NotIscl, chainPic, picAfter}
+use Rattle.sight.specs.Seen.{Covers, PlaceAgrees, Seen}
+use Rattle.sight.specs.Sight.{back, finalHeight, finalWidth, placeOf, sightOf}
+use Rattle.sight.specs.declared.Sight.{Sight}
+use Rattle.scene.specs.Scene.{roomFor}
+use Rattle.point.specs.Demand.{Agreement, Pictured, Room, Shown, inside, outside}
+use Rattle.point.specs.Point.{pointOn}
+use Rattle.point.specs.declared.Named.{Named}
+use Rattle.point.specs.declared.Point.{Point}
+use Rattle.point.specs.declared.Spot.{Spot}
+
+-- ---- the pictures that a run draws are those of the chain
+
+unfoldable Carries : Drawn → Pic → Type 0
+Carries d Q = d .pic ≡ Q
+
+carried : (o : Out Pic) (n : ℕ) → Same Carries (andThen o (λ Q. done (record { pic = Q; longest = longer n (length (encode Q)) }))) o
+unfolding andThen Carries
+carried (refused r) n = alike
+carried (done Q) n = both refl
+
+drawn-after : (p : Property) (d : Drawn) (Q : Pic) → Unit {0} → Carries d Q → Same Carries (drawnAfter p d) (picAfter scaled p Q)
+unfolding drawnAfter Carries
+drawn-after p d Q k e = rw (← e) (carried (picAfter scaled p (d .pic)) (d .longest))
+
+all-applied : (flag : Bool) (es : List PropertyEntry) → Applied (λ p. Unit {0}) flag es
+unfolding Applied
+all-applied flag [] = tt
+all-applied flag (e ∷ es) = (λ h. tt, all-applied flag es)
+
+drawn-chain : (es : List PropertyEntry) (flag : Bool) (P : Pic) → Same Carries (chainDrawn es flag P) (chainPic scaled es flag P)
+unfolding chainDrawn chainPic begun Carries
+drawn-chain es flag P = fold-same Carries (λ p. Unit {0}) drawnAfter (picAfter scaled) drawn-after flag es (all-applied flag es) _ P refl
+
+-- ---- two runs that answer alike
+
+same-then : {A B C : Type 0} (R : A → B → Type 0) (S : B → C → Type 0) (T : A → C → Type 0) (o : Out A) (u : Out B) (v : Out C) → ((a : A) (b : B) (c : C) → R a b → S b c → T a c) → Same R o u → Same S u v → Same T o v
+same-then R S T o u v f alike alike = alike
+same-then R S T o u v f (both {a = a} {b = b} r) (both {b = c} s) = both (f a b c r s)
+
+same-holds : {A B : Type 0} (H : A → Type 0) (R : A → B → Type 0) (o : Out A) (u : Out B) → Holds H o → Same R o u → Same (λ a b. H a × R a b) o u
+unfolding Holds
+same-holds H R o u h alike = alike
+same-holds H R o u h (both {a = a} {b = b} r) = both (h, r)
+
+same-right : {A B : Type 0} (R : A → B → Type 0) (o : Out A) (u : Out B) (b : B) → Same R o u → u ≡ done b → (a : A) × R a b
+same-right R o u b alike e = not-done _ b e
+same-right R o u b (both {a = a} {b = c} r) e = (a, rw (done-same c b e) at r)
+
+-- ---- the record that a run writes
+
+-- it is a record, and shows the picture
+abbrev pub ReadsBack : Pic → Type 0
+ReadsBack Q = (recordOf (encode Q) ≡ done (tightAt (Q .form) 0)) × Agree (decode (encode Q) (tightAt (Q .form) 0)) Q
+
+pictured : (Q : Pic) → ReadsBack Q → (M : Pic → Type 0) → ((D : Pic) → Agree D Q → M D) → Pictured (encode Q) M
+pictured Q k M f = record { frame = tightAt (Q .form) 0; taken = k .0; holds = f _ (k .1) }
+
+covers-as : (f g : PixelFormat) (p : Part) (cx cy x y : ℕ) → f ≡ g → Covers f p cx cy x y → Covers g p cx cy x y
+covers-as f g p cx cy x y e k = rw e at k
+
+covered-column : (m : Form) (p : Part) (cx cy x y : ℕ) → x < m .width → Covers (m .format) p cx cy x y → cx < columnsOf m p
+unfolding columnsOf
+covered-column m p cx cy x y l k = rw (← (k .across)) (cover-in (halfX (m .format) p) x (m .width) l)
+
+covered-row : (m : Form) (p : Part) (cx cy x y : ℕ) → y < m .height → Covers (m .format) p cx cy x y → cy < rowsOf m p
+unfolding rowsOf
+covered-row m p cx cy x y l k = rw (← (k .down)) (cover-in (halfY (m .format) p) y (m .height) l)
+
+-- what a picture shows, its record shows
+shown-agree : (reads : Named → Part → ℕ) (D Q : Pic) (a : Point) (x y : ℕ) → Agree D Q → Shown reads Q a x y → Shown reads D a x y
+shown-agree reads D Q a x y e k =
+    record {
+      width = ap (λ (m : Form). m .width) (e .form) ∙ k .width;
+      height = ap (λ (m : Form). m .height) (e .form) ∙ k .height;
+      across = across;
+      down = down;
+      samples = λ p h cx cy c.
+          e .reads p h cx cy (covered-column (D .form) p cx cy x y across c) (covered-row (D .form) p cx cy x y down c)
+          ∙ k .samples p (ap (λ (m : Form). hasPart (m .format) p) (sym (e .form)) ∙ h) cx cy (covers-as _ _ p cx cy x y (ap (λ (m : Form). m .format) (e .form)) c);
+    }
+  where
+    across : x < D .form .width
+    across = rw (e .form) (k .across)
+
+    down : y < D .form .height
+    down = rw (e .form) (k .down)
+
+-- ---- one place
+
+module _ (reads : Named → Part → ℕ) (P : Pic) (names : Place → Named)
+    (there : (p : Part) → hasPart (P .form .format) p ≡ true → (l : Place) → l .x < P .form .width → l .y < P .form .height → pixel P p (l .x) (l .y) ≡ reads (names l) p)
+    (x y : ℕ) where
+  -- what is answered at a place of the composed picture
+  abbrev answer : Sight → Place → Out Point
+  answer s l = done (record { named = names l; sight = s })
+
+  at-place : (Q : Pic) (s : Sight) → ReadsBack Q → Seen P Q s → (o : Out Place) → PlaceAgrees P Q x y o → Agreement reads x y (done (encode Q)) (andThen o (answer s))
+  unfolding PlaceAgrees andThen
+  at-place Q s h v (refused r) k = rw (k .0) (outside (pictured Q h _ (λ D e. not-in D e (k .1))))
+    where
+      not-in : (D : Pic) → Agree D Q → (x < Q .form .width → y < Q .form .height → ⊥) → x < D .form .width → y < D .form .height → ⊥
+      not-in D e f = rw (e .form) f
+  at-place Q s h v (done l) k =
+      inside
+      (pictured Q h _
+      (λ D e. shown-agree reads D Q _ x y e
+      (record {
+        width = v .width;
+        height = v .height;
+        across = k .across;
+        down = k .down;
+        samples = λ p o cx cy c. k .samples p o cx cy c ∙ there p (sym (v .parts p) ∙ o) l (k .column) (k .row);
+      })))
+
+  -- there is room
+  room-is : (d : Drawn) (output spare : ℕ) → d .longest ≤ output → d .longest ≤ spare → roomFor output spare d ≡ done (encode (d .pic))
+  unfolding roomFor
+  room-is d output spare l m = refuse-no _ _ (le-ltb output (d .longest) l) ∙ refuse-no _ _ (le-ltb spare (d .longest) m)
+
+  agreement-as : {o o′ : Out (List ℕ)} {u : Out Point} → o ≡ o′ → Agreement reads x y o u → Agreement reads x y o′ u
+  agreement-as e k = rw (← e) k
+
+  at-sight : (o : Out Drawn) (u : Out Sight) → Same (λ (d : Drawn) (s : Sight). ReadsBack (d .pic) × Seen P (d .pic) s) o u → (output spare : ℕ) → Room o output spare
+      → Agreement reads x y (andThen o (roomFor output spare)) (andThen u (λ s. andThen (placeOf s x y) (answer s)))
+  unfolding andThen Room
+  at-sight o u alike output spare m = Agreement.alike
+  at-sight o u (both {a = d} {b = s} k) output spare m =
+      agreement-as (sym (room-is d output spare (m d refl .0) (m d refl .1))) (at-place (d .pic) s (k .0) (k .1) (placeOf s x y) (seen-place P (d .pic) s (k .1) x y))
+
+-- ---- whole chains
+
+module _ (P : Pic) (even : Even (P .form)) (wide : 1 ≤ P .form .width) (tall : 1 ≤ P .form .height) (es : List PropertyEntry) (flag : Bool) (plain : Applied NotIscl flag es) (names : Place → Named) where
+  abbrev pointed : ℕ → ℕ → Out Point
+  pointed x y = pointOn es flag (P .form .width) (P .form .height) x y names
+
+  seen : Same (Seen P) (chainPic scaled es flag P) (sightOf es flag (P .form .width) (P .form .height))
+  seen = chain-sight-plain P scaled flag es even wide tall plain
+
+  drawn-seen : Same (λ (d : Drawn) (s : Sight). Seen P (d .pic) s) (chainDrawn es flag P) (sightOf es flag (P .form .width) (P .form .height))
+  unfolding Carries
+  drawn-seen = same-then Carries (Seen P) _ _ _ _ (λ d Q s e v. rw e v) (drawn-chain es flag P) seen
+
+  -- the picture run and the point run agree at every place
+  pub chain-agrees : (reads : Named → Part → ℕ)
+      → ((p : Part) → hasPart (P .form .format) p ≡ true → (l : Place) → l .x < P .form .width → l .y < P .form .height → pixel P p (l .x) (l .y) ≡ reads (names l) p)
+      → Holds (λ (d : Drawn). ReadsBack (d .pic)) (chainDrawn es flag P) → (x y output spare : ℕ) → Room (chainDrawn es flag P) output spare
+      → Agreement reads x y (andThen (chainDrawn es flag P) (roomFor output spare)) (pointed x y)
+  unfolding pointOn
+  chain-agrees reads there kept x y output spare m = at-sight reads P names there x y _ _ (same-holds _ _ _ _ kept drawn-seen) output spare m
+
+  -- a point run that answers: the place that it names
+  record Answered (x y : ℕ) (a : Point) : Type 0 where
+    sight : Sight
+    sighted : sightOf es flag (P .form .width) (P .form .height) ≡ done sight
+    across : x < finalWidth sight
+    down : y < finalHeight sight
+    column : back sight x y .x < P .form .width
+    row : back sight x y .y < P .form .height
+    named : names (back sight x y) ≡ a .named
+
+  answered : (x y : ℕ) (a : Point) → pointed x y ≡ done a → Answered x y a
+  unfolding pointOn placeOf
+  answered x y a e =
+      let i = andThen-done _ _ a e in
+      let j = andThen-done _ _ a (i .2) in
+      let f = refuse-done _ _ _ _ (j .1) in
+      let g = refuse-done _ _ _ _ (f .1) in
+      let k = same-right (Seen P) _ _ (i .0) seen (i .1) in
+      let across : x < finalWidth (i .0) = leb-false _ _ (f .0) in
+      let down : y < finalHeight (i .0) = leb-false _ _ (g .0) in
+      let q : back (i .0) x y ≡ j .0 = done-same _ _ (g .1) in
+      let b = back-in (i .0) _ _ (k .1 .inside) x y across down in
+      record { sight = i .0; sighted = i .1; across = across; down = down; column = b .0; row = b .1; named = ap names q ∙ ap (λ (z : Point). z .named) (done-same _ a (j .2)) }
+
+  -- no two places name one spot, if no two places of the composed picture do
+  pub chain-once : ((l m : Place) (k : Spot) → l .x < P .form .width → l .y < P .form .height → m .x < P .form .width → m .y < P .form .height → names l ≡ Named.Spot k → names m ≡ Named.Spot k → l ≡ m)
+      → (x y u v : ℕ) (a b : Point) (k : Spot) → pointed x y ≡ done a → pointed u v ≡ done b → a .named ≡ Named.Spot k → b .named ≡ Named.Spot k → (x ≡ u) × (y ≡ v)
+  chain-once apart x y u v a b k p q e f = go (answered x y a p) (answered u v b q)
+    where
+      on : (i : Answered x y a) (j : Answered u v b) → i .sight ≡ j .sight → (x ≡ u) × (y ≡ v)
+      on i j s =
+          back-once (i .sight) x y u v (i .across) (i .down) (rw s (j .across)) (rw s (j .down))
+          (apart (back (i .sight) x y) (back (i .sight) u v) k (i .column) (i .row) (rw s (j .column)) (rw s (j .row)) (i .named ∙ e) (rw s (j .named) ∙ f))
+
+      go : (i : Answered x y a) (j : Answered u v b) → (x ≡ u) × (y ≡ v)
+      go i j = on i j (done-same _ _ (sym (i .sighted) ∙ j .sighted))

@@ -1,0 +1,7 @@
+pub mod PointLaws
+pub mod AlikeLaws
+pub mod Chained
+pub mod GridShown
+pub mod OverlayShown
+pub mod Runs
+pub mod DemandLaws

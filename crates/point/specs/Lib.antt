@@ -1,0 +1,5 @@
+pub mod Point
+pub mod Seen
+pub mod Read
+pub mod Alike
+pub mod Demand

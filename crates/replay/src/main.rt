@@ -1,0 +1,441 @@
+// Replays stored answers of the published Rust: each operation of the proved crates on the stored input, held to the stored bytes,
+// numbers or refusal. Standard input is made of operations: a name of 16 bytes and how many calls follow. A call is 17 numbers (the
+// operation, the refusal or 0, the lengths of four parts and of the answer, ten fields), then the parts and the answer. Every number
+// has four bytes, the highest first. `stdin.md` says how the file is made. For each operation the program prints how many calls are
+// answered alike, and of how many.
+ghost use Prim.Native.Nat.{_≤_};
+use fill::Colour;
+use fill::Filled;
+use fill::Nclx;
+use laws::Answer;
+use laws::Refusal;
+use libc::STDIN_FILENO;
+use libc::STDOUT_FILENO;
+use numbers::Cursor;
+use numbers::FieldRead;
+use props::Clap;
+use props::CropRect;
+use props::Imir;
+use props::Irot;
+use props::Iscl;
+use props::Resolved;
+use props::SizeAnswer;
+
+// The number at a place, 0 where there is none whole.
+fn number_at(s: &[u8], at: usize) -> u32 {
+    let c = Cursor { at };
+    match c.field(s, 4) {
+        FieldRead::Field { value, next: _ } => value,
+        FieldRead::Short => 0,
+    }
+}
+
+// Field i of a call, counted from 0.
+fn field(head: &[u8], i: usize) -> u32 {
+    if i > 9 {
+        return 0;
+    }
+    number_at(head, 28 + 4 * i)
+}
+
+fn byte(head: &[u8], i: usize) -> u8 {
+    (field(head, i) % 256) as u8
+}
+
+fn short(head: &[u8], i: usize) -> u16 {
+    (field(head, i) % 65536) as u16
+}
+
+// Whether the start of `a` is `b`.
+fn starts(a: &[u8], b: &[u8]) -> bool {
+    if a.len() < b.len() {
+        return false;
+    }
+    let mut i: usize = 0;
+    while i < b.len() {
+        if a[i] != b[i] {
+            return false;
+        }
+        i += 1;
+    }
+    true
+}
+
+// Whether a refusal is the stored one.
+fn refused_so(head: &[u8], e: Refusal) -> bool {
+    e.number as u32 == number_at(head, 4)
+}
+
+// Whether an answer is none of the stored refusals.
+fn is_taken(head: &[u8]) -> bool {
+    number_at(head, 4) == 0
+}
+
+// Whether every byte from a place on is `v`.
+fn rest_is(s: &[u8], from: usize, v: u8) -> bool {
+    let mut i = from;
+    while i < s.len() {
+        if s[i] != v {
+            return false;
+        }
+        i += 1;
+    }
+    true
+}
+
+// What stands in every byte of an output before the call.
+const BEFORE: u8 = 165;
+
+// Whether what was written is the stored answer, and what is past it, or all of it where it was refused, as it was.
+fn written_so(head: &[u8], answer: Answer, out: &[u8], want: &[u8]) -> bool {
+    match answer {
+        Answer::Refused(e) => {
+            if !rest_is(out, 0, BEFORE) {
+                return false;
+            }
+            refused_so(head, e)
+        }
+        Answer::Wrote(n) => {
+            if !is_taken(head) {
+                return false;
+            }
+            if n != want.len() {
+                return false;
+            }
+            if !starts(out, want) {
+                return false;
+            }
+            rest_is(out, n, BEFORE)
+        }
+    }
+}
+
+fn clap_of(head: &[u8]) -> Clap {
+    Clap {
+        width_n: field(head, 0),
+        width_d: field(head, 1),
+        height_n: field(head, 2),
+        height_d: field(head, 3),
+        horiz_off_n: field(head, 4),
+        horiz_off_d: field(head, 5),
+        vert_off_n: field(head, 6),
+        vert_off_d: field(head, 7),
+    }
+}
+
+fn iscl_of(head: &[u8]) -> Iscl {
+    Iscl {
+        width_num: short(head, 0),
+        width_den: short(head, 1),
+        height_num: short(head, 2),
+        height_den: short(head, 3),
+    }
+}
+
+// A colour description from field i on: 1, its matrix and its range, or 0.
+fn colour_of(head: &[u8], i: usize) -> Colour {
+    if i > 7 {
+        return Colour::None;
+    }
+    if field(head, i) == 0 {
+        return Colour::None;
+    }
+    Colour::Nclx(Nclx {
+        matrix: short(head, i + 1),
+        full_range: field(head, i + 2) != 0,
+    })
+}
+
+// An operation on one record.
+fn on_record(op: u32, head: &[u8], record: &[u8], out: &mut [u8]) -> Answer {
+    if op == 1 {
+        let to = CropRect {
+            x: field(head, 0),
+            y: field(head, 1),
+            width: field(head, 2),
+            height: field(head, 3),
+        };
+        return transform::crop(record, to, out);
+    }
+    if op == 2 {
+        return transform::apply_clap(record, clap_of(head), out);
+    }
+    if op == 3 {
+        let angle = byte(head, 0);
+        return transform::apply_irot(record, Irot { angle }, out);
+    }
+    if op == 4 {
+        let axis = byte(head, 0);
+        return transform::apply_imir(record, Imir { axis }, out);
+    }
+    if op == 5 {
+        return resample::apply_iscl(record, iscl_of(head), out);
+    }
+    if op == 6 {
+        return resample::resize_nearest(record, field(head, 0), field(head, 1), out);
+    }
+    resample::rescale_depth(record, field(head, 0), out)
+}
+
+// An operation that writes.
+fn write(op: u32, head: &[u8], one: &[u8], two: &[u8], three: &[u8], out: &mut [u8]) -> Answer {
+    if op < 8 {
+        return on_record(op, head, one, out);
+    }
+    if op == 8 {
+        return resample::attach_alpha(one, two, out);
+    }
+    if op == 10 {
+        return grid::composite_grid(one, two, out);
+    }
+    if op == 11 {
+        return overlay::composite_overlay(one, two, three, colour_of(head, 0), out);
+    }
+    steps_text::steps_text(one, out)
+}
+
+// A fill's three samples.
+fn filled_so(head: &[u8], want: &[u8]) -> bool {
+    let colour = colour_of(head, 4);
+    match fill::fill_to_ycbcr(
+        short(head, 0),
+        short(head, 1),
+        short(head, 2),
+        field(head, 3),
+        colour,
+    ) {
+        Filled::Refused(e) => refused_so(head, e),
+        Filled::Samples(s) => {
+            if s.y as u32 != number_at(want, 0) {
+                return false;
+            }
+            if s.cb as u32 != number_at(want, 4) {
+                return false;
+            }
+            if s.cr as u32 != number_at(want, 8) {
+                return false;
+            }
+            is_taken(head)
+        }
+    }
+}
+
+// The rectangle that a clap leaves of a size.
+fn resolved_so(head: &[u8], want: &[u8]) -> bool {
+    let clap = clap_of(head);
+    match clap.resolve(field(head, 8), field(head, 9)) {
+        Resolved::Refused(e) => refused_so(head, e),
+        Resolved::Rect(r) => {
+            if r.x != number_at(want, 0) {
+                return false;
+            }
+            if r.y != number_at(want, 4) {
+                return false;
+            }
+            if r.width != number_at(want, 8) {
+                return false;
+            }
+            if r.height != number_at(want, 12) {
+                return false;
+            }
+            is_taken(head)
+        }
+    }
+}
+
+// The size that an iscl makes of a size.
+fn sized_so(head: &[u8], want: &[u8]) -> bool {
+    let iscl = iscl_of(head);
+    match iscl.output_size(field(head, 4), field(head, 5)) {
+        SizeAnswer::Refused(e) => refused_so(head, e),
+        SizeAnswer::Size(z) => {
+            if z.width != number_at(want, 0) {
+                return false;
+            }
+            if z.height != number_at(want, 4) {
+                return false;
+            }
+            is_taken(head)
+        }
+    }
+}
+
+// A scene call; field 3 says whether the essential entries alone are applied.
+fn compose(
+    op: u32,
+    head: &[u8],
+    one: &[u8],
+    two: &[u8],
+    three: &[u8],
+    four: &[u8],
+    out: &mut [u8],
+    spare: &mut [u8],
+) -> Answer {
+    let essential_only = field(head, 3) != 0;
+    if op == 15 {
+        return scene::grid_scene(one, two, three, essential_only, out, spare);
+    }
+    let colour = colour_of(head, 0);
+    scene::overlay_scene(one, two, three, essential_only, four, colour, out, spare)
+}
+
+// Whether a scene is the stored one: past the record the output is zero, and so is the spare; refused, both are as they were.
+fn composed_so(head: &[u8], answer: Answer, out: &[u8], spare: &[u8], want: &[u8]) -> bool {
+    match answer {
+        Answer::Refused(e) => {
+            if !rest_is(out, 0, BEFORE) {
+                return false;
+            }
+            if !rest_is(spare, 0, BEFORE) {
+                return false;
+            }
+            refused_so(head, e)
+        }
+        Answer::Wrote(n) => {
+            if !is_taken(head) {
+                return false;
+            }
+            if n != want.len() {
+                return false;
+            }
+            if !starts(out, want) {
+                return false;
+            }
+            if !rest_is(out, n, 0) {
+                return false;
+            }
+            rest_is(spare, 0, 0)
+        }
+    }
+}
+
+// Whether a call is answered as it is stored.
+fn answered_so(
+    head: &[u8],
+    one: &[u8],
+    two: &[u8],
+    three: &[u8],
+    four: &[u8],
+    want: &[u8],
+) -> bool {
+    let op = number_at(head, 0);
+    if op > 14 {
+        let mut out = [BEFORE; 4096];
+        let mut spare = [BEFORE; 4096];
+        let answer = compose(op, head, one, two, three, four, &mut out, &mut spare);
+        return composed_so(head, answer, &out, &spare, want);
+    }
+    if op == 9 {
+        return filled_so(head, want);
+    }
+    if op == 12 {
+        return resolved_so(head, want);
+    }
+    if op == 13 {
+        return sized_so(head, want);
+    }
+    let mut out = [BEFORE; 4096];
+    let answer = write(op, head, one, two, three, &mut out);
+    written_so(head, answer, &out, want)
+}
+
+// The same of parts that stand at the start of longer ones.
+fn held_so(head: &[u8], one: &[u8], two: &[u8], three: &[u8], four: &[u8], want: &[u8]) -> bool {
+    let a = number_at(head, 8) as usize;
+    let b = number_at(head, 12) as usize;
+    let c = number_at(head, 16) as usize;
+    let d = number_at(head, 20) as usize;
+    let w = number_at(head, 24) as usize;
+    if a > one.len() {
+        return false;
+    }
+    if b > two.len() {
+        return false;
+    }
+    if c > three.len() {
+        return false;
+    }
+    if d > four.len() {
+        return false;
+    }
+    if w > want.len() {
+        return false;
+    }
+    answered_so(
+        head,
+        &one[..a],
+        &two[..b],
+        &three[..c],
+        &four[..d],
+        &want[..w],
+    )
+}
+
+// Reads so many bytes to the start of a part, none where it is shorter.
+fn read_part(part: &mut [u8], count: u32) {
+    let n = count as usize;
+    if n <= part.len() {
+        io::read_full(STDIN_FILENO, &mut part[..n]);
+    }
+}
+
+// Reads a call, and says whether it is answered as it is stored.
+fn replay_one() -> bool {
+    let mut head = [0u8; 68];
+    let mut one = [0u8; 1024];
+    let mut two = [0u8; 1024];
+    let mut three = [0u8; 1024];
+    let mut four = [0u8; 1024];
+    let mut want = [0u8; 1024];
+    io::read_full(STDIN_FILENO, &mut head);
+    read_part(&mut one, number_at(&head, 8));
+    read_part(&mut two, number_at(&head, 12));
+    read_part(&mut three, number_at(&head, 16));
+    read_part(&mut four, number_at(&head, 20));
+    read_part(&mut want, number_at(&head, 24));
+    held_so(&head, &one, &two, &three, &four, &want)
+}
+
+fn one_if(b: bool) -> u32
+    ensures { λ r. ⌜ r ≤ 1 ⌝ }
+{
+    if b {
+        return 1;
+    }
+    0
+}
+
+// Reads so many calls, and says how many of them are answered as they are stored.
+fn replay_all(count: u32) -> u32 {
+    let mut alike: u32 = 0;
+    let mut i: u32 = 0;
+    while i < count {
+        alike += one_if(replay_one());
+        i += 1;
+    }
+    alike
+}
+
+// One operation and its line; whether there was one.
+fn operation() -> bool {
+    let mut name = [0u8; 16];
+    let mut number = [0u8; 4];
+    if io::read_full(STDIN_FILENO, &mut name) < 16 {
+        return false;
+    }
+    io::read_full(STDIN_FILENO, &mut number);
+    let count = number_at(&number, 0);
+    io::write_all(STDOUT_FILENO, &name);
+    let alike = replay_all(count);
+    io::print_decimal(STDOUT_FILENO, alike as u64);
+    io::write_all(STDOUT_FILENO, b" of ");
+    io::print_decimal(STDOUT_FILENO, count as u64);
+    io::write_all(STDOUT_FILENO, b"\n")
+}
+
+fn main() {
+    let mut turns: u32 = 1000;
+    while turns > 0 && operation() {
+        turns -= 1;
+    }
+}

@@ -1,0 +1,4 @@
+pub mod Chain
+pub mod Scene
+pub mod Course
+pub mod Carry

@@ -1,0 +1,158 @@
+// Where a chain leads, by forms alone: the form it ends with, the longest record on the way, and how often it draws.
+ghost use mathlib.Core.Path.{_≡_};
+ghost use mathlib.Core.Bool.{not};
+ghost use Rattle.laws.specs.Out.{done, andThen};
+ghost use Rattle.laws.specs.Pick.{pick};
+ghost use Rattle.image.specs.Sound.{FormSound};
+ghost use Rattle.props.specs.Chain.{Judged, applies, entriesAt};
+ghost use Rattle.scene.specs.Chain.{longer};
+ghost use Rattle.scene.specs.Course.{formAfter, moves, setOff, courseAfter, courseOf, formOut, courseOut};
+use image::Form;
+use laws::Refusal;
+use props::Chain;
+use props::EntryRead;
+use props::Property;
+use props::PropertyEntry;
+use props::Resolved;
+use props::SizeAnswer;
+
+pub struct Course {
+    pub form: Form,
+    pub longest: usize,
+    pub even: bool,
+}
+
+pub enum CourseRead {
+    Course(Course),
+    Refused(Refusal),
+}
+
+pub enum FormRead {
+    Form(Form),
+    Refused(Refusal),
+}
+
+fn longer_of(a: usize, b: usize) -> usize
+    ensures { λ r. ⌜ r ≡ longer a b ⌝ }
+{
+    if a < b {
+        return b;
+    }
+    a
+}
+
+// Whether a property draws: any other one is skipped.
+pub(crate) fn is_move(property: Property) -> bool
+    ensures { λ r. ⌜ r ≡ moves property ⌝ }
+{
+    match property {
+        Property::Other => false,
+        Property::Clap(_) => true,
+        Property::Irot(_) => true,
+        Property::Imir(_) => true,
+        Property::Iscl(_) => true,
+    }
+}
+
+fn flip(b: bool, over: bool) -> bool
+    ensures { λ r. ⌜ r ≡ pick over (not b) b ⌝ }
+{
+    if over {
+        return !b;
+    }
+    b
+}
+
+// The form after a property. Refusals: a clap's, an iscl's.
+fn form_after(m: Form, property: Property) -> FormRead
+    requires { ⌜ FormSound m ⌝ }
+    ensures { λ r. ⌜ formOut r ≡ formAfter property m ⌝ }
+{
+    match property {
+        Property::Other => FormRead::Form(m),
+        Property::Clap(c) => {
+            let found = c.resolve(m.width, m.height);
+            let Resolved::Rect(r) = found else {
+                return FormRead::Refused(found.refusal());
+            };
+            FormRead::Form(transform::crop_form(m, r))
+        }
+        Property::Irot(k) => FormRead::Form(transform::turn_form(m, k)),
+        Property::Imir(_) => FormRead::Form(m),
+        Property::Iscl(k) => match k.output_size(m.width, m.height) {
+            SizeAnswer::Refused(e) => FormRead::Refused(e),
+            SizeAnswer::Size(z) => FormRead::Form(m.sized(z.width, z.height)),
+        },
+    }
+}
+
+impl Course {
+    // The composed form.
+    fn new(m: Form) -> Course
+        requires { ⌜ FormSound m ⌝ }
+        ensures { λ r. ⌜ r ≡ setOff m ⌝ }
+    {
+        Course {
+            form: m,
+            longest: image::record_size(m),
+            even: true,
+        }
+    }
+
+    // After a property.
+    fn after(self, property: Property) -> CourseRead
+        requires { ⌜ FormSound (self .form) ⌝ }
+        ensures { λ r. ⌜ courseOut r ≡ courseAfter property self ⌝ }
+    {
+        match form_after(self.form, property) {
+            FormRead::Refused(e) => CourseRead::Refused(e),
+            FormRead::Form(m) => CourseRead::Course(Course {
+                form: m,
+                longest: longer_of(self.longest, image::record_size(m)),
+                even: flip(self.even, is_move(property)),
+            }),
+        }
+    }
+
+    // After an entry: under the flag a property that is not essential is skipped.
+    fn after_entry(self, entry: PropertyEntry, essential_only: bool) -> CourseRead
+        requires { ⌜ FormSound (self .form) ⌝ }
+        ensures { λ r. ⌜ courseOut r ≡ pick (applies «essential_only» entry) (courseAfter (entry .property) self) (done self) ⌝ }
+    {
+        let property = entry.property;
+        if essential_only {
+            if entry.essential {
+                return self.after(property);
+            }
+            return CourseRead::Course(self);
+        }
+        self.after(property)
+    }
+}
+
+// Where the entries of a chain that was judged lead from a composed form. Refusals: the entries' in turn.
+pub fn plan_chain(s: &[u8], chain: Chain, essential_only: bool, m: Form) -> CourseRead
+    requires { ⌜ Judged (now s) chain × FormSound m ⌝ }
+    ensures { λ r. ⌜ courseOut r ≡ andThen (entriesAt (chain .count) (now (s .entry)) (chain .first)) (λ es. courseOf es «essential_only» m) ⌝ }
+{
+    let mut next = chain.first;
+    let mut left = chain.count;
+    let mut reached = Course::new(m);
+    while left > 0 {
+        let EntryRead::Read(e) = props::read_entry(s, next) else {
+            return CourseRead::Refused(Refusal::MALFORMED);
+        };
+        let entry = e.entry;
+        match reached.after_entry(entry, essential_only) {
+            CourseRead::Refused(r) => {
+                return CourseRead::Refused(r);
+            }
+            CourseRead::Course(z) => {
+                reached = z;
+            }
+        }
+        next = e.next;
+        left -= 1;
+    }
+    CourseRead::Course(reached)
+}

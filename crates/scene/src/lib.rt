@@ -1,0 +1,136 @@
+// The scene calls (document 01, "The scene call"): a grid or an overlay composed, then a chain of transforms, from bytes to a record
+// in the lent output. All refusals are found before anything is written.
+mod carry;
+mod course;
+
+ghost use mathlib.Core.Path.{_≡_};
+ghost use lib.ListN.{length};
+ghost use Rattle.laws.specs.Out.{answerOf};
+ghost use Rattle.scene.specs.Scene.{gridScene, overlayScene, outputOf, spareOf};
+use crate::carry::finish_scene;
+use crate::course::CourseRead;
+use crate::course::plan_chain;
+use fill::Colour;
+use grid::TilesRead;
+use laws::Answer;
+use laws::Refusal;
+use numbers::NumberRead;
+use overlay::PlanRead;
+use props::ChainRead;
+
+// A grid, then a chain. Refusals: 5 a tray count that cannot be read; the chain's form; the body's; the tiles'; the entries' in turn;
+// 17 output or spare shorter than the longest of the composed and step records.
+pub fn grid_scene(
+    body: &[u8],
+    tray: &[u8],
+    chain: &[u8],
+    essential_only: bool,
+    output: &mut [u8],
+    spare: &mut [u8],
+) -> Answer
+    ensures { λ r. ⌜ (r ≡ answerOf (gridScene (now (body .entry)) (now (tray .entry)) (now (chain .entry)) «essential_only» (length (now (output .entry))) (length (now (spare .entry)))))
+        × (now (output .exit) ≡ outputOf (gridScene (now (body .entry)) (now (tray .entry)) (now (chain .entry)) «essential_only» (length (now (output .entry))) (length (now (spare .entry)))) (now (output .entry)))
+        × (now (spare .exit) ≡ spareOf (gridScene (now (body .entry)) (now (tray .entry)) (now (chain .entry)) «essential_only» (length (now (output .entry))) (length (now (spare .entry)))) (now (spare .entry))) ⌝ }
+{
+    let NumberRead::Number { value: _, next: _ } = numbers::read_number(tray, 0) else {
+        return Answer::Refused(Refusal::MALFORMED);
+    };
+    match props::check_chain(chain, 0) {
+        ChainRead::Refused(e) => Answer::Refused(e),
+        ChainRead::Read(c) => match grid::read_tiles(body, tray) {
+            TilesRead::Refused(e) => Answer::Refused(e),
+            TilesRead::Read(t) => {
+                let form = grid::canvas_form(t.desc, t.tile, t.alpha);
+                match plan_chain(chain, c, essential_only, form) {
+                    CourseRead::Refused(e) => Answer::Refused(e),
+                    CourseRead::Course(k) => {
+                        if output.len() < k.longest {
+                            return Answer::Refused(Refusal::ROOM);
+                        }
+                        if spare.len() < k.longest {
+                            return Answer::Refused(Refusal::ROOM);
+                        }
+                        let size = image::record_size(form);
+                        if k.even {
+                            grid::draw_grid(output, tray, t);
+                            return finish_scene(
+                                chain,
+                                c,
+                                essential_only,
+                                output,
+                                spare,
+                                size,
+                                true,
+                            );
+                        }
+                        grid::draw_grid(spare, tray, t);
+                        finish_scene(chain, c, essential_only, output, spare, size, false)
+                    }
+                }
+            }
+        },
+    }
+}
+
+// An overlay, then a chain. Refusals: as a grid's, with the body's and the inputs' of an overlay, and 16 before the entries'.
+pub fn overlay_scene(
+    body: &[u8],
+    tray: &[u8],
+    chain: &[u8],
+    essential_only: bool,
+    premultiplied: &[u8],
+    colour: Colour,
+    output: &mut [u8],
+    spare: &mut [u8],
+) -> Answer
+    ensures { λ r. ⌜ (r ≡ answerOf (overlayScene (now (body .entry)) (now (tray .entry)) (now (chain .entry)) «essential_only» (now (premultiplied .entry)) colour (length (now (output .entry))) (length (now (spare .entry)))))
+        × (now (output .exit) ≡ outputOf (overlayScene (now (body .entry)) (now (tray .entry)) (now (chain .entry)) «essential_only» (now (premultiplied .entry)) colour (length (now (output .entry))) (length (now (spare .entry)))) (now (output .entry)))
+        × (now (spare .exit) ≡ spareOf (overlayScene (now (body .entry)) (now (tray .entry)) (now (chain .entry)) «essential_only» (now (premultiplied .entry)) colour (length (now (output .entry))) (length (now (spare .entry)))) (now (spare .entry))) ⌝ }
+{
+    let NumberRead::Number {
+        value: count,
+        next: first,
+    } = numbers::read_number(tray, 0)
+    else {
+        return Answer::Refused(Refusal::MALFORMED);
+    };
+    match props::check_chain(chain, 0) {
+        ChainRead::Refused(e) => Answer::Refused(e),
+        ChainRead::Read(c) => match overlay::read_inputs(body, tray, premultiplied, count, first) {
+            PlanRead::Refused(e) => Answer::Refused(e),
+            PlanRead::Read(plan) => {
+                let form = plan.form;
+                let format = form.format;
+                if overlay::alpha_above(tray, first, count, format.top()) {
+                    return Answer::Refused(Refusal::OPACITY);
+                }
+                match plan_chain(chain, c, essential_only, form) {
+                    CourseRead::Refused(e) => Answer::Refused(e),
+                    CourseRead::Course(k) => {
+                        if output.len() < k.longest {
+                            return Answer::Refused(Refusal::ROOM);
+                        }
+                        if spare.len() < k.longest {
+                            return Answer::Refused(Refusal::ROOM);
+                        }
+                        let size = image::record_size(form);
+                        if k.even {
+                            overlay::draw_overlay(output, body, tray, premultiplied, plan, colour);
+                            return finish_scene(
+                                chain,
+                                c,
+                                essential_only,
+                                output,
+                                spare,
+                                size,
+                                true,
+                            );
+                        }
+                        overlay::draw_overlay(spare, body, tray, premultiplied, plan, colour);
+                        finish_scene(chain, c, essential_only, output, spare, size, false)
+                    }
+                }
+            }
+        },
+    }
+}

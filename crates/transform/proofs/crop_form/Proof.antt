@@ -1,0 +1,18 @@
+use mathlib.Core.Path.{ap}
+use borrow.Author.Needs.{needs}
+use Rattle.transform.proofs.crop_form.Statement.{statement}
+use Rattle.transform.proofs.crop_form.Tie as tie
+use Rattle.transform.proofs.crop_form.Reads as reads
+use Rattle.transform.proofs.crop_form.Lts as lts
+use Rattle.transform.proofs.crop_move.Reads as crop-move-reads
+
+-- src/lib.rt:126:9
+crop-move-requires : tie.Need-crop-move-requires
+crop-move-requires c κs = search needs
+
+-- src/lib.rt:123:1
+returns : tie.Need-returns
+returns c = ap (λ v. v .form) (c .before .crop-move .ensures)
+
+pub crop-form-spec : {M : Type 1} → statement M
+crop-form-spec = tie.close (tie.spec crop-move-requires returns)

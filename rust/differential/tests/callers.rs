@@ -1,0 +1,84 @@
+//! Programs written against oxideav-heif's names, one for each caller. Each is one source that is
+//! compiled twice, with the crate `compose` as `heif` and with the published Rust, and gives the
+//! same pictures and turns the same things away.
+
+/// A program as its own module, where `heif` is `$heif`.
+macro_rules! callers {
+    ($heif:path) => {
+        pub mod slope_importer {
+            use $heif as heif;
+            include!("callers/slope_importer.rs");
+        }
+        pub mod marker_desk {
+            use $heif as heif;
+            include!("callers/marker_desk.rs");
+        }
+        pub mod projector {
+            use $heif as heif;
+            include!("callers/projector.rs");
+        }
+    };
+}
+
+/// Over the proved calls.
+mod ours {
+    callers! { ::compose }
+}
+
+oracle::where_present! {
+    /// Over the published Rust.
+    mod published {
+        callers! { ::oracle }
+    }
+
+    /// Both runs of a program, frame by frame and field by field.
+    macro_rules! alike {
+        ($program:ident, $pictures:literal) => {
+            let ours = ours::$program::run().expect("pictures");
+            let theirs = published::$program::run().expect("pictures");
+            assert_eq!((ours.len(), theirs.len()), ($pictures, $pictures));
+            for (at, (ours, theirs)) in ours.iter().zip(&theirs).enumerate() {
+                assert_eq!((ours.width, ours.height), (theirs.width, theirs.height), "{at}");
+                let (one, other) = (ours.format, theirs.format);
+                assert_eq!(one.chroma.idc(), other.chroma.idc(), "{at}");
+                assert_eq!(one.bit_depth, other.bit_depth, "{at}");
+                assert_eq!(one.has_alpha, other.has_alpha, "{at}");
+                assert_eq!(ours.planes.len(), theirs.planes.len(), "{at}");
+                for (one, other) in ours.planes.iter().zip(&theirs.planes) {
+                    assert_eq!(one.stride, other.stride, "{at}");
+                    assert!(one.data == other.data, "{at}");
+                }
+            }
+            let turned_away = ours::$program::turned_away();
+            assert_eq!(turned_away, published::$program::turned_away());
+        };
+    }
+
+    #[test]
+    fn the_slope_importer_sees_the_same_pictures() {
+        alike!(slope_importer, 4);
+    }
+
+    #[test]
+    fn the_marker_desk_sees_the_same_pictures() {
+        alike!(marker_desk, 4);
+    }
+
+    #[test]
+    fn the_projector_sees_the_same_pictures() {
+        alike!(projector, 76);
+    }
+}
+
+#[test]
+fn the_callers_run_over_the_proved_calls() {
+    assert_eq!(ours::slope_importer::run().map(|made| made.len()), Ok(4));
+    assert_eq!(ours::marker_desk::run().map(|made| made.len()), Ok(4));
+    assert_eq!(ours::projector::run().map(|made| made.len()), Ok(76));
+    assert_eq!(
+        ours::slope_importer::turned_away(),
+        [true, true, true, false]
+    );
+    assert_eq!(ours::marker_desk::turned_away(), [true, true, true, false]);
+    assert_eq!(ours::projector::turned_away(), [true, true, false, true]);
+}
