@@ -8,9 +8,10 @@ use differential::generate::{self, Form};
 use differential::ours::{Answer, Composer, Linked};
 use differential::rng::Rng;
 use model::{
-    Chroma, Clap, Colour, Frame, Grid, Iscl, Operation, Overlay, OverlayInput, Rectangle, Work,
-    tray_bytes,
+    Chroma, Clap, Colour, Entry, Frame, Grid, Iscl, Operation, Overlay, OverlayInput, Property,
+    Rectangle, SceneParts, Work, chain_bytes, tray_bytes,
 };
+use std::cell::RefCell;
 use std::hint::black_box;
 
 /// A call of the composer, on a lent buffer.
@@ -225,6 +226,50 @@ fn grid(side: u32, copied: bool) -> Case {
     }
 }
 
+/// Four by four tiles of 4:2:0 joined, cropped to half, turned and mirrored.
+fn scene(side: u32) -> Case {
+    let tiles: Vec<Frame> = (0..16).map(|_| picture(8, side / 4)).collect();
+    let grid = Grid {
+        rows: 4,
+        columns: 4,
+        width: side,
+        height: side,
+    };
+    let half = side / 2;
+    let entries = vec![
+        Entry::new(
+            true,
+            Property::Clap(Clap::from_fields([half, 1, half, 1, 0, 1, 0, 1])),
+        ),
+        Entry::new(true, Property::Irot(2)),
+        Entry::new(true, Property::Imir(0)),
+    ];
+    let body = generate::grid_body(&grid, true);
+    let (tray, chain) = (tray_bytes(&tiles), chain_bytes(&entries));
+    // The composed record is the longest.
+    let mut ample = vec![0; tray.len() + 64];
+    let room = answered(Linked.grid(&body, &tray, &mut ample));
+    let spare = RefCell::new(vec![0; room]);
+    Case {
+        name: format!(
+            "scene of a grid, clap, irot 2, imir 0, 4 × 4 tiles of {0} × {0} 4:2:0, 8 bits",
+            side / 4
+        ),
+        room,
+        call: Box::new(move |output| {
+            let parts = SceneParts {
+                body: &body,
+                tray: &tray,
+                chain: &chain,
+                essential_only: false,
+            };
+            answered(Linked.grid_scene(&parts, output, &mut spare.borrow_mut()));
+        }),
+        frames: None,
+        theirs: Work::Scene(grid, tiles, entries),
+    }
+}
+
 /// A session over four by four tiles of 4:2:0: the cells placed from the last to the first.
 fn session(side: u32) -> Case {
     let tiles: Vec<Frame> = (0..16).map(|_| picture(8, side / 4)).collect();
@@ -343,6 +388,7 @@ pub fn all(side: u32) -> Vec<Case> {
     }
     cases.push(grid(side, false));
     cases.push(grid(side, true));
+    cases.push(scene(side));
     cases.push(session(side));
     cases.push(overlay(8, half, half, 1));
     cases.push(overlay(1_000, (side / 64).max(1), side, 0));

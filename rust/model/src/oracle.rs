@@ -109,6 +109,8 @@ pub enum Work {
     /// `apply_transforms`, every entry.
     Chain(Frame, Vec<Entry>),
     Grid(Grid, Vec<Frame>),
+    /// `composite_grid`, then `apply_transforms`, every entry.
+    Scene(Grid, Vec<Frame>, Vec<Entry>),
     /// `GridCanvas`, its cells placed from the last to the first.
     Session(Grid, Vec<Frame>),
     Overlay(Overlay, Vec<OverlayInput>, Option<Colour>),

@@ -198,6 +198,14 @@ impl Oracle for Published {
                 let (grid, tiles) = (descriptor(&grid), all_published(&tiles));
                 made(move || compose::composite_grid(&grid, &tiles))
             }
+            Work::Scene(grid, tiles, chain) => {
+                let (grid, tiles) = (descriptor(&grid), all_published(&tiles));
+                let chain = entries(&chain);
+                made(move || {
+                    let composed = compose::composite_grid(&grid, &tiles)?;
+                    compose::apply_transforms(&composed, &chain, false)
+                })
+            }
             Work::Session(grid, tiles) => {
                 let (grid, tiles) = (descriptor(&grid), all_published(&tiles));
                 made(move || {
