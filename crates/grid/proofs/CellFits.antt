@@ -5,7 +5,6 @@ use Prim.Native.Nat.{_*_, _+_, _<_, _^_, _≤_, ℕ}
 use native.Mathlib.Nat.{add-mul, mul-assoc, mul-le-mul-right}
 use native.Mathlib.Omega.{arith}
 use lib.Dec.{eqb}
-use lib.Ieee.{down}
 use lib.ListN.{length}
 use lib.Pow.{high}
 use borrow.Author.Tests.{eq-eqb, ne-eqb}

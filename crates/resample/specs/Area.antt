@@ -4,12 +4,10 @@
 use mathlib.Core.List.{List}
 use Prim.Native.Nat.{_*_, _+_, _-_, _/_, _<_, _^_, _≤_, suc, zero, ℕ}
 use lib.Dec.{leb}
-use lib.Ieee.{down}
 use lib.ListN.{length}
 use Rattle.laws.specs.Pick.{pick}
 use Rattle.image.specs.Format.{columnsOf, rowsOf}
 use Rattle.image.specs.Picture.{Pic, sized}
-use Rattle.props.proofs.Cases.{across}
 use Rattle.resample.specs.Rounded.{greatest, least, rounded}
 use Rattle.resample.specs.declared.area.Foot.{Foot}
 
