@@ -124,7 +124,7 @@ pub use refusal::Refusal;
 pub use scene::{Point, Scene, Shows, point, scene};
 pub use transform::{
     apply_clap, apply_imir, apply_irot, apply_iscl, apply_transforms, apply_transforms_owned,
-    attach_alpha, crop, rescale_depth, resize_nearest,
+    attach_alpha, crop, rescale_depth, resize_area, resize_nearest,
 };
 
 /// The functions of oxideav-heif's module `compose` where they were, so that in a `use` line the
@@ -135,7 +135,7 @@ pub mod compose {
     pub use crate::fill::fill_to_ycbcr;
     pub use crate::transform::{
         apply_clap, apply_imir, apply_irot, apply_iscl, apply_transforms, apply_transforms_owned,
-        attach_alpha, crop, rescale_depth, resize_nearest,
+        attach_alpha, crop, rescale_depth, resize_area, resize_nearest,
     };
 }
 

@@ -25,7 +25,7 @@
 
 use crate::image::HeifFrame;
 use crate::props::{Clap, Imir, Irot, Iscl, Property, PropertyEntry};
-use crate::{Result, chain, operation};
+use crate::{Refusal, Result, chain, operation};
 
 /// An operation on a record, on a frame.
 fn on_frame(f: &HeifFrame, operation: impl Fn(&[u8]) -> Result<Vec<u8>>) -> Result<HeifFrame> {
@@ -70,6 +70,41 @@ pub fn apply_imir(f: &HeifFrame, imir: &Imir) -> Result<HeifFrame> {
 /// 10, 4.
 pub fn apply_iscl(f: &HeifFrame, iscl: &Iscl) -> Result<HeifFrame> {
     on_frame(f, |record| operation::iscl(record, iscl))
+}
+
+/// What a side is multiplied by to become another, in the terms of an iscl.
+fn ratio(new: u32, old: u32) -> Result<(u16, u16)> {
+    let (mut a, mut b) = (new, old);
+    while b != 0 {
+        (a, b) = (b, a % b);
+    }
+    let term = |side: u32| u16::try_from(side / a).map_err(|_| Refusal::LIMIT);
+    Ok((term(new)?, term(old)?))
+}
+
+/// `f` at another size, each sample the mean over its share of the picture, as an iscl has it.
+/// Refusals: the frame's; 3 a side of 0; 4 above 2^30 pixels, a side before or after above 2^26,
+/// and, as it is done by an iscl, a ratio of new and old side that no two numbers up to 65,535
+/// have.
+///
+/// ```
+/// use compose::image::{Chroma, HeifFrame, HeifPixelFormat, Plane};
+/// use compose::resize_area;
+///
+/// let format = HeifPixelFormat::new(Chroma::Mono, 8, false)?;
+/// let row = HeifFrame::new(3, 1, format, vec![Plane::new(3, vec![0, 30, 60])]);
+/// assert_eq!(resize_area(&row, 2, 1)?.planes, [Plane::new(2, vec![10, 50])]);
+/// assert_eq!(resize_area(&row, 0, 1).unwrap_err().number(), 3);
+/// # Ok::<(), compose::Refusal>(())
+/// ```
+pub fn resize_area(f: &HeifFrame, w: u32, h: u32) -> Result<HeifFrame> {
+    on_frame(f, |record| {
+        if w == 0 || h == 0 {
+            return Err(Refusal::EMPTY);
+        }
+        let (across, down) = (ratio(w, f.width)?, ratio(h, f.height)?);
+        operation::iscl(record, &Iscl::new(across.0, across.1, down.0, down.1))
+    })
 }
 
 /// `f` at another size, by nearest samples. Refusals: the frame's; 3, 4.

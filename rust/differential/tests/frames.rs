@@ -7,7 +7,7 @@ use common::{bytes, on_each_build};
 use compose::props::{Clap, CropRect, Imir, Irot, Property, PropertyEntry};
 use compose::{
     Chroma, HeifFrame, HeifPixelFormat, Plane, Refusal, apply_clap, apply_imir, apply_irot,
-    apply_transforms, apply_transforms_owned, chain, crop,
+    apply_transforms, apply_transforms_owned, chain, crop, resize_area,
 };
 use differential::expected::{Stop, settle};
 use differential::generate;
@@ -43,6 +43,10 @@ fn operations_are_oxideav_heifs() {
             let angle = generate::turn(&mut rng, 3);
             let turned = apply_irot(&ours, &Irot::new(angle));
             hold(turned, oracle.apply_irot(&frame, angle), "irot");
+
+            let to = (1 + rng.below(12) as u32, 1 + rng.below(12) as u32);
+            let resized = resize_area(&ours, to.0, to.1);
+            hold(resized, oracle.resize_area(&frame, to.0, to.1), "area");
 
             let axis = generate::turn(&mut rng, 1);
             let mirrored = apply_imir(&ours, &Imir::new(axis));
