@@ -1,24 +1,27 @@
 -- What holds of descriptors that were taken. Assumes nothing.
 use mathlib.Core.List.{List}
 use mathlib.Core.Path.{_≡_, ap, refl, sym}
-use Prim.Native.Nat.{_<_, _≤_, ℕ}
+use Prim.Native.Nat.{_<_, _^_, _≤_, ℕ}
 use native.Mathlib.Omega.{arith}
 use lib.ListN.{getD, length}
 use borrow.Author.Tests.{eqb-false, ltb-false}
+use Rattle.laws.proofs.Order.{positive}
 use Rattle.laws.proofs.Out.{andThen-done, done-same, not-done, refuse-done}
 use Rattle.laws.specs.Out.{Out, done, reason}
 use Rattle.numbers.specs.Field.{onField}
 use Rattle.numbers.specs.declared.Cursor.{Cursor}
 use Rattle.numbers.specs.declared.FieldRead.{FieldRead}
 use Rattle.numbers.specs.declared.FieldRead.the-variants.{Field, Short}
+use Rattle.image.specs.Bytes.{Bytes}
 use Rattle.derived.proofs.FieldLaws.{field-below, field-read}
 use Rattle.derived.specs.Canvas.{canvasAt, fieldBytes, startOf}
 use Rattle.derived.specs.Grid.{gridAt, gridOf}
-use Rattle.derived.specs.Overlay.{inputsOf, overlayOf}
+use Rattle.derived.specs.Overlay.{fillAt, inputsOf, overlayOf}
 use Rattle.derived.specs.Sound.{CanvasSound, GridSound, OverlaySound}
 use Rattle.derived.specs.declared.canvas.Canvas.{Canvas}
 use Rattle.derived.specs.declared.canvas.Start.{Start}
 use Rattle.derived.specs.declared.grid.GridDescriptor.{GridDescriptor}
+use Rattle.derived.specs.declared.overlay.Fill.{Fill}
 use Rattle.derived.specs.declared.overlay.OverlayDescriptor.{OverlayDescriptor}
 
 -- a field was read, and what goes on with it answered
@@ -50,12 +53,9 @@ canvas-taken s at n c e =
     let q = done-same _ c (l .1) in
     let f = field-read s (a .1 .at) n (b .0) (b .1) (b .2) in (
       canvas-as (a .0) (b .0) _ _ (ap (λ x. x .width) q) (ap (λ x. x .height) q)
-          (record { wide = some (a .0) (eqb-false (a .0) 0 (w .0)); tall = some (b .0) (eqb-false (b .0) 0 (h .0)); area = ltb-false _ _ (l .0) }),
+          (record { wide = positive (a .0) (eqb-false (a .0) 0 (w .0)); tall = positive (b .0) (eqb-false (b .0) 0 (h .0)); area = ltb-false _ _ (l .0) }),
       omega (arith, ap (λ x. x .next .at) q),
     )
-  where
-    some : (k : ℕ) → (k ≡ 0 → ⊥) → 1 ≤ k
-    some k f = omega arith
 
 grid-as : (g g′ : GridDescriptor) → g ≡ g′ → GridSound g → GridSound g′
 grid-as g g′ p k = rw p at k
@@ -90,3 +90,30 @@ overlay-taken s n d e =
     let z = canvas-taken s _ _ (c .0) (c .1) .0 in
     let y = start-bytes s (h .0) (h .1) in
     (overlay-as s _ d q (record { canvas = z; count = ltb-false _ _ (a .0); some = y .0; few = y .1; inside = ltb-false _ _ (b .0) }), sym (ap (λ u. u .count) q))
+
+-- the fill's alpha has two bytes
+fill-small : (body : List ℕ) (at : ℕ) (f : _) → Bytes body → fillAt body at ≡ done f → f .fill .alpha ≤ 65535
+unfolding fillAt Bytes
+fill-small body at f small e =
+    let r = onField-done _ _ f e in
+    let g = onField-done _ _ f (r .3) in
+    let b = onField-done _ _ f (g .3) in
+    let a = onField-done _ _ f (b .3) in
+    let s : a .0 < 256 ^ 2 = field-below body _ 2 (a .0) (a .1) small (a .2) in
+    let u : a .0 ≡ f .fill .alpha = ap (λ k. k .fill .alpha) (done-same _ f (a .3)) in
+    omega arith
+
+fill-kept : (body : List ℕ) (k : Fill) (c : _) (bytes n : ℕ) (d : OverlayDescriptor) → inputsOf body k c bytes n ≡ done d → k ≡ d .«canvas_fill»
+unfolding inputsOf
+fill-kept body k c bytes n d e =
+    let i = refuse-done _ _ _ d e in
+    let j = refuse-done _ _ _ d (i .1) in
+    ap (λ (o : OverlayDescriptor). o .«canvas_fill») (done-same _ d (j .1))
+
+pub overlay-fill : (body : List ℕ) (n : ℕ) (d : OverlayDescriptor) → Bytes body → overlayOf body n ≡ done d → d .«canvas_fill» .alpha ≤ 65535
+unfolding overlayOf
+overlay-fill body n d small e =
+    let h = andThen-done _ _ d e in
+    let f = andThen-done _ _ d (h .2) in
+    let c = andThen-done _ _ d (f .2) in
+    rw (← fill-kept body (f .0 .fill) (c .0) (h .0 .bytes) n d (c .2)) (fill-small body (h .0 .next .at) (f .0) small (f .1))

@@ -94,7 +94,7 @@ side-cover true n w k l = let a = mul-le-mul-right k (twice w) in let e = mul-as
     twice w = omega arith
 side-cover false n w k l = l
 
-below : (x n w k : ℕ) → x < n → 0 < w → n ≤ w * k → x / w < k
+pub below : (x n w k : ℕ) → x < n → 0 < w → n ≤ w * k → x / w < k
 below x n w k l p h = div-lt-iff-lt-mul p .1 (omega (arith, mul-comm w k))
 
 -- the axes that a tile and the canvas halve are the same
@@ -102,7 +102,7 @@ halves-tile : (b : Bool) (m t : Form) → m .format .chroma ≡ t .format .chrom
 unfolding halvesX halvesY
 halves-tile b m t e = let q = tile-chroma b m t e in (ap (λ (n : ℕ). eqb n 1 || eqb n 2) q, ap (λ (n : ℕ). eqb n 1) q)
 
-tile-width : (b : Bool) (m : Form) → (tileForm b m .width ≡ m .width) × (tileForm b m .height ≡ m .height)
+pub tile-width : (b : Bool) (m : Form) → (tileForm b m .width ≡ m .width) × (tileForm b m .height ≡ m .height)
 unfolding tileForm pick as444
 tile-width true m = (refl, refl)
 tile-width false m = (refl, refl)

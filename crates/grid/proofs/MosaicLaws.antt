@@ -9,7 +9,7 @@ use lib.Arith.{digits-div, digits-mod}
 use lib.Dec.{T, eqb}
 use lib.ListN.{length}
 use borrow.Author.Tests.{eq-eqb, ne-eqb}
-use Rattle.laws.proofs.Order.{and-true, apart, by-equal, by-test, pick-both, pick-false, pick-true, true-and}
+use Rattle.laws.proofs.Order.{and-no, and-true, apart, by-equal, by-test, pick-both, pick-false, pick-true, true-and, within, within-true, within-yes}
 use Rattle.laws.specs.Pick.{pick}
 use Rattle.image.specs.Bytes.{headBytes}
 use Rattle.image.specs.Format.{columnsOf, hasPart, rowsOf}
@@ -20,7 +20,6 @@ use Rattle.image.specs.declared.format.Part.the-variants.{Alpha, Cb, Cr, Luma}
 use Rattle.grid.proofs.CellLaws.{visible-shows, visible-tile}
 use Rattle.grid.proofs.LaidLaws.{onPart-here, onPart-other, partNumber, samePart}
 use Rattle.grid.proofs.PasteLaws.{Meets, paste-form, pasteAt, pastePart, pasteTile, shows, tile-pasted}
-use Rattle.grid.proofs.StoreLaws.{within, within-true, within-yes}
 use Rattle.grid.specs.Cell.{storeTile, visibleOf}
 use Rattle.grid.specs.Mosaic.{laid, storeTiles, tileIndex}
 
@@ -86,10 +85,6 @@ pastes-form T columns (j ∷ js) P =
 paste-hidden : (T : Pic) (column row : ℕ) (p : Part) (P : Pic) (x y : ℕ) → shows (P .form) (T .form) column row p x y ≡ false → pasteAt T column row p P x y ≡ P .at p x y
 unfolding pasteAt
 paste-hidden T column row p P x y e = pick-false _ _ _ e
-
-and-false : (a : Bool) {b : Bool} → b ≡ false → (a && b) ≡ false
-and-false true e = e
-and-false false e = refl
 
 -- a cell that a place of a plane is in
 in-cell : (w i x : ℕ) → i * w ≤ x → x < i * w + w → (x / w ≡ i) × (x % w ≡ x - i * w)
@@ -190,7 +185,7 @@ module _ (c : Form) (T : ℕ → Pic) (columns : ℕ) (p : Part) (w h x y : ℕ)
           ∙ sym (pick-true _ _ _ (ap (λ (i : ℕ). hasPart (T i .form .format) p) (sym q) ∙ z)))
           (λ z.
           pick-false _ _ _ z ∙ before
-          ∙ pick-false _ _ _ (and-false (among (tileIndex columns w h x y) js) (ap (λ (i : ℕ). hasPart (T i .form .format) p) (sym q) ∙ z))
+          ∙ pick-false _ _ _ (and-no (among (tileIndex columns w h x y) js) (ap (λ (i : ℕ). hasPart (T i .form .format) p) (sym q) ∙ z))
           ∙ sym (pick-false _ _ _ (ap (λ (i : ℕ). hasPart (T i .form .format) p) (sym q) ∙ z)))
 
 -- ---- all of a grid's tiles, in turn

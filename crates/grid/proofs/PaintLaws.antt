@@ -7,7 +7,7 @@ use native.Mathlib.Nat.{mul-comm, suc-mul}
 use native.Mathlib.Omega.{arith}
 use lib.ListN.{length, length-append}
 use Rattle.laws.proofs.Order.{mul-below}
-use Rattle.laws.proofs.Span.{span-end, span-split, span-step}
+use Rattle.laws.proofs.Span.{span-end, span-shift, span-split, span-step}
 use Rattle.laws.specs.Span.{span}
 use Rattle.numbers.proofs.Number.{bytes-last}
 use Rattle.numbers.specs.Number.{numberBytes}
@@ -19,7 +19,6 @@ use Rattle.image.specs.Sound.{FormSound}
 use Rattle.image.specs.declared.format.Form.{Form}
 use Rattle.image.specs.declared.format.Part.{Part}
 use Rattle.image.specs.declared.format.Part.the-variants.{Alpha, Cb, Cr, Luma}
-use Rattle.grid.proofs.StoreLaws.{span-shift}
 use Rattle.grid.specs.Mosaic.{canvasBytes, evenPic, laid, plainAt, plainPic}
 use Rattle.grid.specs.Tiles.{withAlpha}
 

@@ -7,12 +7,12 @@ use native.Mathlib.Nat.{mul-assoc}
 use native.Mathlib.Omega.{arith}
 use lib.Dec.{T}
 use lib.ListN.{length}
-use Rattle.laws.proofs.Order.{by-equal, by-test, pick-both, pick-false, pick-true}
+use Rattle.laws.proofs.Order.{and-no, by-equal, by-test, pick-both, pick-false, pick-true, within, within-no}
 use Rattle.laws.proofs.Span.{span-cong}
 use Rattle.laws.specs.Pick.{pick}
 use Rattle.laws.specs.Puts.{puts}
 use Rattle.laws.specs.Span.{span}
-use Rattle.image.proofs.ByteLaws.{length-samplesOf}
+use Rattle.image.proofs.ByteLaws.{length-samplesOf, samples-same}
 use Rattle.image.proofs.FormLaws.{bytes-few}
 use Rattle.image.proofs.RoundTrip.{length-rowBytes, length-rowsBytes}
 use Rattle.image.specs.Bytes.{headBytes, rowBytes, rowsBytes, sampleBytes, samplesOf}
@@ -25,7 +25,7 @@ use Rattle.image.specs.declared.format.Part.the-variants.{Alpha, Cb, Cr, Luma}
 use Rattle.grid.proofs.CellFits.{above-le, before-le, cell-is, cell-low, cell-narrow, to-start}
 use Rattle.grid.proofs.CellLaws.{rows-none, visible-within}
 use Rattle.grid.proofs.LaidLaws.{afterPart, beforePart, laid-split, length-before, onPart, onPart-here, onPart-split}
-use Rattle.grid.proofs.StoreLaws.{rows-inside, rows-patch, samples-patch, within, within-no}
+use Rattle.grid.proofs.StoreLaws.{rows-inside, rows-patch, samples-patch}
 use Rattle.grid.specs.Cell.{cellOf, noCell, storeCell, storePart, storeRows, storeTile, visibleOf}
 use Rattle.grid.specs.Mosaic.{laid}
 use Rattle.grid.specs.declared.cell.Cell.{Cell}
@@ -58,19 +58,11 @@ rows-same : (P : Pic) (p : Part) (f : ℕ → ℕ → ℕ) → ((x y : ℕ) → 
 unfolding rowsBytes rowBytes samplesOf
 rows-same P p f e = onPart-rows P p f ∙ span-cong _ _ 0 (rowsOf (P .form) p) (λ y a b. span-cong _ _ 0 (columnsOf (P .form) p) (λ x c d. ap (sampleBytes (bytesOf (P .form .format))) (e x y)))
 
-and-no : (a : Bool) {b : Bool} → b ≡ false → (a && b) ≡ false
-and-no true e = e
-and-no false e = refl
-
 no-and : {a : Bool} (b : Bool) → a ≡ false → (a && b) ≡ false
 no-and b e = rw e
 
 yes-and : {a : Bool} (b : Bool) → a ≡ true → (a && b) ≡ b
 yes-and b e = rw e
-
-samples-same : (bytes : ℕ) (f g : ℕ → ℕ) (n : ℕ) → ((x : ℕ) → f x ≡ g x) → samplesOf bytes f n ≡ samplesOf bytes g n
-unfolding samplesOf
-samples-same bytes f g n e = span-cong _ _ 0 n (λ x a b. ap (sampleBytes bytes) (e x))
 
 rows-in-span : (P : Pic) (p : Part) (a c : ℕ) (g : ℕ → List ℕ) (k : ℕ) → ((i : ℕ) → c + length (g i) ≤ rowSize (P .form) p) → a + k ≤ rowsOf (P .form) p
     → storeRows (rowsBytes P p) (a * rowSize (P .form) p + c) (rowSize (P .form) p) g k
@@ -136,8 +128,8 @@ module _ (T P : Pic) (column row : ℕ) (p : Part) (ok : FormSound (P .form)) (h
       pick-true _ _ _ q
       ∙ ap₂ (λ (i b : ℕ). puts (samplesOf bytes (λ x. P .at p x y) (columnsOf c p)) i (samplesOf b (λ x. T .at p x (y - row * rowsOf t p)) visX)) row-place same
       ∙ samples-patch bytes (λ x. P .at p x y) (λ x. T .at p x (y - row * rowsOf t p)) (columnsOf c p) (column * columnsOf t p) visX (bytes-few (P .form .format) .0) (bytes-few (P .form .format) .1) l
-      ∙ samples-same bytes _ _ (columnsOf c p) (λ x. sym (row-in y q x)))
-      (λ q. pick-false _ _ _ q ∙ samples-same bytes _ _ (columnsOf c p) (λ x. sym (row-out y q x)))
+      ∙ samples-same bytes _ _ (columnsOf c p) (λ x l. sym (row-in y q x)))
+      (λ q. pick-false _ _ _ q ∙ samples-same bytes _ _ (columnsOf c p) (λ x l. sym (row-out y q x)))
 
   -- it shows
   shown : (visX ≡ 0 → ⊥) → (visY ≡ 0 → ⊥) → (h rest : List ℕ) → length h ≡ length (headBytes c)

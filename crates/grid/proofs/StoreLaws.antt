@@ -1,20 +1,20 @@
 -- Laws of rows and samples stored in the middle of others. Assumes nothing.
-use mathlib.Core.Bool.{Bool, _&&_, false, true}
+use mathlib.Core.Bool.{Bool, false, true}
 use mathlib.Core.List.{List, _++_, append-assoc}
 use mathlib.Core.Path.{_∙_, _≡_, ap, ap₂, refl, sym}
 use Prim.Native.Nat.{_*_, _+_, _-_, _<_, _≤_, suc, zero, ℕ}
 use native.Mathlib.Nat.{add-mul}
 use native.Mathlib.Omega.{arith}
-use lib.Dec.{eqb, leb, ltb}
+use lib.Dec.{eqb}
 use lib.ListN.{drop, length, length-append, length-drop, take, take-append-drop}
 use lib.Seq.{drop-drop, length-take-le}
-use borrow.Author.Tests.{eq-eqb, le-leb, le-ltb, lt-leb, lt-ltb, ne-eqb}
-use Rattle.laws.proofs.Order.{apart, by-equal, by-order, pick-both, pick-false, pick-true, true-and}
+use borrow.Author.Tests.{eq-eqb, ne-eqb}
+use Rattle.laws.proofs.Order.{by-equal, by-order, pick-both, pick-false, pick-true, within, within-no, within-yes}
 use Rattle.laws.proofs.Puts.{length-puts, puts-middle, puts-split}
-use Rattle.laws.proofs.Span.{length-span, length-span-all, span-cong, span-split, span-step}
+use Rattle.laws.proofs.Span.{length-span, length-span-all, span-cong, span-shift, span-split, span-step}
 use Rattle.laws.specs.Pick.{pick}
 use Rattle.laws.specs.Puts.{puts}
-use Rattle.laws.specs.Span.{run, span}
+use Rattle.laws.specs.Span.{span}
 use Rattle.image.proofs.ByteLaws.{length-sampleBytes}
 use Rattle.image.specs.Bytes.{sampleBytes, samplesOf}
 use Rattle.grid.proofs.CellLaws.{length-storeRows}
@@ -64,39 +64,6 @@ rows-inside a b c i stride f (suc k) h =
     ∙ puts-inside a (storeRows b i stride f k) c (f k) (i + k * stride) (omega (arith, h k (omega arith), length-storeRows b i stride f k))
 
 -- ---- in the middle of samples
-
--- n places from a on
-unfoldable pub within : ℕ → ℕ → ℕ → Bool
-within a n x = leb a x && ltb x (a + n)
-
-pub within-yes : (a n x : ℕ) → a ≤ x → x < a + n → within a n x ≡ true
-unfolding within
-within-yes a n x h l = true-and _ _ (le-leb a x h) (lt-ltb x (a + n) l)
-
-pub within-no : (a n x : ℕ) → (a ≤ x → x < a + n → ⊥) → within a n x ≡ false
-unfolding within
-within-no a n x h = by-order x a (λ l. rw (lt-leb a x l)) (λ l. by-order x (a + n) (λ m. absurd (h l m)) (λ m. rw (le-leb a x l, le-ltb x (a + n) m)))
-
-not-both {ℓ} : {X : Type ℓ} → _≡_ {A = Bool} false true → X
-not-both q = apart (cc)
-
-pub within-true : (a n x : ℕ) → within a n x ≡ true → (a ≤ x) × (x < a + n)
-within-true a n x e =
-    by-order x a (λ l. not-both (sym (within-no a n x (λ p q. omega arith)) ∙ e))
-    (λ l. by-order x (a + n) (λ m. (l, m)) (λ m. not-both (sym (within-no a n x (λ p q. omega arith)) ∙ e)))
-
-run-shift : (f : ℕ → List ℕ) (a k n : ℕ) → run f (a + k) n ≡ run (λ i. f (a + i)) k n
-unfolding run
-run-shift f a k zero = refl
-run-shift f a k (suc n) = let e : a + k + 1 ≡ a + (k + 1) = omega arith in ap (λ (q : List ℕ). f (a + k) ++ q) (ap (λ (j : ℕ). run f j n) e ∙ run-shift f a (k + 1) n)
-
-pub span-shift : (f : ℕ → List ℕ) (a n : ℕ) → span f a (a + n) ≡ span (λ i. f (a + i)) 0 n
-unfolding span
-span-shift f a n =
-    let e : a + n - a ≡ n = omega arith in
-    let z : n - 0 ≡ n = omega arith in
-    let o : a ≡ a + 0 = omega arith in
-    ap₂ (run f) o e ∙ run-shift f a 0 n ∙ ap (run (λ i. f (a + i)) 0) (sym z)
 
 -- k items of one length in the place of as many
 span-patch : (f g : ℕ → List ℕ) (m n a k : ℕ) → ((i : ℕ) → length (f i) ≡ m) → ((i : ℕ) → length (g i) ≡ m) → a + k ≤ n

@@ -51,6 +51,10 @@ pub length-samplesOf : (bytes : ℕ) (f : ℕ → ℕ) (n : ℕ) → 1 ≤ bytes
 unfolding samplesOf
 length-samplesOf bytes f n l h = length-span-all (λ x. sampleBytes bytes (f x)) bytes n (λ x. length-sampleBytes bytes (f x) l h)
 
+pub samples-same : (bytes : ℕ) (f g : ℕ → ℕ) (n : ℕ) → ((j : ℕ) → j < n → f j ≡ g j) → samplesOf bytes f n ≡ samplesOf bytes g n
+unfolding samplesOf
+samples-same bytes f g n h = span-cong _ _ 0 n (λ j a b. ap (sampleBytes bytes) (h j b))
+
 pub length-lineBytes : (d : List ℕ) (bytes : ℕ) (l : Line) (n : ℕ) → 1 ≤ bytes → bytes ≤ 2 → length (lineBytes d bytes l n) ≡ n * bytes
 unfolding lineBytes
 length-lineBytes d bytes l n a b = length-samplesOf bytes (λ k. sampleAt d bytes (placeOn l k)) n a b

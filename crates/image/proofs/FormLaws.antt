@@ -1,14 +1,14 @@
 -- Laws of formats: the bounds of tops, sides and rows. Assumes nothing.
-use mathlib.Core.Bool.{Bool, false, true}
+use mathlib.Core.Bool.{Bool, _||_, false, true}
 use mathlib.Core.Path.{_∙_, _≡_, ap, sym}
 use Prim.Native.Nat.{_%_, _*_, _-_, _<_, _^_, _≤_, suc, ℕ}
 use native.Mathlib.Nat.{le-trans, pow-suc}
 use native.Mathlib.Omega.{arith}
-use lib.Dec.{leb}
+use lib.Dec.{eqb, leb}
 use lib.Pow.{pow-mono, pow-pos}
 use Rattle.laws.proofs.Order.{by-test, mul-below}
 use Rattle.laws.specs.Pick.{pick}
-use Rattle.image.specs.Format.{bytesOf, columnsOf, cover, halfX, halfY, middleOf, rowSize, rowsOf, sideOf, topOf}
+use Rattle.image.specs.Format.{bytesOf, columnsOf, cover, halfX, halfY, halved, halvesX, halvesY, middleOf, rowSize, rowsOf, sideOf, topOf}
 use Rattle.image.specs.Sound.{FormSound}
 use Rattle.image.specs.declared.format.Form.{Form}
 use Rattle.image.specs.declared.format.Part.{Part}
@@ -92,3 +92,8 @@ module _ (m : Form) (ok : FormSound m) where
       let a = mul-below (m .width) 2 (columnsOf m p) (bytesOf (m .format)) (columns-le p) (bytes-few (m .format) .1) in
       let b = mul-below (m .height) (m .width * 2) (rowsOf m p) (columnsOf m p * bytesOf (m .format)) (rows-le p) a in
       omega (arith, ok .area)
+
+-- formats of one chroma halve the same axes
+pub like-halved : (f g : PixelFormat) (p : Part) → g .chroma ≡ f .chroma → (halfX g p ≡ halfX f p) × (halfY g p ≡ halfY f p)
+unfolding halvesX halvesY
+like-halved f g p e = (ap (λ (c : ℕ). halved (eqb c 1 || eqb c 2) p) e, ap (λ (c : ℕ). halved (eqb c 1) p) e)

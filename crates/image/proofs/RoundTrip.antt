@@ -11,7 +11,7 @@ use borrow.Author.Tests.{eq-eqb, le-ltb, ne-eqb}
 use Rattle.laws.proofs.Order.{by-equal, by-test, pick-false, pick-true}
 use Rattle.laws.proofs.Out.{refuse-no, then-done}
 use Rattle.laws.proofs.Span.{item-at, length-span-all, span-cong}
-use Rattle.laws.specs.Out.{done}
+use Rattle.laws.specs.Out.{done, fitted}
 use Rattle.laws.specs.Pick.{pick}
 use Rattle.numbers.proofs.Number.{at-head, number-at, past-append}
 use Rattle.numbers.specs.Number.{numberBytes, onNumber}
@@ -282,6 +282,44 @@ pub record Agree (P Q : Pic) : Type 0 where
   pub form : P .form ≡ Q .form
   pub reads : (p : Part) → hasPart (P .form .format) p ≡ true → (x y : ℕ) → x < columnsOf (P .form) p → y < rowsOf (P .form) p → P .at p x y ≡ Q .at p x y
 
+pub agree-self : (P : Pic) → Agree P P
+agree-self P = record { form = refl; reads = λ p h x y a b. refl }
+
+pub agree-sym : (P Q : Pic) → Agree P Q → Agree Q P
+agree-sym P Q a =
+    let e = sym (a .form) in
+    record {
+      form = e;
+      reads = λ p h x y i j.
+          sym (a .reads p (ap (λ (m : Form). hasPart (m .format) p) (a .form) ∙ h) x y
+          (rw (← e) i) (rw (← e) j));
+    }
+
+pub agree-trans : (P Q R : Pic) → Agree P Q → Agree Q R → Agree P R
+agree-trans P Q R a b =
+    let e = a .form in
+    record {
+      form = a .form ∙ b .form;
+      reads = λ p h x y i j. a .reads p h x y i j ∙ b .reads p (ap (λ (m : Form). hasPart (m .format) p) (sym e) ∙ h) x y (rw (← e) i) (rw (← e) j);
+    }
+
+-- a picture of a sound form whose samples fit their bytes
+pub record Tame (P : Pic) : Type 0 where
+  pub sound : FormSound (P .form)
+  pub small : (p : Part) → hasPart (P .form .format) p ≡ true → (x y : ℕ) → x < columnsOf (P .form) p → y < rowsOf (P .form) p
+      → P .at p x y < 256 ^ bytesOf (P .form .format)
+
+pub agree-tame : (P Q : Pic) → Agree P Q → Tame P → Tame Q
+agree-tame P Q a k =
+    let b = agree-sym P Q a in
+    let e = b .form in
+    record {
+      sound = rw e (k .sound);
+      small = λ p h x y i j.
+          let s = k .small p (ap (λ (m : Form). hasPart (m .format) p) (a .form) ∙ h) x y (rw (← e) i) (rw (← e) j) in
+          rw (b .reads p h x y i j, e) s;
+    }
+
 module _ (m : Form) (f g : Part → ℕ → ℕ → ℕ) where
   pub plane-agree : (p : Part) → ((x y : ℕ) → hasPart (m .format) p ≡ true → x < columnsOf m p → y < rowsOf m p → f p x y ≡ g p x y)
       → planeBytes (record { form = m; at = f }) p ≡ planeBytes (record { form = m; at = g }) p
@@ -304,6 +342,10 @@ encode-agree P Q a = go ∙ ap (λ (m : Form). encode (record { form = m; at = Q
 
     go : encode P ≡ encode (record { form = P .form; at = Q .at })
     go = rw (each Luma, each Cb, each Cr, each Alpha)
+
+-- a run ends as the picture that agrees with its own
+pub drawn-as : (room : ℕ) (A B : Pic) → Agree A B → fitted room (encode B) ≡ fitted room (encode A)
+drawn-as room A B a = ap (fitted room) (sym (encode-agree A B a))
 
 -- THE READ-BACK LAW: what was encoded is taken where it stands, and shows the picture
 pub decode-encode : (P : Pic) → FormSound (P .form) → Small P → (s : List ℕ) (at : ℕ) (rest : List ℕ) → drop at s ≡ encode P ++ rest

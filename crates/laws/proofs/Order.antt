@@ -5,6 +5,8 @@ use Prim.Native.Nat.{ℕ, _+_, _-_, _*_, _≤_, _<_}
 use native.Mathlib.Nat.{lt-of-not-le, mul-le-mul, mul-le-mul-right, suc-mul}
 use native.Mathlib.Decide.{decLe, ℕ-discrete}
 use native.Mathlib.Omega.{arith}
+use lib.Dec.{leb, ltb}
+use borrow.Author.Tests.{le-leb, le-ltb, lt-leb, lt-ltb}
 use Rattle.laws.specs.Pick.{pick}
 
 pub by-order {ℓ} : {X : Type ℓ} (a b : ℕ) → (a < b → X) → (b ≤ a → X) → X
@@ -58,6 +60,10 @@ and-true false c e = (e, cc)
 pub true-and : (b c : Bool) → b ≡ true → c ≡ true → (b && c) ≡ true
 true-and b c p q = rw (p, q)
 
+pub and-no : (a : Bool) {b : Bool} → b ≡ false → (a && b) ≡ false
+and-no true e = e
+and-no false e = refl
+
 pub bool-same : (a b : Bool) → (a ≡ true → b ≡ true) → (b ≡ true → a ≡ true) → a ≡ b
 bool-same true b f g = sym (f refl)
 bool-same false true f g = g refl
@@ -75,3 +81,27 @@ item-within i n m h =
 
 pub positive : (n : ℕ) → (n ≡ 0 → ⊥) → 1 ≤ n
 positive n h = omega arith
+
+-- ---- n places from a on
+
+unfoldable pub within : ℕ → ℕ → ℕ → Bool
+within a n x = leb a x && ltb x (a + n)
+
+pub within-yes : (a n x : ℕ) → a ≤ x → x < a + n → within a n x ≡ true
+unfolding within
+within-yes a n x h l = true-and _ _ (le-leb a x h) (lt-ltb x (a + n) l)
+
+pub within-no : (a n x : ℕ) → (a ≤ x → x < a + n → ⊥) → within a n x ≡ false
+unfolding within
+within-no a n x h = by-order x a (λ l. rw (lt-leb a x l)) (λ l. by-order x (a + n) (λ m. absurd (h l m)) (λ m. rw (le-leb a x l, le-ltb x (a + n) m)))
+
+pub within-none : (a x : ℕ) → within a 0 x ≡ false
+within-none a x = within-no a 0 x (λ p q. omega arith)
+
+not-both {ℓ} : {X : Type ℓ} → _≡_ {A = Bool} false true → X
+not-both q = apart (cc)
+
+pub within-true : (a n x : ℕ) → within a n x ≡ true → (a ≤ x) × (x < a + n)
+within-true a n x e =
+    by-order x a (λ l. not-both (sym (within-no a n x (λ p q. omega arith)) ∙ e))
+    (λ l. by-order x (a + n) (λ m. (l, m)) (λ m. not-both (sym (within-no a n x (λ p q. omega arith)) ∙ e)))

@@ -43,6 +43,12 @@ pub refuse-yes : {A : Type 0} {t : Bool} (n : ℕ) (o : Out A) → t ≡ true �
 unfolding refuse
 refuse-yes n o e = ap (λ b. refuse b n o) e
 
+-- a test before a run is a test before all of it
+pub then-refuse : {A B : Type 0} (t : Bool) (n : ℕ) (o : Out A) (f : A → Out B) → andThen (refuse t n o) f ≡ refuse t n (andThen o f)
+unfolding refuse andThen
+then-refuse true n o f = refl
+then-refuse false n o f = refl
+
 -- ---- a run that answered: each step of it did
 
 pub andThen-done : {A B : Type 0} (o : Out A) (f : A → Out B) (b : B) → andThen o f ≡ done b → (a : A) × (o ≡ done a) × (f a ≡ done b)
@@ -60,6 +66,12 @@ done-same a b e = cc
 
 pub not-done {ℓ} : {A : Type 0} {X : Type ℓ} (r : Refusal) (a : A) → _≡_ {A = Out A} (refused r) (done a) → X
 not-done r a e = apart (cc)
+
+-- where what follows never refuses, the run itself did
+pub refused-back : {A B : Type 0} (o : Out A) (g : A → B) (r : Refusal) → andThen o (λ a. done (g a)) ≡ refused r → o ≡ refused r
+unfolding andThen
+refused-back (refused s) g r e = cc
+refused-back (done a) g r e = not-done r (g a) (sym e)
 
 -- ---- what holds of answers
 
@@ -105,6 +117,19 @@ pub then-same : {A B C D : Type 0} (R : A → B → Type 0) (S : C → D → Typ
 unfolding andThen
 then-same R S o u f g alike k = alike
 then-same R S o u f g (both {a = a} {b = b} r) k = k a b r
+
+-- how one of the two ended says how the other did
+pub same-left : {A B : Type 0} (R : A → B → Type 0) (o : Out A) (u : Out B) → Same R o u → (a : A) → o ≡ done a → (b : B) × (u ≡ done b) × R a b
+same-left R _ _ alike a e = not-done _ a e
+same-left R _ _ (both {a = c} {b = b} r) a e = (b, refl, rw (← done-same c a e) r)
+
+pub same-done : {A B : Type 0} (R : A → B → Type 0) (o : Out A) (u : Out B) → Same R o u → (b : B) → u ≡ done b → (a : A) × (o ≡ done a) × R a b
+same-done R _ _ alike b e = not-done _ b e
+same-done R _ _ (both {a = a} {b = c} r) b e = (a, refl, rw (← done-same c b e) r)
+
+pub same-refused : {A B : Type 0} (R : A → B → Type 0) (o : Out A) (u : Out B) → Same R o u → (r : Refusal) → o ≡ refused r → u ≡ refused r
+same-refused R _ _ (alike {r = q}) r e = let p : q ≡ r = cc in ap refused p
+same-refused R _ _ (both {a = a} {b = b} k) r e = not-done r a (sym e)
 
 -- ---- what is written
 

@@ -60,6 +60,20 @@ span-split f k i n h l =
     let z : k + (i - k) ≡ i = omega arith in
     ap (run f k) e ∙ run-split f k (i - k) (n - i) ∙ ap (λ (j : ℕ). run f k (i - k) ++ run f j (n - i)) z
 
+run-shift : (f : ℕ → List ℕ) (a k n : ℕ) → run f (a + k) n ≡ run (λ i. f (a + i)) k n
+unfolding run
+run-shift f a k zero = refl
+run-shift f a k (suc n) = let e : a + k + 1 ≡ a + (k + 1) = omega arith in ap (λ (q : List ℕ). f (a + k) ++ q) (ap (λ (j : ℕ). run f j n) e ∙ run-shift f a (k + 1) n)
+
+-- n items from item a on
+pub span-shift : (f : ℕ → List ℕ) (a n : ℕ) → span f a (a + n) ≡ span (λ i. f (a + i)) 0 n
+unfolding span
+span-shift f a n =
+    let e : a + n - a ≡ n = omega arith in
+    let z : n - 0 ≡ n = omega arith in
+    let o : a ≡ a + 0 = omega arith in
+    ap₂ (run f) o e ∙ run-shift f a 0 n ∙ ap (run (λ i. f (a + i)) 0) (sym z)
+
 -- item i of a list of items of m bytes that stands in s from a place on
 pub item-at : (s : List ℕ) (at : ℕ) (f : ℕ → List ℕ) (m n : ℕ) (rest : List ℕ) → ((i : ℕ) → length (f i) ≡ m) → drop at s ≡ span f 0 n ++ rest
     → (i : ℕ) → i < n → drop (at + i * m) s ≡ f i ++ (span f (i + 1) n ++ rest)

@@ -16,6 +16,7 @@ use Rattle.image.specs.declared.format.Form.{Form}
 use Rattle.image.specs.declared.format.Part.{Part}
 use Rattle.image.specs.declared.format.Part.the-variants.{Alpha, Cb, Cr, Luma}
 use Rattle.image.specs.declared.format.PixelFormat.{PixelFormat}
+use Rattle.image.proofs.FormLaws.{like-halved}
 use Rattle.overlay.proofs.CoveredLaws.{whole-pixel}
 use Rattle.overlay.proofs.ReachLaws.{covers-facts, facts-covers}
 use Rattle.overlay.specs.Overlay.{Layer, allLaid, alphaOf, base, covers, coversAt, ground, laid, laidAt, oddAcross, oddDown, oddOffset, otherChroma, overlayForm, overlayPic, placeAt, promotes, sampleOf, seeThrough, settled, some, spotAt}
@@ -131,10 +132,6 @@ unfolding isMono halvesX halvesY
 mono-whole f p e =
     let z = eqb-true (f .chroma) 0 e in
     (ap (λ (c : ℕ). halved (eqb c 1 || eqb c 2) p) z ∙ halved-not p, ap (λ (c : ℕ). halved (eqb c 1) p) z ∙ halved-not p)
-
-like-halved : (f g : PixelFormat) (p : Part) → g .chroma ≡ f .chroma → (halfX g p ≡ halfX f p) × (halfY g p ≡ halfY f p)
-unfolding halvesX halvesY
-like-halved f g p e = (ap (λ (c : ℕ). halved (eqb c 1 || eqb c 2) p) e, ap (λ (c : ℕ). halved (eqb c 1) p) e)
 
 alpha-alike : (hX hY : Bool) (l : Layer) (top x y : ℕ) → (hX ≡ false) × (hY ≡ false) → alphaOf top l (base hX (cover hX x)) (base hY (cover hY y)) ≡ alphaOf top l x y
 unfolding base cover

@@ -1,8 +1,8 @@
 -- A plane's rows one after the other are one run of samples. Assumes nothing.
 use mathlib.Core.Bool.{Bool}
 use mathlib.Core.List.{List, _++_, append-nil}
-use mathlib.Core.Path.{_∙_, _≡_, ap, ap₂, refl, sym}
-use Prim.Native.Nat.{_%_, _*_, _+_, _-_, _/_, _<_, _^_, _≤_, suc, zero, ℕ}
+use mathlib.Core.Path.{_∙_, _≡_, ap, ap₂, sym}
+use Prim.Native.Nat.{_%_, _*_, _+_, _/_, _<_, _^_, _≤_, suc, zero, ℕ}
 use native.Mathlib.Nat.{suc-mul}
 use native.Mathlib.Omega.{arith}
 use lib.Arith.{digits-div, digits-mod}
@@ -11,10 +11,10 @@ use lib.Pow.{pow-mono}
 use borrow.Author.Tests.{le-ltb}
 use Rattle.laws.proofs.Order.{mul-below}
 use Rattle.laws.proofs.Out.{refuse-no}
-use Rattle.laws.proofs.Span.{span-cong, span-end, span-split, span-step}
+use Rattle.laws.proofs.Span.{span-cong, span-end, span-shift, span-split, span-step}
 use Rattle.laws.specs.Out.{done}
 use Rattle.laws.specs.Puts.{puts}
-use Rattle.laws.specs.Span.{run, span}
+use Rattle.laws.specs.Span.{span}
 use Rattle.image.proofs.FormLaws.{columns-le, columns-some, rows-le, width-le}
 use Rattle.image.specs.Bytes.{encode, rowBytes, rowsBytes, sampleBytes, samplesOf}
 use Rattle.image.specs.Format.{bytesOf, columnsOf, halfX, halfY, rowsOf, topOf}
@@ -23,6 +23,7 @@ use Rattle.image.specs.declared.format.Form.{Form}
 use Rattle.image.specs.declared.format.Part.{Part}
 use Rattle.image.specs.declared.format.Part.the-variants.{Alpha}
 use Rattle.image.specs.declared.format.PixelFormat.{PixelFormat}
+use Rattle.image.proofs.ByteLaws.{samples-same}
 use Rattle.fill.specs.Fill.{fillOf, nclxOf, partOf, ycbcrOf}
 use Rattle.fill.specs.declared.Colour.{Colour}
 use Rattle.fill.specs.declared.Ycbcr.{Ycbcr}
@@ -31,22 +32,6 @@ use Rattle.overlay.proofs.FrameLaws.{wide}
 use Rattle.overlay.specs.Block.{StripeFits}
 use Rattle.overlay.specs.Overlay.{Layer, allLaid, base, ground, overlayPic, placeAt, settled}
 use Rattle.overlay.specs.Run.{fillPart}
-
-run-shift : (f : ℕ → List ℕ) (a k n : ℕ) → run f (a + k) n ≡ run (λ x. f (a + x)) k n
-unfolding run
-run-shift f a k zero = refl
-run-shift f a k (suc n) =
-    let z : a + k + 1 ≡ a + (k + 1) = omega arith in
-    ap (λ (l : List ℕ). f (a + k) ++ l) (ap (λ (m : ℕ). run f m n) z ∙ run-shift f a (k + 1) n)
-
--- the items from a on
-pub span-shift : (f : ℕ → List ℕ) (a n : ℕ) → span f a (a + n) ≡ span (λ x. f (a + x)) 0 n
-unfolding span
-span-shift f a n =
-    let e : a + n - a ≡ n = omega arith in
-    let z : a + 0 ≡ a = omega arith in
-    let y : n - 0 ≡ n = omega arith in
-    ap (run f a) e ∙ ap (λ (m : ℕ). run f m n) (sym z) ∙ run-shift f a 0 n ∙ ap (run (λ x. f (a + x)) 0) (sym y)
 
 pub flat-rows : (bytes : ℕ) (f : ℕ → ℕ → ℕ) (c n : ℕ) → 1 ≤ c
     → span (λ y. samplesOf bytes (λ x. f x y) c) 0 n ≡ span (λ q. sampleBytes bytes (f (q % c) (q / c))) 0 (n * c)
@@ -72,10 +57,6 @@ unfolding samplesOf
 flat-next bytes g start count total h =
     span-split _ start (start + count) total (omega arith) h
     ∙ ap (λ (l : List ℕ). l ++ span (λ q. sampleBytes bytes (g q)) (start + count) total) (span-shift (λ q. sampleBytes bytes (g q)) start count)
-
-pub samples-same : (bytes : ℕ) (f g : ℕ → ℕ) (n : ℕ) → ((j : ℕ) → j < n → f j ≡ g j) → samplesOf bytes f n ≡ samplesOf bytes g n
-unfolding samplesOf
-samples-same bytes f g n h = span-cong _ _ 0 n (λ j a b. ap (sampleBytes bytes) (h j b))
 
 pub samples-as : (b b′ : ℕ) (f g : ℕ → ℕ) (n : ℕ) → b ≡ b′ → ((j : ℕ) → j < n → f j ≡ g j) → samplesOf b f n ≡ samplesOf b′ g n
 samples-as b b′ f g n e h = ap (λ (k : ℕ). samplesOf k f n) e ∙ samples-same b′ f g n h

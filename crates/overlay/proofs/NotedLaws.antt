@@ -9,7 +9,7 @@ use native.Mathlib.Omega.{arith}
 use lib.Dec.{eqb}
 use lib.ListN.{length, length-append}
 use borrow.Author.Tests.{eq-eqb, ne-eqb}
-use Rattle.laws.proofs.Out.{refuse-no, refuse-yes, then-done, then-refused}
+use Rattle.laws.proofs.Out.{refuse-no, refuse-yes, then-done, then-refuse, then-refused}
 use Rattle.laws.specs.Out.{Out, andThen, done, reason, refuse, refused}
 use Rattle.laws.specs.declared.Refusal.{Refusal}
 use Rattle.image.proofs.TrayLaws.{frames-end, frames-left, frames-next, frames-refused}
@@ -100,11 +100,6 @@ preceded-end seen n s at h l = then-done _ (frames-end n s at h l) ∙ ap done (
 
 -- ---- the plan
 
-then-refuse : {A B : Type 0} (t : Bool) (n : ℕ) (a : A) (g : A → B) → andThen (refuse t n (done a)) (λ q. done (g q)) ≡ refuse t n (done (g a))
-unfolding andThen refuse
-then-refuse true n a g = refl
-then-refuse false n a g = refl
-
 pub plan-body : (body tray list : List ℕ) (n first : ℕ) (r : Refusal) → overlayOf body n ≡ refused r → planAt body tray list n first ≡ refused r
 unfolding planAt inputsAt
 plan-body body tray list n first r e = then-refused _ (then-refused _ e)
@@ -167,7 +162,7 @@ module _ (body tray list : List ℕ) (d : OverlayDescriptor) (first : ℕ) (f : 
       ≡ andThen o (λ frs. notedPlan d first f (allNoted body d f (nothingNoted d) 0 frs))
   unfolding andThen
   frames-plan (refused r) h = refl
-  frames-plan (done frs) h = then-refuse _ 14 (taken frs) (planOf body tray list first) ∙ noted-plan frs (h frs refl)
+  frames-plan (done frs) h = then-refuse _ 14 (done (taken frs)) (λ q. done (planOf body tray list first q)) ∙ noted-plan frs (h frs refl)
 
   -- ---- what reading comes to, refusal by refusal
 

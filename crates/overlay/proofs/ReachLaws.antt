@@ -69,9 +69,6 @@ in-row q r c h l =
     (ap (λ (n : ℕ). n / c) e ∙ digits-div r k, ap (λ (n : ℕ). n % c) e ∙ digits-mod r k)
 
 -- a row before another ends before it begins
-pub row-before : (a b c : ℕ) → a < b → a * c + c ≤ b * c
-row-before a b c h = item-within a b c h
-
 pub row-above : (q r c : ℕ) → 1 ≤ c → q / c < r → q < r * c
 row-above q r c h l = let e = row-column q c h in omega (arith, item-within (q / c) r c l)
 

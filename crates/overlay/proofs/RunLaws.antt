@@ -1,5 +1,5 @@
 -- The run step by step: what holds of a plan that was read, and what is left to answer. Assumes nothing.
-use mathlib.Core.Bool.{Bool}
+use mathlib.Core.Bool.{Bool, false}
 use mathlib.Core.List.{List}
 use mathlib.Core.Path.{_∙_, _≡_, ap, ap₂, sym}
 use Prim.Native.Nat.{_<_, _≤_, suc, zero, ℕ}
@@ -9,7 +9,7 @@ use lib.ListN.{length}
 use lib.Pow.{high, low}
 use borrow.Author.Tests.{eqb-false, eqb-true, not-false}
 use Rattle.laws.proofs.Order.{pick-le, positive}
-use Rattle.laws.proofs.Out.{andThen-done, done-same, not-done, refuse-done, then-done, then-refused}
+use Rattle.laws.proofs.Out.{andThen-done, done-same, refuse-done, refused-back, then-done, then-refused}
 use Rattle.laws.specs.Out.{Out, andThen, done, fitted, reason, refuse, refused}
 use Rattle.laws.specs.declared.Refusal.{Refusal}
 use Rattle.numbers.specs.Number.{onNumber, readNumber}
@@ -26,19 +26,15 @@ use Rattle.image.specs.declared.record.Frame.{Frame}
 use Rattle.fill.specs.declared.Colour.{Colour}
 use Rattle.derived.proofs.Taken.{overlay-taken}
 use Rattle.derived.specs.Sound.{OverlaySound}
+use Rattle.derived.specs.Overlay.{overlayOf}
 use Rattle.overlay.proofs.FrameLaws.{frames-from, tall, wide}
 use Rattle.overlay.specs.Block.{PlanSound, framesFrom, layersAt}
 use Rattle.overlay.specs.Overlay.{overlayForm, overlayPic, some}
 use Rattle.overlay.specs.Plan.{planAt, planOf}
-use Rattle.overlay.specs.Run.{Inputs, alphaAbove, composed, composedForm, fillFor, firstForm, firstFormat, inputsAt, layersOf, overlayRun}
+use Rattle.overlay.specs.Run.{Inputs, alphaAbove, composed, composedForm, fillFor, firstForm, firstFormat, inputsAt, layersOf, otherDepth, overlayRun}
 use Rattle.overlay.specs.declared.inputs.Plan.{Plan}
 
-pub refused-back : {A B : Type 0} (o : Out A) (g : A → B) (r : Refusal) → andThen o (λ a. done (g a)) ≡ refused r → o ≡ refused r
-unfolding andThen
-refused-back (refused s) g r e = cc
-refused-back (done a) g r e = not-done r (g a) (sym e)
-
-frames-sound : (n : ℕ) (s : List ℕ) (at : ℕ) (frs : List Frame) → 0 < n → framesAt n s at ≡ done frs → FormSound (firstForm frs)
+pub frames-sound : (n : ℕ) (s : List ℕ) (at : ℕ) (frs : List Frame) → 0 < n → framesAt n s at ≡ done frs → FormSound (firstForm frs)
 unfolding framesAt firstForm
 frames-sound zero s at frs h e = absurd (not-suc-le-zero h)
 frames-sound (suc n) s at frs h e =
@@ -49,11 +45,13 @@ frames-sound (suc n) s at frs h e =
 module _ (body tray list : List ℕ) (n at : ℕ) where
   -- what was taken
   pub record Took (q : Inputs) : Type 0 where
+    pub body-read : overlayOf body n ≡ done (q .descriptor)
     pub offsets : OverlaySound body (q .descriptor)
     pub count : q .descriptor .count ≡ n
     pub any : 0 < n
     pub many : length list ≡ n
     pub frames : framesAt n tray at ≡ done (q .frames)
+    pub depths : some (otherDepth (firstFormat (q .frames))) (q .frames) ≡ false
 
   took-as : (q q′ : Inputs) → q ≡ q′ → Took q → Took q′
   took-as q q′ e k = rw e at k
@@ -67,7 +65,7 @@ module _ (body tray list : List ℕ) (n at : ℕ) where
       let d = andThen-done _ _ q (c .1) in
       let f = refuse-done _ _ _ q (d .2) in
       let o = overlay-taken body n (a .0) (a .1) in
-      took-as _ q (done-same _ q (f .1)) (record { offsets = o .0; count = o .1; any = positive n (eqb-false n 0 (b .0)); many = eqb-true _ _ (not-false _ (c .0)); frames = d .1 })
+      took-as _ q (done-same _ q (f .1)) (record { body-read = a .1; offsets = o .0; count = o .1; any = positive n (eqb-false n 0 (b .0)); many = eqb-true _ _ (not-false _ (c .0)); frames = d .1; depths = f .0 })
 
   module _ (q : Inputs) (k : Took q) where
     form-taken : FormSound (composedForm body tray list q)

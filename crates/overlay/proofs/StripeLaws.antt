@@ -4,11 +4,11 @@ use mathlib.Core.List.{List}
 use mathlib.Core.Path.{_∙_, _≡_, ap, ap₂, refl, sym}
 use Prim.Native.Nat.{_%_, _*_, _+_, _-_, _/_, _<_, _≤_, max, min, ℕ}
 use native.Mathlib.Omega.{arith}
-use lib.Dec.{eqb, leb, ltb}
+use lib.Dec.{eqb, ltb}
 use lib.ListN.{getD, length, set}
 use lib.Seq.{getD-set-other, getD-set-same}
-use borrow.Author.Tests.{eq-eqb, le-leb, le-ltb, lt-leb, lt-ltb, ne-eqb}
-use Rattle.laws.proofs.Order.{by-equal, by-order, by-test, pick-false, pick-true, true-and}
+use borrow.Author.Tests.{eq-eqb, le-ltb, lt-ltb, ne-eqb}
+use Rattle.laws.proofs.Order.{and-no, by-equal, by-order, by-test, pick-false, pick-true, true-and, within, within-no, within-yes}
 use Rattle.laws.specs.Out.{done, refused}
 use Rattle.laws.specs.Pick.{pick}
 use Rattle.laws.specs.Span.{run}
@@ -37,27 +37,6 @@ use Rattle.overlay.specs.declared.blend.Stretch.{Stretch}
 use Rattle.overlay.specs.declared.blend.Stripe.{Stripe}
 
 -- ---- a range of a list
-
-abbrev pub within : ℕ → ℕ → ℕ → Bool
-within k n j = leb k j && ltb j (k + n)
-
-pub within-yes : (k n j : ℕ) → k ≤ j → j < k + n → within k n j ≡ true
-within-yes k n j h l = true-and _ _ (le-leb k j h) (lt-ltb j (k + n) l)
-
-and-no : (a b : Bool) → b ≡ false → (a && b) ≡ false
-and-no true b e = e
-and-no false b e = refl
-
-pub within-no : (k n j : ℕ) → (k ≤ j → j < k + n → ⊥) → within k n j ≡ false
-within-no k n j f =
-    by-order j k (λ l. ap (λ (b : Bool). b && ltb j (k + n)) (lt-leb k j l))
-    (λ l. by-order j (k + n) (λ m. absurd (f l m)) (λ m. and-no (leb k j) (ltb j (k + n)) (le-ltb j (k + n) m)))
-
-pub within-none : (k j : ℕ) → within k 0 j ≡ false
-within-none k j = within-no k 0 j none
-  where
-    none : k ≤ j → j < k + 0 → ⊥
-    none h l = omega arith
 
 -- one more of the range stored
 module _ (acc₀ acc : List ℕ) (k i v : ℕ) (g : ℕ → ℕ → ℕ) (room : k + i < length acc)
@@ -154,7 +133,7 @@ module _ (tray : List ℕ) (fr : Frame) (place : Placement) (pm : Bool) (p : Par
   after-left j v e = after-out j v (ap (λ (b : Bool). b && down (rowOf j)) e)
 
   pub after-above : (j v : ℕ) → down (rowOf j) ≡ false → after j v ≡ v
-  after-above j v e = after-out j v (and-no (across j) (down (rowOf j)) e)
+  after-above j v e = after-out j v (and-no (across j) e)
 
   -- ---- in row r
 

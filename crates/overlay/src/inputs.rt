@@ -39,16 +39,10 @@ pub(crate) struct Noted {
     odd_down: bool,
 }
 
-fn is_odd(n: u32) -> bool
-    ensures { λ r. ⌜ r ≡ odd n ⌝ }
-{
-    n % 2 == 1
-}
-
 fn odd_offset(o: Offset) -> bool
     ensures { λ r. ⌜ r ≡ oddOffset o ⌝ }
 {
-    image::either(is_odd(o.ahead), is_odd(o.behind))
+    image::either(image::is_odd(o.ahead), image::is_odd(o.behind))
 }
 
 // One input more, beside the first one's format.
@@ -56,8 +50,8 @@ fn note(so_far: Noted, first: PixelFormat, form: Form, place: Placement) -> Note
     ensures { λ r. ⌜ r ≡ noted «so_far» first form place ⌝ }
 {
     let f = form.format;
-    let across = image::either(odd_offset(place.horizontal), is_odd(form.width));
-    let down = image::either(odd_offset(place.vertical), is_odd(form.height));
+    let across = image::either(odd_offset(place.horizontal), image::is_odd(form.width));
+    let down = image::either(odd_offset(place.vertical), image::is_odd(form.height));
     Noted {
         other_depth: image::either(so_far.other_depth, f.depth != first.depth),
         other_chroma: image::either(so_far.other_chroma, f.chroma != first.chroma),
@@ -115,8 +109,8 @@ fn read_frames(
         other_depth: false,
         other_chroma: false,
         alpha: false,
-        odd_across: is_odd(d.output_width),
-        odd_down: is_odd(d.output_height),
+        odd_across: image::is_odd(d.output_width),
+        odd_down: image::is_odd(d.output_height),
     };
     while i < count {
         match image::read_record(tray, at) {

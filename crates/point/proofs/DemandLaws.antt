@@ -7,12 +7,12 @@ use Rattle.laws.proofs.Out.{Holds, holds-map, refuse-no}
 use Rattle.laws.specs.Out.{Out, done, refuse}
 use Rattle.numbers.specs.Number.{readNumber}
 use Rattle.numbers.specs.declared.NumberRead.the-variants.{Number}
+use Rattle.image.proofs.RoundTrip.{Tame}
 use Rattle.image.specs.Bytes.{Bytes}
 use Rattle.image.specs.Format.{topOf}
 use Rattle.image.specs.Picture.{Pic}
 use Rattle.image.specs.Sound.{FormSound}
 use Rattle.fill.specs.declared.Colour.{Colour}
-use Rattle.derived.proofs.Taken.{overlay-taken}
 use Rattle.derived.specs.Sound.{CanvasSound}
 use Rattle.props.proofs.ChainLaws.{Applied}
 use Rattle.props.specs.Chain.{chainAt}
@@ -26,7 +26,7 @@ use Rattle.grid.specs.Run.{gridOn}
 use Rattle.grid.specs.Tiles.{tilesAt}
 use Rattle.grid.specs.declared.tiles.Tiles.{Tiles}
 use Rattle.overlay.specs.Overlay.{some}
-use Rattle.transform.proofs.Carried.{Tame}
+use Rattle.overlay.proofs.RunLaws.{Took, took}
 use Rattle.scene.proofs.AfterLaws.{tame-back}
 use Rattle.scene.proofs.ComposedLaws.{grid-tame, overlay-tame}
 use Rattle.scene.proofs.CourseLaws.{chain-tame}
@@ -35,7 +35,7 @@ use Rattle.scene.specs.Scene.{gridDrawn, gridScene, overlayDrawn, overlayScene}
 use Rattle.point.proofs.AlikeLaws.{grid-blind, overlay-blind}
 use Rattle.point.proofs.Chained.{ReadsBack, chain-agrees, chain-once}
 use Rattle.point.proofs.GridShown.{grid-even, grid-form, grid-once, grid-reads, grid-sides, tiles-records}
-use Rattle.point.proofs.OverlayShown.{Took, inputs-records, none-above, overlay-even, overlay-once, overlay-reads, overlay-sides, took}
+use Rattle.point.proofs.OverlayShown.{inputs-records, none-above, overlay-even, overlay-once, overlay-reads, overlay-sides}
 use Rattle.point.proofs.Runs.{Agrees, Once, agrees-as, agrees-number, agrees-then, once-as, once-number, once-then, unscaled}
 use Rattle.point.specs.Demand.{GridDemand, NoAlpha, NoScaling, OverlayDemand}
 use Rattle.point.specs.Point.{gridNames, gridPoint, overlayNames, overlayPoint, pointOn, seeThroughFrame}
@@ -91,18 +91,18 @@ module _ (body tray list : List ℕ) (colour : Colour) (bytes : Bytes body) (fla
   abbrev overlaid : Pic
   overlaid = composed body tray list colour q
 
-  inputs : Took body tray n at q
+  inputs : Took body tray list n at q
   inputs = took body tray list n at q taken
 
   opaque : some seeThroughFrame (q .frames) ≡ false
-  opaque = ap (some seeThroughFrame) (sym (inputs-records body tray n at q number inputs)) ∙ none
+  opaque = ap (some seeThroughFrame) (sym (inputs-records body tray list n at q number inputs)) ∙ none
 
   -- the canvas has places
   canvas-sides : (overlaid .form .width ≡ q .descriptor .«output_width») × (overlaid .form .height ≡ q .descriptor .«output_height»)
   canvas-sides = overlay-sides body tray list colour q
 
   canvas : CanvasSound (overlaid .form .width) (overlaid .form .height)
-  canvas = rw (canvas-sides .0, canvas-sides .1) (overlay-taken body n (q .descriptor) (inputs .body-read) .0 .canvas)
+  canvas = rw (canvas-sides .0, canvas-sides .1) (inputs .offsets .canvas)
 
   abbrev overlayPointed : ℕ → ℕ → Out Point
   overlayPointed x y = pointOn es flag (q .descriptor .«output_width») (q .descriptor .«output_height») x y (overlayNames body q)

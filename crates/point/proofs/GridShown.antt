@@ -1,13 +1,12 @@
 -- The composed grid reads, at each place of its canvas, what is read at the tile and the spot that the place names; no two places name
 -- one spot; its halved sides are even. Assumes nothing.
-use mathlib.Core.Bool.{Bool, _||_, false, true}
+use mathlib.Core.Bool.{Bool, false, true}
 use mathlib.Core.List.{List, [], _∷_}
 use mathlib.Core.Path.{_∙_, _≡_, ap, ap₂, refl, sym}
-use Prim.Native.Nat.{_%_, _*_, _+_, _-_, _/_, _<_, _^_, _≤_, ℕ}
-use native.Mathlib.Nat.{div-add-mod, div-div-eq-div-mul, div-lt-iff-lt-mul, mul-comm}
+use Prim.Native.Nat.{_%_, _*_, _+_, _-_, _/_, _<_, _^_, ℕ}
+use native.Mathlib.Nat.{div-add-mod, div-div-eq-div-mul}
 use native.Mathlib.Omega.{arith}
 use lib.Arith.{digits-div, digits-lt, digits-mod}
-use lib.Dec.{eqb}
 use lib.ListN.{getD}
 use borrow.Author.Tests.{eqb-true, not-false}
 use Rattle.laws.proofs.Order.{by-test, or-left, or-right, pick-false, pick-true}
@@ -16,6 +15,7 @@ use Rattle.laws.specs.Out.{done}
 use Rattle.laws.specs.Pick.{pick}
 use Rattle.numbers.specs.Number.{readNumber}
 use Rattle.numbers.specs.declared.NumberRead.the-variants.{Number}
+use Rattle.image.proofs.FormLaws.{like-halved}
 use Rattle.image.proofs.PictureLaws.{evenX-of, evenY-of, evenly-part, full-pixel, promote-pixel}
 use Rattle.image.proofs.TrayLaws.{tray-number}
 use Rattle.image.specs.Bytes.{decode}
@@ -31,7 +31,7 @@ use Rattle.image.specs.declared.record.Frame.{Frame}
 use Rattle.derived.specs.declared.grid.GridDescriptor.{GridDescriptor}
 use Rattle.transform.specs.Place.{Place}
 use Rattle.sight.proofs.Agreement.{covered}
-use Rattle.grid.proofs.Composed.{canvas-chroma, mono-same, promotes-colour, tile-chroma, tile-depth}
+use Rattle.grid.proofs.Composed.{below, canvas-chroma, mono-same, promotes-colour, tile-chroma, tile-depth, tile-width}
 use Rattle.grid.proofs.Suited.{tile-parts, tilePic-form}
 use Rattle.grid.specs.Cell.{tileForm, tilePic}
 use Rattle.grid.specs.Mosaic.{gridPic, mosaicAt, opaqueAt, tileIndex}
@@ -75,10 +75,6 @@ mosaic-pixel T columns m p e x y =
 
 -- ---- one tile
 
-same-halves : (f g : PixelFormat) (p : Part) → f .chroma ≡ g .chroma → (halfX f p ≡ halfX g p) × (halfY f p ≡ halfY g p)
-unfolding halvesX halvesY
-same-halves f g p e = (ap (λ (c : ℕ). halved (eqb c 1 || eqb c 2) p) e, ap (λ (c : ℕ). halved (eqb c 1) p) e)
-
 tile-pixel : (b : Bool) (P : Pic) (p : Part) (x y : ℕ) → hasPart (P .form .format) p ≡ true → pixel (tilePic b P) p x y ≡ full P p x y
 unfolding tilePic pick
 tile-pixel true P p x y h = promote-pixel P p x y
@@ -108,7 +104,7 @@ module _ (b : Bool) (P : Pic) (f : PixelFormat) (chroma : f .chroma ≡ tilePic 
   plane-reads : (p : Part) → hasPart (P .form .format) p ≡ true → opaqueAt (tilePic b P) p (cover (halfX f p) x) (cover (halfY f p) y) ≡ full P p x y
   unfolding opaqueAt
   plane-reads p h =
-      let k = same-halves (tilePic b P .form .format) f p (sym chroma) in
+      let k = like-halved f (tilePic b P .form .format) p (sym chroma) in
       pick-true _ _ _ (has-part p ∙ h)
       ∙ covered (tilePic b P) p _ _ x y (record { across = ap (λ (z : Bool). cover z x) (k .0); down = ap (λ (z : Bool). cover z y) (k .1) })
       ∙ tile-pixel b P p x y h
@@ -134,11 +130,6 @@ module _ (b : Bool) (P : Pic) (f : PixelFormat) (chroma : f .chroma ≡ tilePic 
 
 -- ---- the canvas
 
-tile-sides : (b : Bool) (m : Form) → (tileForm b m .width ≡ m .width) × (tileForm b m .height ≡ m .height)
-unfolding tileForm pick as444
-tile-sides true m = (refl, refl)
-tile-sides false m = (refl, refl)
-
 tile-even : (b : Bool) (m : Form) → (b ≡ false → Even m) → Even (tileForm b m)
 unfolding tileForm pick as444 halvesX halvesY Evenly
 tile-even true m f = record { evenX = tt; evenY = tt }
@@ -161,9 +152,9 @@ unfolding canvasForm promotesOf sized
 canvas-even g t a =
     alpha-even _ a (tile-even (promotesOf g t) (sized t (g .«output_width») (g .«output_height»)) (λ e. sides-even (t .format) (g .«output_width») (g .«output_height») (or-right (needs444 (t .format) (odd (t .width)) (odd (t .height))) _ e)))
 
-canvas-sides : (g : GridDescriptor) (t : Form) (a : ℕ) → (canvasForm g t a .width ≡ g .«output_width») × (canvasForm g t a .height ≡ g .«output_height»)
+pub canvas-sides : (g : GridDescriptor) (t : Form) (a : ℕ) → (canvasForm g t a .width ≡ g .«output_width») × (canvasForm g t a .height ≡ g .«output_height»)
 unfolding canvasForm withAlpha sized
-canvas-sides g t a = tile-sides (promotesOf g t) (sized t (g .«output_width») (g .«output_height»))
+canvas-sides g t a = tile-width (promotesOf g t) (sized t (g .«output_width») (g .«output_height»))
 
 pub grid-even : (tray : List ℕ) (t : Tiles) → Even (gridOn tray t .form)
 unfolding gridOn gridPic
@@ -196,9 +187,6 @@ tiles-records body tray n at t c e =
     (ap₂ (λ (i j : ℕ). framesAt i tray j) (ap countOf (k .0) ∙ sym m) (k .1) ∙ sym (tray-number tray n at c))
 
 -- ---- the whole
-
-below : (x n w k : ℕ) → x < n → 0 < w → n ≤ w * k → x / w < k
-below x n w k l p h = div-lt-iff-lt-mul p .1 (omega (arith, mul-comm w k))
 
 tile-in-chroma : (tray : List ℕ) (frs : List Frame) (i : ℕ) → tileIn tray frs i .form .format .chroma ≡ getD frs i noFrame .form .format .chroma
 unfolding tileIn decode
@@ -255,8 +243,8 @@ module _ (tray : List ℕ) (t : Tiles) (ok : TilesTaken tray t) where
   grid-reads e p h l lx ly =
       let c = canvasForm (t .desc) (t .tile) (t .alpha) in
       let m = tileForm promoted (t .tile) in
-      let k = same-halves (c .format) (m .format) p (canvas-chroma (t .desc) (t .tile) (t .alpha)) in
-      let s = tile-sides promoted (t .tile) in
+      let k = like-halved (m .format) (c .format) p (canvas-chroma (t .desc) (t .tile) (t .alpha)) in
+      let s = tile-width promoted (t .tile) in
       let i = l .y / t .tile .height * t .desc .columns + l .x / t .tile .width in
       ap₂ (λ (a b : Bool). mosaicAt shownTile (t .desc .columns) m p (cover a (l .x)) (cover b (l .y))) (k .0) (k .1)
       ∙ mosaic-pixel shownTile (t .desc .columns) m p (first-even (t .desc) (t .tile)) (l .x) (l .y)

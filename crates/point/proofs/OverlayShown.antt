@@ -7,10 +7,9 @@ use Prim.Native.Nat.{_+_, _-_, _<_, _^_, _≤_, min, ℕ}
 use native.Mathlib.Omega.{arith}
 use lib.Dec.{ltb}
 use lib.ListN.{drop, getD, length}
-use borrow.Author.Tests.{eq-eqb, eqb-false, eqb-true, not-false}
-use Rattle.laws.proofs.Order.{and-true, apart, by-test, or-left, or-right, pick-false, pick-true, positive}
-use Rattle.laws.proofs.Out.{andThen-done, done-same, refuse-done}
-use Rattle.laws.specs.Out.{Out, done}
+use borrow.Author.Tests.{eq-eqb, eqb-true, not-false}
+use Rattle.laws.proofs.Order.{and-true, apart, by-test, or-left, or-right, pick-false, pick-true}
+use Rattle.laws.specs.Out.{Out}
 use Rattle.laws.specs.Pick.{pick}
 use Rattle.numbers.specs.Number.{readNumber}
 use Rattle.numbers.specs.declared.NumberRead.the-variants.{Number}
@@ -20,8 +19,6 @@ use Rattle.image.proofs.TrayLaws.{frames-length, tray-number}
 use Rattle.image.specs.Bytes.{Bytes, decode}
 use Rattle.image.specs.Format.{halvesX, halvesY, hasAlpha, isMono, topOf}
 use Rattle.image.specs.Picture.{Even, Evenly, odd, pixel}
-use Rattle.image.specs.Sound.{FormSound}
-use Rattle.image.specs.Tray.{framesAt}
 use Rattle.image.specs.declared.format.Part.{Part}
 use Rattle.image.specs.declared.format.Part.the-variants.{Alpha, Cb, Cr, Luma}
 use Rattle.image.specs.declared.format.PixelFormat.{PixelFormat}
@@ -29,14 +26,13 @@ use Rattle.image.specs.declared.record.Frame.{Frame}
 use Rattle.fill.specs.Fill.{fillAlphaOf}
 use Rattle.point.specs.Read.{fillOf, inputIn, overlayReads, readAt, recordsIn}
 use Rattle.fill.specs.declared.Colour.{Colour}
-use Rattle.derived.proofs.FieldLaws.{field-below}
-use Rattle.derived.proofs.Taken.{onField-done}
-use Rattle.derived.specs.Overlay.{fillAt, inputsOf, overlayOf, placementAt}
+use Rattle.derived.proofs.Taken.{overlay-fill}
+use Rattle.derived.specs.Overlay.{overlayOf, placementAt}
 use Rattle.derived.specs.declared.overlay.OverlayDescriptor.{OverlayDescriptor}
 use Rattle.transform.specs.Place.{Place}
-use Rattle.overlay.specs.Run.{Inputs, alphaAbove, composed, composedForm, fillFor, firstForm, firstFormat, inputsAt, layerOf, layersOf, otherDepth}
+use Rattle.overlay.proofs.RunLaws.{Took, frames-sound}
+use Rattle.overlay.specs.Run.{Inputs, alphaAbove, composed, composedForm, fillFor, firstFormat, layerOf, layersOf, otherDepth}
 use Rattle.grid.proofs.Composed.{drop-head}
-use Rattle.grid.proofs.GridLaws.{frames-sound}
 use Rattle.grid.specs.Run.{noFrame, takenOf}
 use Rattle.overlay.proofs.FlatLaws.{top-some}
 use Rattle.overlay.proofs.ReachLaws.{covers-facts}
@@ -84,56 +80,10 @@ overlay-sides body tray list colour q = (refl, refl)
 
 -- ---- what was taken
 
--- the fill's alpha has two bytes
-pub fill-alpha-small : (body : List ℕ) (n : ℕ) (d : OverlayDescriptor) → Bytes body → overlayOf body n ≡ done d → d .«canvas_fill» .alpha ≤ 65535
-unfolding overlayOf fillAt inputsOf Bytes
-fill-alpha-small body n d small e =
-    let h = andThen-done _ _ d e in
-    let f = andThen-done _ _ d (h .2) in
-    let r = onField-done _ _ (f .0) (f .1) in
-    let g = onField-done _ _ (f .0) (r .3) in
-    let b = onField-done _ _ (f .0) (g .3) in
-    let a = onField-done _ _ (f .0) (b .3) in
-    let c = andThen-done _ _ d (f .2) in
-    let i = refuse-done _ _ _ d (c .2) in
-    let j = refuse-done _ _ _ d (i .1) in
-    let s : a .0 < 256 ^ 2 = field-below body _ 2 (a .0) (a .1) small (a .2) in
-    let u : a .0 ≡ f .0 .fill .alpha = ap (λ k. k .fill .alpha) (done-same _ (f .0) (a .3)) in
-    let v : f .0 .fill .alpha ≡ d .«canvas_fill» .alpha = ap (λ k. k .«canvas_fill» .alpha) (done-same _ d (j .1)) in
-    omega arith
-
--- a body and a tray's records
-pub record Took (body tray : List ℕ) (n at : ℕ) (q : Inputs) : Type 0 where
-  pub body-read : overlayOf body n ≡ done (q .descriptor)
-  pub frames-read : framesAt n tray at ≡ done (q .frames)
-  pub any : 0 < n
-  pub depths : some (otherDepth (firstFormat (q .frames))) (q .frames) ≡ false
-
-took-as : (body tray : List ℕ) (n at : ℕ) (q q′ : Inputs) → q ≡ q′ → Took body tray n at q → Took body tray n at q′
-took-as body tray n at q q′ e k = rw e at k
-
-pub took : (body tray list : List ℕ) (n at : ℕ) (q : Inputs) → inputsAt body tray list n at ≡ done q → Took body tray n at q
-unfolding inputsAt
-took body tray list n at q e =
-    let a = andThen-done _ _ q e in
-    let b = refuse-done _ _ _ q (a .2) in
-    let c = refuse-done _ _ _ q (b .1) in
-    let d = andThen-done _ _ q (c .1) in
-    let f = refuse-done _ _ _ q (d .2) in
-    took-as body tray n at _ q (done-same _ q (f .1)) (record { body-read = a .1; frames-read = d .1; any = positive n (eqb-false n 0 (b .0)); depths = f .0 })
-
 -- the records of the tray are the inputs
-pub inputs-records : (body tray : List ℕ) (n at : ℕ) (q : Inputs) → readNumber tray 0 ≡ Number n at → Took body tray n at q → recordsIn tray ≡ q .frames
+pub inputs-records : (body tray list : List ℕ) (n at : ℕ) (q : Inputs) → readNumber tray 0 ≡ Number n at → Took body tray list n at q → recordsIn tray ≡ q .frames
 unfolding recordsIn takenOf
-inputs-records body tray n at q c k = ap takenOf (tray-number tray n at c ∙ k .frames-read)
-
-first-form : (frs : List Frame) → firstForm frs ≡ getD frs 0 noFrame .form
-unfolding firstForm noFrame
-first-form [] = refl
-first-form (fr ∷ frs) = refl
-
-first-sound : (n : ℕ) (s : List ℕ) (at : ℕ) (frs : List Frame) → 0 < n → framesAt n s at ≡ done frs → FormSound (firstForm frs)
-first-sound n s at frs h e = rw (first-form frs) (frames-sound n s at frs e 0 (rw (frames-length n s at frs e) h) .form)
+inputs-records body tray list n at q c k = ap takenOf (tray-number tray n at c ∙ k .frames)
 
 -- no alpha sample is above top where there is none
 pub none-above : (tray : List ℕ) (top : ℕ) (frs : List Frame) → some seeThroughFrame frs ≡ false → some (alphaAbove tray top) frs ≡ false
@@ -219,23 +169,23 @@ module _ (body tray list : List ℕ) (colour : Colour) (q : Inputs) (l : Place) 
 
 -- ---- the whole
 
-reads-are : (body tray list : List ℕ) (colour : Colour) (n at : ℕ) (q : Inputs) (l : Place) → recordsIn tray ≡ q .frames → Took body tray n at q → (named : Named) (p : Part) → reads body tray list colour q l named p ≡ overlayReads body tray colour named p
+reads-are : (body tray list : List ℕ) (colour : Colour) (n at : ℕ) (q : Inputs) (l : Place) → recordsIn tray ≡ q .frames → Took body tray list n at q → (named : Named) (p : Part) → reads body tray list colour q l named p ≡ overlayReads body tray colour named p
 unfolding reads overlayReads inputIn fillOf
 reads-are body tray list colour n at q l e k Named.Fill p =
-    let m : length (recordsIn tray) ≡ n = ap length e ∙ frames-length n tray at (q .frames) (k .frames-read) in
+    let m : length (recordsIn tray) ≡ n = ap length e ∙ frames-length n tray at (q .frames) (k .frames) in
     sym (ap₂ (λ (o : Out OverlayDescriptor) (frs : List Frame). fillOf o (firstFormat frs .depth) colour p) (ap (overlayOf body) m ∙ k .body-read) e)
 reads-are body tray list colour n at q l e k (Named.Spot j) p = rw e refl
 
 -- each place of the canvas reads what is read at the input and the spot that it names, or the fill
-pub overlay-reads : (body tray list : List ℕ) (colour : Colour) (n at : ℕ) (q : Inputs) → Bytes body → readNumber tray 0 ≡ Number n at → Took body tray n at q → some seeThroughFrame (q .frames) ≡ false
+pub overlay-reads : (body tray list : List ℕ) (colour : Colour) (n at : ℕ) (q : Inputs) → Bytes body → readNumber tray 0 ≡ Number n at → Took body tray list n at q → some seeThroughFrame (q .frames) ≡ false
     → (p : Part) (l : Place) → pixel (composed body tray list colour q) p (l .x) (l .y) ≡ overlayReads body tray colour (overlayNames body q l) p
 unfolding topOf
 overlay-reads body tray list colour n at q small c k none p l =
-    let m = first-sound n tray at (q .frames) (k .any) (k .frames-read) in
+    let m = frames-sound n tray at (q .frames) (k .any) (k .frames) in
     place-reads body tray list colour q l
-    (fill-low (q .descriptor .«canvas_fill») (firstFormat (q .frames) .depth) colour (fill-alpha-small body n (q .descriptor) small (k .body-read)) (m .low) (m .high))
+    (fill-low (q .descriptor .«canvas_fill») (firstFormat (q .frames) .depth) colour (overlay-fill body n (q .descriptor) small (k .body-read)) (m .low) (m .high))
     (top-some (firstFormat (q .frames)) (m .low)) none (k .depths) p
-    ∙ reads-are body tray list colour n at q l (inputs-records body tray n at q c k) k (overlayNames body q l) p
+    ∙ reads-are body tray list colour n at q l (inputs-records body tray list n at q c k) k (overlayNames body q l) p
 
 -- ---- no two places name one spot
 

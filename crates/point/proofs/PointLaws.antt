@@ -6,8 +6,8 @@ use Prim.Native.Nat.{_*_, _+_, _-_, _/_, _<_, _^_, _≤_, ℕ}
 use native.Mathlib.Nat.{div-lt-iff-lt-mul, mul-comm}
 use native.Mathlib.Omega.{arith}
 use borrow.Author.Tests.{leb-false, not-false, not-true}
-use Rattle.laws.proofs.Order.{mul-below, pick-both, pick-false, pick-true, true-and}
-use Rattle.laws.proofs.Out.{andThen-done, done-same, holds-done, not-done, refuse-done, refuse-no, refuse-yes, then-done, then-refused}
+use Rattle.laws.proofs.Order.{mul-below, pick-false, pick-true, true-and}
+use Rattle.laws.proofs.Out.{andThen-done, done-same, holds-done, refuse-done, refuse-no, refuse-yes, refused-back, then-done, then-refused}
 use Rattle.laws.specs.Out.{Out, andThen, done, reason, refuse, refused}
 use Rattle.laws.specs.Pick.{pick}
 use Rattle.laws.specs.declared.Refusal.{Refusal}
@@ -15,14 +15,11 @@ use Rattle.numbers.specs.Number.{onNumber, readNumber}
 use Rattle.numbers.specs.declared.NumberRead.the-variants.{Malformed, Number}
 use Rattle.image.specs.Bytes.{Bytes, decode}
 use Rattle.image.specs.Format.{hasAlpha}
-use Rattle.image.specs.Picture.{as444, sized}
 use Rattle.image.specs.Record.{recordAt}
-use Rattle.image.specs.declared.format.Form.{Form}
 use Rattle.image.specs.declared.record.Frame.{Frame}
 use Rattle.derived.proofs.Taken.{overlay-taken}
 use Rattle.derived.specs.Overlay.{placementAt}
 use Rattle.derived.specs.Sound.{OverlaySound}
-use Rattle.derived.specs.declared.grid.GridDescriptor.{GridDescriptor}
 use Rattle.derived.specs.declared.overlay.OverlayDescriptor.{OverlayDescriptor}
 use Rattle.derived.specs.declared.overlay.Placement.{Placement}
 use Rattle.props.proofs.ChainLaws.{judged-chain, judged-refused}
@@ -37,8 +34,7 @@ use Rattle.sight.specs.Sight.{Bounded, back, placeOf, sightOf}
 use Rattle.sight.specs.declared.CanvasPlace.{CanvasPlace}
 use Rattle.sight.specs.declared.Sight.{Sight}
 use Rattle.grid.proofs.GridLaws.{tiles-taken}
-use Rattle.grid.specs.Cell.{tileForm}
-use Rattle.grid.specs.Tiles.{canvasForm, promotesOf, tilesOf, withAlpha}
+use Rattle.grid.specs.Tiles.{tilesOf}
 use Rattle.grid.specs.declared.tiles.Tiles.{Tiles}
 use Rattle.overlay.proofs.FrameLaws.{frames-from, from-next, from-refused}
 use Rattle.overlay.specs.Block.{framesFrom}
@@ -46,6 +42,7 @@ use Rattle.overlay.specs.Overlay.{covers, seeThrough, some, spotAt}
 use Rattle.overlay.specs.Plan.{planAt, planOf}
 use Rattle.overlay.specs.Run.{Inputs, inputsAt, layerOf, layersOf}
 use Rattle.overlay.specs.declared.inputs.Plan.{Plan}
+use Rattle.point.proofs.GridShown.{canvas-sides}
 use Rattle.point.specs.Point.{gridNames, gridPoint, liesOver, overlayNames, overlayPoint, pointOn, seeThroughFrame, spotUnder, topmostFrom}
 use Rattle.point.specs.Seen.{Tiled, placeIn, seenOn}
 use Rattle.point.specs.declared.Named.{Named}
@@ -183,10 +180,6 @@ module _ (body tray : List ℕ) (d : OverlayDescriptor) (l : Place) (i at : ℕ)
 
 -- ---- the grid's point, step by step
 
-canvas-size : (g : GridDescriptor) (t : Form) (a : ℕ) → (canvasForm g t a .width ≡ g .«output_width») × (canvasForm g t a .height ≡ g .«output_height»)
-unfolding canvasForm withAlpha tileForm sized as444
-canvas-size g t a = (pick-both (λ (m : Form). m .width ≡ g .«output_width») (promotesOf g t) _ _ refl refl, pick-both (λ (m : Form). m .height ≡ g .«output_height») (promotesOf g t) _ _ refl refl)
-
 module _ (body tray chain : List ℕ) (flag : Bool) (x y : ℕ) where
   pub grid-malformed : readNumber tray 0 ≡ Malformed → refused (reason 5) ≡ gridPoint body tray chain flag x y
   unfolding gridPoint onNumber
@@ -225,7 +218,7 @@ module _ (body tray chain : List ℕ) (flag : Bool) (x y : ℕ) where
         grid-tiled b k e =
             let j = judged-chain chain 0 c judged in
             let g = tiles-taken body tray t b taken in
-            let z = canvas-size (t .desc) (t .tile) (t .alpha) in
+            let z = canvas-sides (t .desc) (t .tile) (t .alpha) in
             let u = seen-in (j .0 .entries) flag _ _ x y k (omega (arith, z .0, g .canvas .wide)) (omega (arith, z .1, g .canvas .tall)) (sym (then-done _ (j .0 .read)) ∙ e) in
             record {
               wide = g .tile .wide;
@@ -242,11 +235,6 @@ some-see : (body tray list : List ℕ) (d : OverlayDescriptor) (i : ℕ) (frs : 
 unfolding some layersOf layerOf seeThrough seeThroughFrame decode
 some-see body tray list d i [] = refl
 some-see body tray list d i (fr ∷ frs) = ap (λ (b : Bool). hasAlpha (fr .form .format) || b) (some-see body tray list d (i + 1) frs)
-
-refused-back : {A B : Type 0} (o : Out A) (g : A → B) (r : Refusal) → andThen o (λ a. done (g a)) ≡ refused r → o ≡ refused r
-unfolding andThen
-refused-back (refused s) g r e = cc
-refused-back (done a) g r e = not-done r (g a) (sym e)
 
 module _ (body tray list : List ℕ) (n at : ℕ) where
   abbrev Taken : Inputs → Type 0

@@ -14,7 +14,7 @@ use Rattle.laws.specs.Pick.{pick}
 use Rattle.laws.specs.declared.Refusal.{Refusal}
 use Rattle.image.proofs.FormLaws.{columns-le, columns-some, rows-le, rows-some}
 use Rattle.image.proofs.RecordLaws.{whole-sound}
-use Rattle.image.proofs.RoundTrip.{Agree, encode-agree}
+use Rattle.image.proofs.RoundTrip.{Agree, drawn-as}
 use Rattle.image.specs.Bytes.{decode, encode}
 use Rattle.image.specs.Format.{columnsOf, halvesX, halvesY, hasAlpha, hasPart, isMono, rowsOf}
 use Rattle.image.specs.Picture.{Pic, sized}
@@ -37,10 +37,6 @@ use Rattle.resample.specs.Nearest.{nearest, sameSize}
 use Rattle.resample.specs.Redraw.{RedrawFits, RuleFits, ScaleFits, acrossOf, downOf, redrawn, rowAt, rowOf, ruleAt}
 use Rattle.resample.specs.Run.{areaBytes, depthBytes, depthRun, isclRun, nearestBytes, nearestRun}
 use Rattle.resample.specs.declared.write.Rule.{Rule}
-
--- a run ends as the picture that agrees with its own
-drawn-as : (room : ℕ) (A B : Pic) → Agree A B → fitted room (encode B) ≡ fitted room (encode A)
-drawn-as room A B a = ap (fitted room) (sym (encode-agree A B a))
 
 -- the rule of another depth, or of the same
 abbrev pub nearRule : ℕ → ℕ → Rule

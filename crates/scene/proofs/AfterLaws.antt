@@ -10,7 +10,7 @@ use Rattle.laws.proofs.Out.{Holds, Same, alike, both, done-holds, holds-done, t
 use Rattle.laws.specs.Out.{Out, andThen, done, refused}
 use Rattle.laws.specs.Pick.{pick}
 use Rattle.image.proofs.FormLaws.{bytes-cases}
-use Rattle.image.proofs.RoundTrip.{Agree, Small, decode-encode, encode-agree, encode-back}
+use Rattle.image.proofs.RoundTrip.{Agree, Small, Tame, agree-sym, agree-tame, agree-trans, decode-encode, encode-agree, encode-back}
 use Rattle.image.specs.Bytes.{decode, encode, tightAt}
 use Rattle.image.specs.Format.{hasPart}
 use Rattle.image.specs.Picture.{Pic, odd, sized}
@@ -26,7 +26,7 @@ use Rattle.props.specs.declared.clap.Clap.{Clap}
 use Rattle.props.specs.declared.entry.Property.{Property}
 use Rattle.props.specs.declared.iscl.Iscl.{Iscl}
 use Rattle.props.specs.declared.size.Size.{Size}
-use Rattle.transform.proofs.Carried.{Tame, agree-sym, agree-tame, agree-trans, crop-made, draws-agree, draws-form, draws-tame, mirror-made, turn-agree, turn-form, turn-tame}
+use Rattle.transform.proofs.Carried.{crop-made, draws-agree, draws-form, draws-tame, mirror-made, turn-agree, turn-form, turn-tame}
 use Rattle.transform.specs.Move.{cropMove, mirrorMove}
 use Rattle.transform.specs.Run.{turnBytes}
 use Rattle.transform.specs.Turn.{Quarter, crop, mirror, q0, q1, q2, q3, quarterOf, turn}

@@ -9,7 +9,7 @@ use lib.ListN.{drop, drop-of-length-le, length, length-append, length-drop, leng
 use lib.Seq.{length-take-le, take-at}
 use borrow.Author.Tests.{le-ltb, lt-ltb}
 use Rattle.laws.proofs.Order.{and-true, by-order, by-test, pick-false, pick-true}
-use Rattle.laws.proofs.Out.{Same, alike, andThen-done, both, done-same, fitted-room, not-done, then-done}
+use Rattle.laws.proofs.Out.{andThen-done, done-same, fitted-room, same-done, then-done}
 use Rattle.laws.proofs.Puts.{puts-split}
 use Rattle.laws.proofs.Span.{span-end, span-step}
 use Rattle.laws.specs.Out.{Out, andThen, answerOf, done, fitted, refused, written}
@@ -17,6 +17,7 @@ use Rattle.laws.specs.Pick.{pick}
 use Rattle.laws.specs.Puts.{puts}
 use Rattle.laws.specs.Span.{span}
 use Rattle.laws.specs.declared.Answer.{Answer}
+use Rattle.image.proofs.RoundTrip.{Tame}
 use Rattle.image.specs.Bytes.{encode, sampleBytes, samplesOf}
 use Rattle.image.specs.Picture.{Pic}
 use Rattle.image.specs.Record.{recordOf}
@@ -30,7 +31,6 @@ use Rattle.props.specs.declared.entry.Irot.{Irot}
 use Rattle.props.specs.declared.entry.Property.{Property}
 use Rattle.props.specs.declared.entry.PropertyEntry.{PropertyEntry}
 use Rattle.props.specs.declared.iscl.Iscl.{Iscl}
-use Rattle.transform.proofs.Carried.{Tame}
 use Rattle.transform.specs.Run.{clapRun, imirRun, irotRun}
 use Rattle.sight.specs.Chain.{picAfter}
 use Rattle.resample.specs.Run.{isclRun}
@@ -48,10 +48,6 @@ longer-first a b = by-order a b (λ l. rw (pick-true _ b a (lt-ltb a b l)) (omeg
 pub longer-second : (a b : ℕ) → b ≤ longer a b
 unfolding longer
 longer-second a b = by-order a b (λ l. rw (pick-true _ b a (lt-ltb a b l)) (omega arith)) (λ l. rw (pick-false _ b a (le-ltb a b l)) l)
-
-pub same-done : {A B : Type 0} (R : A → B → Type 0) (o : Out A) (u : Out B) → Same R o u → (b : B) → u ≡ done b → (a : A) × (o ≡ done a) × R a b
-same-done R _ _ alike b e = not-done _ b e
-same-done R _ _ (both {a = a} {b = c} r) b e = (a, refl, rw (← done-same c b e) r)
 
 -- one entry of a chain that is drawn
 record Step (flag : Bool) (e : PropertyEntry) (P : Pic) (l : ℕ) (b : Drawn) : Type 0 where

@@ -1,7 +1,7 @@
 -- The composed picture of a grid or an overlay that was taken has a sound form and samples that fit their bytes. Assumes nothing.
 use mathlib.Core.Bool.{Bool, false, true}
 use mathlib.Core.List.{List}
-use mathlib.Core.Path.{_≡_, ap, refl}
+use mathlib.Core.Path.{_≡_, refl}
 use Prim.Native.Nat.{_-_, _<_, _^_, _≤_, ℕ}
 use native.Mathlib.Omega.{arith}
 use lib.Dec.{leb}
@@ -9,13 +9,14 @@ use lib.ListN.{List·getD-eq-default, getD}
 use lib.Pow.{pow-mono, pow-pos}
 use borrow.Author.Tests.{le-leb, leb-true}
 use Rattle.laws.proofs.Order.{by-order, by-test, pick-both, pick-false, pick-le, pick-true}
-use Rattle.laws.proofs.Out.{andThen-done, done-same, refuse-done, then-done}
+use Rattle.laws.proofs.Out.{then-done}
 use Rattle.laws.specs.Out.{done}
 use Rattle.laws.specs.Pick.{pick}
 use Rattle.numbers.specs.Number.{onNumber, readNumber}
 use Rattle.numbers.specs.declared.NumberRead.the-variants.{Number}
 use Rattle.image.proofs.ByteLaws.{data-bytes, sample-small}
 use Rattle.image.proofs.FormLaws.{bytes-cases, bytes-few}
+use Rattle.image.proofs.RoundTrip.{Tame}
 use Rattle.image.proofs.TrayLaws.{frames-length}
 use Rattle.image.specs.Bytes.{Bytes, dataOf, decode, sampleIn}
 use Rattle.image.specs.Format.{bytesOf, hasPart, middleOf, topOf}
@@ -28,12 +29,7 @@ use Rattle.image.specs.declared.format.Part.the-variants.{Alpha, Cb, Cr, Luma}
 use Rattle.image.specs.declared.format.PixelFormat.{PixelFormat}
 use Rattle.image.specs.declared.record.Frame.{Frame}
 use Rattle.fill.specs.declared.Colour.{Colour}
-use Rattle.derived.proofs.FieldLaws.{field-below}
-use Rattle.derived.proofs.Taken.{onField-done}
-use Rattle.derived.specs.Overlay.{fillAt, inputsOf, overlayOf}
-use Rattle.derived.specs.declared.overlay.Fill.{Fill}
-use Rattle.derived.specs.declared.overlay.OverlayDescriptor.{OverlayDescriptor}
-use Rattle.transform.proofs.Carried.{Tame}
+use Rattle.derived.proofs.Taken.{overlay-fill}
 use Rattle.grid.proofs.Composed.{canvas-depth}
 use Rattle.grid.proofs.GridLaws.{tiles-taken}
 use Rattle.grid.specs.Cell.{tilePic}
@@ -42,7 +38,7 @@ use Rattle.grid.specs.Ready.{TilesTaken}
 use Rattle.grid.specs.Run.{framesIn, gridOn, noFrame, tileIn}
 use Rattle.grid.specs.Tiles.{canvasForm, countOf, tilesAt, tilesOf}
 use Rattle.grid.specs.declared.tiles.Tiles.{Tiles}
-use Rattle.overlay.proofs.RunLaws.{plan-taken}
+use Rattle.overlay.proofs.RunLaws.{plan-taken, took}
 use Rattle.overlay.proofs.Sentences.{fill-low}
 use Rattle.overlay.specs.Overlay.{overlayForm, overlayPic, placeAt, settle, settled}
 use Rattle.overlay.specs.Plan.{planAt, planOf}
@@ -152,44 +148,8 @@ grid-tame body tray n at t small bytes c e = taken-tame tray t (tiles-taken body
 
 -- ---- the overlay
 
--- the fill's alpha has two bytes
-fill-small : (body : List ℕ) (at : ℕ) (f : _) → Bytes body → fillAt body at ≡ done f → f .fill .alpha ≤ 65535
-unfolding fillAt Bytes
-fill-small body at f small e =
-    let r = onField-done _ _ f e in
-    let g = onField-done _ _ f (r .3) in
-    let b = onField-done _ _ f (g .3) in
-    let a = onField-done _ _ f (b .3) in
-    let s : a .0 < 256 ^ 2 = field-below body _ 2 (a .0) (a .1) small (a .2) in
-    let u : a .0 ≡ f .fill .alpha = ap (λ k. k .fill .alpha) (done-same _ f (a .3)) in
-    omega arith
-
-fill-kept : (body : List ℕ) (k : Fill) (c : _) (bytes n : ℕ) (d : OverlayDescriptor) → inputsOf body k c bytes n ≡ done d → k ≡ d .«canvas_fill»
-unfolding inputsOf
-fill-kept body k c bytes n d e =
-    let i = refuse-done _ _ _ d e in
-    let j = refuse-done _ _ _ d (i .1) in
-    ap (λ (o : OverlayDescriptor). o .«canvas_fill») (done-same _ d (j .1))
-
-overlay-fill : (body : List ℕ) (n : ℕ) (d : OverlayDescriptor) → Bytes body → overlayOf body n ≡ done d → d .«canvas_fill» .alpha ≤ 65535
-unfolding overlayOf
-overlay-fill body n d small e =
-    let h = andThen-done _ _ d e in
-    let f = andThen-done _ _ d (h .2) in
-    let c = andThen-done _ _ d (f .2) in
-    rw (← fill-kept body (f .0 .fill) (c .0) (h .0 .bytes) n d (c .2)) (fill-small body (h .0 .next .at) (f .0) small (f .1))
-
 inputs-fill : (body tray list : List ℕ) (n at : ℕ) (q : Inputs) → Bytes body → inputsAt body tray list n at ≡ done q → q .descriptor .«canvas_fill» .alpha ≤ 65535
-unfolding inputsAt
-inputs-fill body tray list n at q small e =
-    let a = andThen-done _ _ q e in
-    let b = refuse-done _ _ _ q (a .2) in
-    let c = refuse-done _ _ _ q (b .1) in
-    let d = andThen-done _ _ q (c .1) in
-    let f = refuse-done _ _ _ q (d .2) in
-    let s = overlay-fill body n (a .0) small (a .1) in
-    let u : a .0 .«canvas_fill» .alpha ≡ q .descriptor .«canvas_fill» .alpha = ap (λ k. k .descriptor .«canvas_fill» .alpha) (done-same _ q (f .1)) in
-    omega arith
+inputs-fill body tray list n at q small e = overlay-fill body n (q .descriptor) small (took body tray list n at q e .body-read)
 
 form-taken : (body tray list : List ℕ) (colour : Colour) (n at : ℕ) (q : Inputs) → readNumber tray 0 ≡ Number n at → inputsAt body tray list n at ≡ done q → FormSound (composedForm body tray list q)
 unfolding planAt planOf

@@ -7,7 +7,7 @@ use Rattle.laws.proofs.Order.{pick-false, pick-true}
 use Rattle.laws.proofs.Out.{Holds, Same, alike, andThen-done, both, done-holds, done-same, holds-done, pick-holds, then-both, then-done, then-holds, then-same}
 use Rattle.laws.specs.Out.{Out, andThen, done, refused}
 use Rattle.laws.specs.Pick.{pick}
-use Rattle.image.proofs.RoundTrip.{length-encode}
+use Rattle.image.proofs.RoundTrip.{Tame, length-encode}
 use Rattle.image.specs.Bytes.{encode, sizeOf}
 use Rattle.image.specs.Picture.{Pic}
 use Rattle.image.specs.Sound.{FormSound}
@@ -16,7 +16,6 @@ use Rattle.props.proofs.ChainLaws.{Applied, fold-holds, fold-none, fold-same, f
 use Rattle.props.specs.Chain.{applies, entriesAt, foldChain}
 use Rattle.props.specs.declared.entry.Property.{Property}
 use Rattle.props.specs.declared.entry.PropertyEntry.{PropertyEntry}
-use Rattle.transform.proofs.Carried.{Tame}
 use Rattle.sight.specs.Chain.{picAfter}
 use Rattle.scene.proofs.AfterLaws.{Formed, after-form, after-tame, after-sound}
 use Rattle.scene.specs.Carry.{draws, lies}

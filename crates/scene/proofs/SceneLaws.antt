@@ -8,7 +8,7 @@ use native.Mathlib.Omega.{arith}
 use lib.ListN.{drop, length, replicate, take}
 use lib.Seq.{take-at}
 use borrow.Author.Tests.{le-ltb, lt-ltb}
-use Rattle.laws.proofs.Out.{Same, alike, andThen-done, both, done-same, not-done, refuse-no, refuse-yes, then-done, then-refused}
+use Rattle.laws.proofs.Out.{Same, andThen-done, done-same, refuse-no, refuse-yes, refused-back, same-left, same-refused, then-done, then-refuse, then-refused}
 use Rattle.laws.proofs.Puts.{length-puts, puts-start}
 use Rattle.laws.specs.Out.{Out, andThen, answerOf, done, reason, refuse, refused}
 use Rattle.laws.specs.Puts.{puts}
@@ -17,7 +17,7 @@ use Rattle.laws.specs.declared.Answer.the-variants.{Refused, Wrote}
 use Rattle.laws.specs.declared.Refusal.{Refusal}
 use Rattle.numbers.specs.Number.{onNumber, readNumber}
 use Rattle.numbers.specs.declared.NumberRead.{NumberRead}
-use Rattle.image.proofs.RoundTrip.{length-encode}
+use Rattle.image.proofs.RoundTrip.{Tame, length-encode}
 use Rattle.image.specs.Bytes.{Bytes, encode, sizeOf}
 use Rattle.image.specs.Format.{topOf}
 use Rattle.image.specs.Picture.{Pic}
@@ -28,7 +28,6 @@ use Rattle.props.proofs.ChainLaws.{judged-chain, judged-refused}
 use Rattle.props.specs.Chain.{Judged, chainAt, foldChain, judgedAt}
 use Rattle.props.specs.declared.chain.Chain.{Chain}
 use Rattle.props.specs.declared.entry.PropertyEntry.{PropertyEntry}
-use Rattle.transform.proofs.Carried.{Tame}
 use Rattle.grid.proofs.GridLaws.{tiles-taken}
 use Rattle.grid.specs.Mosaic.{gridPic}
 use Rattle.grid.specs.Ready.{TilesTaken}
@@ -36,7 +35,7 @@ use Rattle.grid.specs.Run.{gridOn}
 use Rattle.grid.specs.Tiles.{canvasForm, tilesAt, tilesOf}
 use Rattle.grid.specs.declared.tiles.Tiles.{Tiles}
 use Rattle.overlay.proofs.FrameLaws.{frames-from}
-use Rattle.overlay.proofs.RunLaws.{Took, frames-are, plan-sound, planPic, refused-back, took}
+use Rattle.overlay.proofs.RunLaws.{Took, frames-are, plan-sound, planPic, took}
 use Rattle.overlay.specs.Block.{PlanSound, framesFrom}
 use Rattle.overlay.specs.Overlay.{overlayForm, overlayPic, some}
 use Rattle.overlay.specs.Plan.{planAt, planOf}
@@ -72,14 +71,6 @@ scene-done o bs d d′ e f f′ g a q i j k = (
 -- the chain, then 17
 unfoldable pub sceneOn : List PropertyEntry → Bool → Pic → ℕ → ℕ → Out (List ℕ)
 sceneOn es flag P output spare = andThen (chainDrawn es flag P) (roomFor output spare)
-
-pub same-left : {A B : Type 0} (R : A → B → Type 0) (o : Out A) (u : Out B) → Same R o u → (a : A) → o ≡ done a → (b : B) × (u ≡ done b) × R a b
-same-left R _ _ alike a e = not-done _ a e
-same-left R _ _ (both {a = c} {b = b} r) a e = (b, refl, rw (← done-same c a e) r)
-
-pub same-refused : {A B : Type 0} (R : A → B → Type 0) (o : Out A) (u : Out B) → Same R o u → (r : Refusal) → o ≡ refused r → u ≡ refused r
-same-refused R _ _ (alike {r = q}) r e = let p : q ≡ r = cc in ap refused p
-same-refused R _ _ (both {a = a} {b = b} k) r e = not-done r a (sym e)
 
 module _ (es : List PropertyEntry) (flag : Bool) (P : Pic) (k : Tame P) (m : Form) (same : m ≡ P .form) (output spare : ℕ) where
   abbrev by-forms : Same Leads (courseOf es flag m) (chainDrawn es flag P)
@@ -239,11 +230,6 @@ module _ (body tray chain : List ℕ) (flag : Bool) where
       }
 
 -- ---- the overlay's scene
-
-then-refuse : {A B : Type 0} (t : Bool) (n : ℕ) (o : Out A) (f : A → Out B) → andThen (refuse t n o) f ≡ refuse t n (andThen o f)
-unfolding refuse andThen
-then-refuse true n o f = refl
-then-refuse false n o f = refl
 
 -- a chain and inputs that were read
 pub record OverlayKnown (body tray chain : List ℕ) (flag : Bool) (list : List ℕ) (colour : Colour) (n at : ℕ) (h : Chain) (plan : Plan) : Type 0 where

@@ -1,14 +1,14 @@
 -- What a move carries over: pictures that agree, and samples that fit their bytes. Assumes nothing.
 use mathlib.Core.Bool.{Bool, _&&_, false, true}
 use mathlib.Core.Path.{_∙_, _≡_, ap, refl, sym}
-use Prim.Native.Nat.{_%_, _<_, _^_, ℕ}
+use Prim.Native.Nat.{_%_, ℕ}
 use lib.Dec.{eqb}
 use native.Mathlib.Omega.{arith}
 use borrow.Author.Tests.{eq-eqb, ne-eqb}
 use Rattle.laws.proofs.Order.{by-equal}
 use Rattle.laws.specs.Pick.{pick}
-use Rattle.image.proofs.RoundTrip.{Agree}
-use Rattle.image.specs.Format.{bytesOf, columnsOf, cover, halfX, halfY, hasPart, rowsOf}
+use Rattle.image.proofs.RoundTrip.{Agree, Tame, agree-self, agree-sym, agree-tame, agree-trans}
+use Rattle.image.specs.Format.{cover, halfX, halfY, hasPart}
 use Rattle.image.specs.Picture.{Pic, full, pixel, promote}
 use Rattle.image.specs.Sound.{FormSound}
 use Rattle.image.specs.declared.format.Form.{Form}
@@ -23,46 +23,6 @@ use Rattle.transform.proofs.Runs.{quarter-one, quarter-three}
 use Rattle.transform.specs.Move.{MoveFits, alongFrom, cropMove, halfMove, mirrorMove, moved, planeAxis, quarterMove, turnForm, walkOf, walkX, walkY}
 use Rattle.transform.specs.Turn.{Quarter, crop, mirror, q0, q1, q2, q3, quarterOf, turn}
 use Rattle.transform.specs.declared.moves.Move.{Move}
-
--- ---- pictures that agree
-
-pub agree-self : (P : Pic) → Agree P P
-agree-self P = record { form = refl; reads = λ p h x y a b. refl }
-
-pub agree-sym : (P Q : Pic) → Agree P Q → Agree Q P
-agree-sym P Q a =
-    let e = sym (a .form) in
-    record {
-      form = e;
-      reads = λ p h x y i j.
-          sym (a .reads p (ap (λ (m : Form). hasPart (m .format) p) (a .form) ∙ h) x y
-          (rw (← e) i) (rw (← e) j));
-    }
-
-pub agree-trans : (P Q R : Pic) → Agree P Q → Agree Q R → Agree P R
-agree-trans P Q R a b =
-    let e = a .form in
-    record {
-      form = a .form ∙ b .form;
-      reads = λ p h x y i j. a .reads p h x y i j ∙ b .reads p (ap (λ (m : Form). hasPart (m .format) p) (sym e) ∙ h) x y (rw (← e) i) (rw (← e) j);
-    }
-
--- a picture of a sound form whose samples fit their bytes
-pub record Tame (P : Pic) : Type 0 where
-  pub sound : FormSound (P .form)
-  pub small : (p : Part) → hasPart (P .form .format) p ≡ true → (x y : ℕ) → x < columnsOf (P .form) p → y < rowsOf (P .form) p
-      → P .at p x y < 256 ^ bytesOf (P .form .format)
-
-pub agree-tame : (P Q : Pic) → Agree P Q → Tame P → Tame Q
-agree-tame P Q a k =
-    let b = agree-sym P Q a in
-    let e = b .form in
-    record {
-      sound = rw e (k .sound);
-      small = λ p h x y i j.
-          let s = k .small p (ap (λ (m : Form). hasPart (m .format) p) (a .form) ∙ h) x y (rw (← e) i) (rw (← e) j) in
-          rw (b .reads p h x y i j, e) s;
-    }
 
 -- ---- a sample of a moved picture is the sample that its walk names
 

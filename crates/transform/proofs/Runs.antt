@@ -1,7 +1,7 @@
 -- The runs in terms of the moves that draw them. Assumes nothing.
 use mathlib.Core.Bool.{false, true}
 use mathlib.Core.List.{List}
-use mathlib.Core.Path.{_∙_, _≡_, ap, sym}
+use mathlib.Core.Path.{_∙_, _≡_, ap}
 use Prim.Native.Nat.{_%_, _+_, _<_, _≤_, ℕ}
 use native.Mathlib.Omega.{arith}
 use borrow.Author.Tests.{eq-eqb, le-ltb, lt-ltb, ne-eqb}
@@ -10,9 +10,9 @@ use Rattle.laws.proofs.Out.{refuse-no, refuse-yes, then-done, then-refused}
 use Rattle.laws.specs.Out.{done, fitted, reason, refused}
 use Rattle.laws.specs.declared.Refusal.{Refusal}
 use Rattle.image.proofs.RecordLaws.{whole-sound}
-use Rattle.image.proofs.RoundTrip.{Agree, encode-agree}
+use Rattle.image.proofs.RoundTrip.{drawn-as}
 use Rattle.image.specs.Bytes.{decode, encode}
-use Rattle.image.specs.Picture.{Pic, odd}
+use Rattle.image.specs.Picture.{odd}
 use Rattle.image.specs.Record.{recordOf}
 use Rattle.image.specs.Sound.{FormSound}
 use Rattle.image.specs.declared.format.Form.{Form}
@@ -30,10 +30,6 @@ use Rattle.transform.proofs.Fits.{crop-fits}
 use Rattle.transform.specs.Move.{MoveFits, cropMove, halfMove, mirrorMove, moved, quarterMove}
 use Rattle.transform.specs.Run.{clapRun, cropOf, cropRun, imirRun, irotRun, turnBytes}
 use Rattle.transform.specs.Turn.{Quarter, q0, q1, q2, q3, quarterOf}
-
--- a run ends as the move that agrees with its picture
-drawn-as : (room : ℕ) (A B : Pic) → Agree A B → fitted room (encode B) ≡ fitted room (encode A)
-drawn-as room A B a = ap (fitted room) (sym (encode-agree A B a))
 
 -- ---- crop
 

@@ -4,6 +4,7 @@ use native.Mathlib.Omega.{arith}
 use borrow.Author.Needs.{needs}
 use denote.Ref.{now}
 use Rattle.image.specs.declared.format.Part.the-variants.{Alpha}
+use Rattle.laws.proofs.Order.{within}
 use Rattle.overlay.proofs.ReachLaws.{base-small, row-small, stretch-small}
 use Rattle.overlay.proofs.StripeLaws.{call-bounds, call-fits, call-laid, call-none}
 use Rattle.overlay.proofs.blend.lay_line.Statement.{statement}
@@ -114,6 +115,7 @@ same-length c = c .before .before .lay-row .kept .0
 
 -- src/blend.rt:209:1
 returns : tie.Need-returns
+unfolding within
 returns c = λ j h. c .before .before .lay-row .ensures j ∙ call-laid (now (c .before .before .before .before .before .before .before .before .before .before .before .before .before .before .before .before .before .before .before .before .before .before .before .before .args .tray)) (c .before .before .before .before .before .before .before .before .before .before .before .before .before .before .before .before .before .before .before .before .before .before .before .before .args .fr) (c .before .before .before .before .before .before .before .before .before .before .before .before .before .before .before .before .before .before .before .before .before .before .before .before .args .place) (c .before .before .before .before .before .before .before .before .before .before .before .before .before .before .before .before .before .before .before .before .before .before .before .before .args .premultiplied) (c .before .before .before .before .before .before .before .before .before .before .before .before .before .before .before .before .before .before .before .before .before .before .before .before .args .part) (c .before .before .before .before .before .before .before .before .before .before .before .before .before .before .before .before .before .before .before .before .before .before .before .before .args .top) (c .before .before .before .before .before .before .before .before .before .before .before .before .before .before .before .before .before .before .before .before .before .before .before .before .args .run) (c .before .before .before .before .before .before .before .before .before .before .before .before .before .before .before .before .before .before .before .before .before .before .before .before .pre .2) (c .before .before .before .before .before .before .before .before .before .before .before .before .before .before .before .before .before .before .before .before .before .before .before .before .args .r) (c .before .before .before .before .before .before .before .before .before .before .before .before .before .before .before .before .before .before .before .before .before .before .before .before .pre .5) (c .before .before .before .before .before .before .before .before .before .before .before .before .before .before .before .before .before .before .before .before .before .before .before .before .pre .4) (c .before .before .before .before .before .before .before .before .before .before .before .before .before .before .before .before .before .before .before .reach .result) (c .before .before .before .before .before .before .before .before .before .before .before .before .before .before .before .before .least .result) (c .before .before .before .before .before .before .before .before .before .before .before .before .before .before .before .before .before .most .result) (c .before .before .before .before .before .before .before .before .before .before .before .before .before .before .least2 .result) (c .before .before .before .before .before .before .before .before .before .before .before .before .before .before .before .before .before .before .before .reach .ensures) (c .before .before .before .before .before .before .before .before .before .before .before .before .before .before .before .before .least .ensures) (c .before .before .before .before .before .before .before .before .before .before .before .before .before .before .before .before .before .most .ensures) (c .before .before .before .before .before .before .before .before .before .before .before .before .before .before .least2 .ensures) (c .before .before .before .before .before .before .before .before .before .before .before .before .before .if1 .taken) _ _ (c .before .before .before .before .before .before .before .before .before .before .before .before .plane .result) (c .before .before .before .before .before .before .before .before .before .before .before .plane2 .result) (c .before .before .before .before .before .before .before .before .first-place .result) (c .before .before .before .before .before .before .before .spot .result) (c .before .before .before .before .before .before .first-place2 .result) (c .before .before .before .before .before .spot2 .result) (c .before .before .before .before .step-of .result) (c .before .before .before .before .before .before .before .before .before .before .before .before .plane .ensures) (c .before .before .before .before .before .before .before .before .before .before .before .plane2 .ensures) (c .before .before .before .before .before .before .before .before .before .before .plane-data .ensures) (c .before .before .before .before .before .before .before .before .before .plane-data2 .ensures) (c .before .before .before .before .before .before .before .before .first-place .ensures) (c .before .before .before .before .before .before .before .spot .ensures) (c .before .before .before .before .before .before .first-place2 .ensures) (c .before .before .before .before .before .spot2 .ensures) (c .before .before .before .before .step-of .ensures) j _ h
 
 -- src/blend.rt:209:1

@@ -5,9 +5,9 @@ use native.Mathlib.Omega.{arith}
 use lib.ListN.{getD, length, length-set}
 use borrow.Author.Needs.{needs}
 use denote.Ref.{now}
-use Rattle.laws.proofs.Order.{pick-false}
+use Rattle.laws.proofs.Order.{pick-false, within, within-none}
 use Rattle.laws.specs.Pick.{pick}
-use Rattle.overlay.proofs.StripeLaws.{stored-more, within, within-none}
+use Rattle.overlay.proofs.StripeLaws.{stored-more}
 use Rattle.overlay.proofs.blend.lay_row.Statement.{statement}
 use Rattle.overlay.specs.Block.{rowLaid}
 use Rattle.overlay.proofs.blend.lay_row.Tie as tie
@@ -101,6 +101,7 @@ same-length c = c .before .loop .inv .1
 
 -- src/blend.rt:141:1
 returns : tie.Need-returns Inv-loop μ-loop
+unfolding within
 returns c = λ j. c .before .loop .inv .2 j ∙ ap (λ (i : ℕ). pick (within (c .before .before .before .before .before .before .args .k) i j) (rowLaid (now (c .before .before .before .before .before .before .args .plane)) (now (c .before .before .before .before .before .before .args .alpha)) (c .before .before .before .before .before .before .args .s) (c .before .before .before .before .before .before .args .x + (j - c .before .before .before .before .before .before .args .k) * c .before .before .before .before .before .before .args .step) (c .before .before .before .before .before .before .args .y) (getD (now (c .before .before .before .before .before .before .args .acc)) j 0)) (getD (now (c .before .before .before .before .before .before .args .acc)) j 0)) (ended c)
 
 pub lay-row-spec : {M : Type 1} → statement M

@@ -10,7 +10,7 @@ use Rattle.overlay.proofs.inputs.note.Reads as reads
 use Rattle.overlay.proofs.inputs.note.Lts as lts
 use Rattle.image.proofs.format.PixelFormat.has.Reads as has-reads
 use Rattle.image.proofs.either.Reads as either-reads
-use Rattle.overlay.proofs.inputs.is_odd.Reads as is-odd-reads
+use Rattle.image.proofs.is_odd.Reads as is-odd-reads
 use Rattle.overlay.proofs.inputs.odd_offset.Reads as odd-offset-reads
 
 -- src/inputs.rt:59:32

@@ -6,7 +6,7 @@ use Rattle.overlay.proofs.inputs.odd_offset.Tie as tie
 use Rattle.overlay.proofs.inputs.odd_offset.Reads as reads
 use Rattle.overlay.proofs.inputs.odd_offset.Lts as lts
 use Rattle.image.proofs.either.Reads as either-reads
-use Rattle.overlay.proofs.inputs.is_odd.Reads as is-odd-reads
+use Rattle.image.proofs.is_odd.Reads as is-odd-reads
 
 -- src/inputs.rt:51:19
 is-odd-requires : tie.Need-is-odd-requires

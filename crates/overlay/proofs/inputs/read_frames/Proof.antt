@@ -11,8 +11,8 @@ use Rattle.overlay.proofs.inputs.read_frames.Reads as reads
 use Rattle.overlay.proofs.inputs.read_frames.Lts as lts
 use Rattle.derived.proofs.overlay.OverlayDescriptor.offset.Reads as offset-reads
 use Rattle.image.proofs.read_record.Reads as read-record-reads
+use Rattle.image.proofs.is_odd.Reads as is-odd-reads
 use Rattle.overlay.proofs.inputs.compose_form.Reads as compose-form-reads
-use Rattle.overlay.proofs.inputs.is_odd.Reads as is-odd-reads
 use Rattle.overlay.proofs.inputs.note.Reads as note-reads
 
 abbrev Inv-loop : tie.InvT-loop
