@@ -1,8 +1,8 @@
 // Replays stored answers of the published Rust: each operation of the proved crates on the stored input, held to the stored bytes,
 // numbers or refusal. Standard input is made of operations: a name of 16 bytes and how many calls follow. A call is 17 numbers (the
 // operation, the refusal or 0, the lengths of four parts and of the answer, ten fields), then the parts and the answer. Every number
-// has four bytes, the highest first. `stdin.md` says how the file is made. For each operation the program prints how many calls are
-// answered alike, and of how many.
+// has four bytes, the highest first. A session with all its calls is one such call: its parts are the body, the records and the script.
+// `stdin.md` says how the file is made. For each operation the program prints how many calls are answered alike, and of how many.
 ghost use Prim.Native.Nat.{_≤_};
 use fill::Colour;
 use fill::Filled;
@@ -20,6 +20,8 @@ use props::Irot;
 use props::Iscl;
 use props::Resolved;
 use props::SizeAnswer;
+use session::Called;
+use session::Canvas;
 
 // The number at a place, 0 where there is none whole.
 fn number_at(s: &[u8], at: usize) -> u32 {
@@ -309,6 +311,92 @@ fn composed_so(head: &[u8], answer: Answer, out: &[u8], spare: &[u8], want: &[u8
     }
 }
 
+// So many bytes from a place on, none where there are fewer.
+fn part(s: &[u8], from: usize, count: usize) -> &[u8] {
+    if from > s.len() {
+        return &s[..0];
+    }
+    if count > s.len() - from {
+        return &s[..0];
+    }
+    let end = from + count;
+    &s[from..end]
+}
+
+// A call of a session, by four numbers of its script: 0 place, 1 blank, else finish; the cell; its record's place and length.
+fn call(canvas: Canvas, turn: u32, records: &[u8], script: &[u8], out: &mut [u8]) -> Called {
+    let at = 16 * (turn as usize);
+    let kind = number_at(script, at);
+    let cell = number_at(script, at + 4);
+    if kind == 0 {
+        let from = number_at(script, at + 8) as usize;
+        let count = number_at(script, at + 12) as usize;
+        return canvas.place(cell, part(records, from, count), out);
+    }
+    if kind == 1 {
+        return canvas.blank(cell, out);
+    }
+    let answer = canvas.finish(out.len());
+    Called { canvas, answer }
+}
+
+// Whether an answer is 0, or else the refusal's number, as stored.
+fn numbered_so(answer: Answer, number: u32) -> bool {
+    match answer {
+        Answer::Refused(e) => e.number as u32 == number,
+        Answer::Wrote(_) => number == 0,
+    }
+}
+
+// The length of a record that an answer gives.
+fn wrote(answer: Answer) -> usize {
+    match answer {
+        Answer::Refused(_) => 0,
+        Answer::Wrote(n) => n,
+    }
+}
+
+// Whether so many calls on a canvas are answered as stored: a number each, then the record where the last one is a finish.
+fn calls_so(start: Canvas, calls: u32, records: &[u8], script: &[u8], want: &[u8]) -> bool {
+    let mut out = [BEFORE; 4096];
+    let mut canvas = start;
+    let mut length: usize = 0;
+    let mut turn: u32 = 0;
+    while turn < calls {
+        let called = call(canvas, turn, records, script, &mut out);
+        let answer = called.answer;
+        if !numbered_so(answer, number_at(want, 4 * (turn as usize))) {
+            return false;
+        }
+        length = wrote(answer);
+        canvas = called.canvas;
+        turn += 1;
+    }
+    let from = 4 * (calls as usize);
+    if want.len() < from {
+        return false;
+    }
+    if want.len() - from != length {
+        return false;
+    }
+    starts(&out, part(want, from, length))
+}
+
+// A session, from the start of its canvas on; field 0 says how many calls follow.
+fn session_so(head: &[u8], body: &[u8], records: &[u8], script: &[u8], want: &[u8]) -> bool {
+    let started = Canvas::start(body);
+    let answer = started.answer;
+    match answer {
+        Answer::Refused(e) => refused_so(head, e),
+        Answer::Wrote(_) => {
+            if !is_taken(head) {
+                return false;
+            }
+            calls_so(started.canvas, field(head, 0), records, script, want)
+        }
+    }
+}
+
 // Whether a call is answered as it is stored.
 fn answered_so(
     head: &[u8],
@@ -319,6 +407,9 @@ fn answered_so(
     want: &[u8],
 ) -> bool {
     let op = number_at(head, 0);
+    if op == 17 {
+        return session_so(head, one, two, three, want);
+    }
     if op > 14 {
         let mut out = [BEFORE; 4096];
         let mut spare = [BEFORE; 4096];

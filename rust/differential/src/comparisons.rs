@@ -1005,7 +1005,7 @@ const FINISH: u8 = 2;
 const STRANGER: u8 = 3;
 
 /// The calls that an input names, with `tiles` as records.
-fn calls_of<'a>(input: &'a Input, tiles: &'a [Vec<u8>]) -> Vec<Call<'a>> {
+pub fn calls_of<'a>(input: &'a Input, tiles: &'a [Vec<u8>]) -> Vec<Call<'a>> {
     let call = |&[kind, cell, tile]: &[u8; 3]| match (kind, tiles.get(usize::from(tile))) {
         (PLACE, Some(tile)) => Call::Place(u32::from(cell), tile),
         (PLACE | BLANK, _) => Call::Blank(u32::from(cell)),

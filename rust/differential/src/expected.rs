@@ -329,6 +329,16 @@ fn place(canvas: &mut dyn Canvas, grid: &Grid, call: &Call) -> Want<()> {
     }
 }
 
+/// The picture of another session that is finished after the same calls.
+pub fn finished(oracle: &dyn Oracle, grid: &Grid, calls: &[Call]) -> Want<Frame> {
+    let mut canvas = oracle.canvas(grid);
+    for call in calls {
+        // What it answers is the session's own to say.
+        let _ = place(&mut *canvas, grid, call);
+    }
+    settle(canvas.finish())
+}
+
 /// What each call of a session answers and leaves. Finishing takes the oracle's session with it,
 /// so a finish is asked of another one that has had the same calls.
 pub fn session(oracle: &dyn Oracle, grid: &Grid, calls: &[Call]) -> Vec<Event> {
@@ -336,12 +346,7 @@ pub fn session(oracle: &dyn Oracle, grid: &Grid, calls: &[Call]) -> Vec<Event> {
     let mut events = Vec::new();
     for (at, call) in calls.iter().enumerate() {
         let answer = if *call == Call::Finish {
-            let mut again = oracle.canvas(grid);
-            for earlier in &calls[..at] {
-                // Answered already, above.
-                let _ = place(&mut *again, grid, earlier);
-            }
-            settle(again.finish()).map(|picture| picture.record().len())
+            finished(oracle, grid, &calls[..at]).map(|picture| picture.record().len())
         } else {
             place(&mut *canvas, grid, call).map(|()| 0)
         };

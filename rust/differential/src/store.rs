@@ -9,13 +9,14 @@
 //! - the lengths of the four parts, and of the answer, which a refusal has not;
 //! - ten fields, 0 where a call has none.
 //!
-//! Every number has four bytes, the highest first, and so have numbers of an answer.
+//! Every number has four bytes, the highest first, and so have numbers of an answer. A session is one
+//! call: the grid's body, the records and the script of its calls, and what each of these answered.
 
 use crate::compare::{Input, Sides};
 use crate::comparisons::{self, ALL, Kind};
 use crate::expected::{self, Stop, Want};
 use crate::rng::Rng;
-use model::{Clap, Iscl, Oracle, Refusal, Scene, SceneParts};
+use model::{Clap, Frame, Iscl, Oracle, Refusal, Scene, SceneParts, parse_tray};
 
 /// A call and its answer.
 #[derive(Clone, Debug, PartialEq, Eq)]
@@ -182,7 +183,88 @@ const SOURCES: &[Source] = &[
             short(expected::overlay_scene(oracle, &parts, &marks)?)
         },
     },
+    Source {
+        number: 17,
+        name: "session",
+        comparison: "session",
+        handed: |input| {
+            let tiles = tiles(input).unwrap_or_default();
+            let calls = comparisons::calls_of(input, &tiles);
+            let (records, script) = script(&calls);
+            let body = input.bytes("body").to_vec();
+            (vec![body, records, script], vec![calls.len() as u32])
+        },
+        answer: session,
+    },
 ];
+
+/// The tiles that a session's calls take from.
+fn tiles(input: &Input) -> Want<Vec<Vec<u8>>> {
+    let tiles = parse_tray(input.bytes("tray"))?;
+    Ok(tiles.iter().map(Frame::record).collect())
+}
+
+/// The records that a session places, one after the other, and four numbers for each of its calls:
+/// 0 place, 1 blank, 2 finish; the cell; where its record begins among them, and its length.
+fn script(calls: &[expected::Call]) -> (Vec<u8>, Vec<u8>) {
+    let (mut records, mut script) = (Vec::new(), Vec::new());
+    for call in calls {
+        let (kind, cell, record): (u32, u32, &[u8]) = match *call {
+            expected::Call::Place(cell, record) => (0, cell, record),
+            expected::Call::Blank(cell) => (1, cell, &[]),
+            expected::Call::Finish => (2, 0, &[]),
+        };
+        let place = [records.len(), record.len()].map(|number| number as u32);
+        script.extend(numbers([kind, cell, place[0], place[1]]));
+        records.extend_from_slice(record);
+    }
+    (records, script)
+}
+
+/// The calls of a stored session: what [`script`] wrote.
+pub fn scripted<'a>(records: &'a [u8], mut script: &[u8]) -> Option<Vec<expected::Call<'a>>> {
+    let mut calls = Vec::new();
+    while !script.is_empty() {
+        let [kind, cell, from, length] = read_numbers(&mut script)?;
+        calls.push(match kind {
+            0 => {
+                let record = records.get(from as usize..)?.get(..length as usize)?;
+                expected::Call::Place(cell, record)
+            }
+            1 => expected::Call::Blank(cell),
+            2 => expected::Call::Finish,
+            _ => return None,
+        });
+    }
+    Some(calls)
+}
+
+/// For each call of a session 0 or its refusal, then the record where the last one is a finish
+/// that gives one.
+fn session(oracle: &dyn Oracle, input: &Input) -> Want<Vec<u8>> {
+    let grid = expected::settle(oracle.parse_grid(input.bytes("body")))?;
+    let tiles = tiles(input)?;
+    let calls = comparisons::calls_of(input, &tiles);
+    let mut answer = Vec::new();
+    for event in expected::session(oracle, &grid, &calls) {
+        if event.buffer.is_some_and(|buffer| buffer.len() > LENT) {
+            return Err(Stop::Large);
+        }
+        answer.extend(numbers([match event.answer {
+            Ok(_) => 0,
+            Err(Stop::Refused(number)) => u32::from(number),
+            Err(stop) => return Err(stop),
+        }]));
+    }
+    if let Some((expected::Call::Finish, earlier)) = calls.split_last() {
+        match expected::finished(oracle, &grid, earlier) {
+            Ok(picture) => answer.extend(picture.record()),
+            Err(Stop::Refused(_)) => {}
+            Err(stop) => return Err(stop),
+        }
+    }
+    Ok(answer)
+}
 
 /// The bytes that the program lends as output and as spare.
 const LENT: usize = 4_096;

@@ -2,6 +2,7 @@
 //! where that is present, and the composer's calls answer as it is stored.
 
 use differential::compare::Sides;
+use differential::expected;
 use differential::ours::{Answer, Composer, Linked};
 use differential::store::{self, Call};
 use model::{Clap, Colour, Iscl, Marks, Operation, Rectangle, SceneParts};
@@ -58,6 +59,22 @@ where
     let mut words = [T::default(); N];
     call(&mut words).expect("a call that is there")?;
     Ok(words.map(|word| u32::from(word).to_be_bytes()).concat())
+}
+
+/// For each call of a session 0 or its refusal, then the record of a finish that is the last.
+fn session(body: &[u8], calls: &[expected::Call]) -> Answer<Vec<u8>> {
+    let (mut state, mut buffer) = (vec![0; 1_034], vec![0; 4_096]);
+    let started = Linked.canvas_start(body, &mut state);
+    assert_eq!(started.expect("a call that is there")?, 0);
+    let (mut answers, mut length) = (Vec::new(), 0);
+    for call in calls {
+        let answer = Linked.canvas_call(call, &mut state, &mut buffer);
+        let answer = answer.expect("a call that is there");
+        answers.extend(u32::from(answer.err().unwrap_or(0)).to_be_bytes());
+        length = answer.unwrap_or(0);
+    }
+    answers.extend(&buffer[..length]);
+    Ok(answers)
 }
 
 fn answer(call: &Call) -> Answer<Vec<u8>> {
@@ -121,6 +138,7 @@ fn answer(call: &Call) -> Answer<Vec<u8>> {
                 _ => Linked.overlay_scene(&parts, &marks, out, &mut spare),
             });
         }
+        17 => return session(one, &store::scripted(two, three).expect("a script")),
         other => panic!("no operation has the number {other}"),
     };
     written(|out| Linked.operation(one, &operation, out))
