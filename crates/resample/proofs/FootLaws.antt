@@ -113,7 +113,7 @@ pub record Weighing (f : Foot) (v : ℕ → ℕ) (most j acc : ℕ) : Type 0 whe
 before-past : (a e : ℕ) → a < e → a / 256 ≤ (e + 255) / 256
 before-past a e h = omega arith
 
-first-past : (f : Foot) → f .start < f .end → firstOf f ≤ pastOf f
+pub first-past : (f : Foot) → f .start < f .end → firstOf f ≤ pastOf f
 unfolding firstOf pastOf
 first-past f h = before-past (f .start) (f .end) h
 

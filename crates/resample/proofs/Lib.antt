@@ -6,5 +6,6 @@ pub mod RunLaws
 pub mod DepthLaws
 pub mod SameLaws
 pub mod AgreeLaws
+pub mod MeanLaws
 pub mod SmallLaws
 pub mod Cases
