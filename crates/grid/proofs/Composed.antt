@@ -118,7 +118,7 @@ rows-same-form b m t p w e = ap₂ (λ (h : Bool) (n : ℕ). sideOf (halved h p)
 side-as : (p : Part) (h k : Bool) (n m : ℕ) → h ≡ k → sideOf (halved k p) n ≤ m → sideOf (halved h p) n ≤ m
 side-as p h k n m e q = rw e q
 
-canvas-columns : (g : GridDescriptor) (t : Form) (a : ℕ) (p : Part) → g .«output_width» ≤ t .width * g .columns → columnsOf (canvasForm g t a) p ≤ columnsOf (tileForm (promotesOf g t) t) p * g .columns
+pub canvas-columns : (g : GridDescriptor) (t : Form) (a : ℕ) (p : Part) → g .«output_width» ≤ t .width * g .columns → columnsOf (canvasForm g t a) p ≤ columnsOf (tileForm (promotesOf g t) t) p * g .columns
 unfolding columnsOf canvasForm withAlpha halvesX sized
 canvas-columns g t a p l =
     let h = halves-tile (promotesOf g t) (sized t (g .«output_width») (g .«output_height»)) t (ap (λ (f : PixelFormat). f .chroma) (sized-format t (g .«output_width») (g .«output_height»))) in

@@ -8,13 +8,13 @@ use native.Mathlib.Omega.{arith}
 use lib.Dec.{eqb, leb}
 use lib.ListN.{getD, length, length-replicate, replicate}
 use lib.Pow.{pow-pos}
-use borrow.Author.Tests.{eqb-true, le-leb, leb-false, ne-eqb, not-false, not-true}
+use borrow.Author.Tests.{eqb-true, le-leb, leb-false, ltb-false, ne-eqb, not-false, not-true}
 use Rattle.laws.proofs.Order.{and-true, by-equal, by-test, mul-below, pick-both, pick-false, pick-le, pick-true, true-and}
 use Rattle.laws.proofs.Out.{andThen-done, done-same, refuse-done}
 use Rattle.laws.specs.Out.{done}
 use Rattle.laws.specs.Pick.{pick}
 use Rattle.image.proofs.RecordLaws.{whole-sound}
-use Rattle.image.specs.Bytes.{Bytes}
+use Rattle.image.specs.Bytes.{Bytes, sizeOf}
 use Rattle.image.specs.Format.{hasAlpha}
 use Rattle.image.specs.Record.{recordOf}
 use Rattle.image.specs.Sound.{FormSound}
@@ -30,7 +30,7 @@ use Rattle.grid.specs.Tiles.{countOf, coversOf}
 use Rattle.session.proofs.MarkLaws.{any-get, any-none, any-some, clear-all, clear-get, length-mark, mark-clear, mark-some, zero-words}
 use Rattle.session.proofs.StateLaws.{count-small, state-grid, state-parts, state-tile}
 use Rattle.session.specs.Marks.{anyWord, clearFrom, markOf, noMarks}
-use Rattle.session.specs.Session.{Drawn, blankOf, blankedAs, markedOn, placeOf, placedAs, sessionOf}
+use Rattle.session.specs.Session.{Drawn, blankOf, blankedAs, markedOn, placeOf, placedAs, reservedForm, sessionOf}
 use Rattle.session.specs.State.{acceptOf, bareOk, formOk, gridOk, hasTile, noForm, openOf, sidesOk, stateOk, tiledOk}
 
 -- ---- what is sound passes its test
@@ -156,6 +156,9 @@ ready-tiled s e h =
     parts : (coversOf (s .desc) (s .tile) ≡ true) × (clearFrom (s .marks) (countOf (s .desc)) (countOf (s .desc) / 64) (1024 - countOf (s .desc) / 64) ≡ true)
     parts = tiled-parts s tiled
 
+pub state-covers : (s : Canvas) → stateOk s ≡ true → hasTile s ≡ true → coversOf (s .desc) (s .tile) ≡ true
+state-covers s e h = ready-tiled s e h .covers
+
 -- before one
 pub bare-state : (s : Canvas) → stateOk s ≡ true → hasTile s ≡ false → (s .alpha ≡ 0) × ((i : ℕ) → i < 1024 → getD (s .marks) i 0 ≡ 0)
 bare-state s e h = (bare-parts s bare .0, λ i l. any-get (s .marks) 0 1024 (bare-parts s bare .1) i (omega arith) (omega arith))
@@ -182,6 +185,7 @@ pub record Placing (s : Canvas) (i : ℕ) (bytes d : List ℕ) (x : Drawn) : Typ
   pub here : recordOf bytes ≡ done frame
   pub tile : Form
   pub accepted : acceptOf s (frame .form) ≡ done tile
+  pub room : sizeOf (reservedForm (s .desc) tile) ≤ length d
   pub same : placedAs s i bytes d frame tile ≡ x
 
 pub place-taken : (s : Canvas) (i : ℕ) (bytes d : List ℕ) (x : Drawn) → placeOf s i bytes d ≡ done x → Placing s i bytes d x
@@ -192,7 +196,7 @@ place-taken s i bytes d x e =
     let c = andThen-done _ _ x (b .1) in
     let f = andThen-done _ _ x (c .2) in
     let h = refuse-done _ 17 _ x (f .2) in
-    record { sound = not-false _ (a .0); inside = leb-false _ _ (b .0); frame = c .0; here = c .1; tile = f .0; accepted = f .1; same = done-same _ x (h .1) }
+    record { sound = not-false _ (a .0); inside = leb-false _ _ (b .0); frame = c .0; here = c .1; tile = f .0; accepted = f .1; room = ltb-false _ _ (h .0); same = done-same _ x (h .1) }
 
 pub accept-later : (s : Canvas) (m t : Form) → hasTile s ≡ true → acceptOf s m ≡ done t → s .tile ≡ t
 unfolding acceptOf
@@ -235,15 +239,28 @@ place-ok s i bytes d x n e = rw (← (k .same)) (unfold placedAs in by-test (has
 
 -- ---- blank
 
-pub blank-ok : (s : Canvas) (i : ℕ) (d : List ℕ) (x : Drawn) → length (s .marks) ≡ 1024 → blankOf s i d ≡ done x → (stateOk (x .canvas) ≡ true) × (length (x .canvas .marks) ≡ 1024)
+-- what an accepted blank says
+pub record Blanking (s : Canvas) (i : ℕ) (d : List ℕ) (x : Drawn) : Type 0 where
+  pub sound : stateOk s ≡ true
+  pub tiled : hasTile s ≡ true
+  pub inside : i < countOf (s .desc)
+  pub room : sizeOf (reservedForm (s .desc) (s .tile)) ≤ length d
+  pub same : blankedAs s i d ≡ x
+
+pub blank-taken : (s : Canvas) (i : ℕ) (d : List ℕ) (x : Drawn) → blankOf s i d ≡ done x → Blanking s i d x
 unfolding blankOf
-blank-ok s i d x n e =
+blank-taken s i d x e =
     let a = refuse-done _ 5 _ x e in
     let b = refuse-done _ 15 _ x (a .1) in
     let c = refuse-done _ 11 _ x (b .1) in
     let f = refuse-done _ 17 _ x (c .1) in
-    let t = state-tile s (not-false _ (a .0)) (not-false _ (b .0)) in
-    rw (← (done-same _ x (f .1))) (unfold blankedAs in drawn-ok s i (s .tile) (s .alpha) n (ready-tiled s (not-false _ (a .0)) (not-false _ (b .0))) (leb-false _ _ (c .0)) (t .alpha) (t .least))
+    record { sound = not-false _ (a .0); tiled = not-false _ (b .0); inside = leb-false _ _ (c .0); room = ltb-false _ _ (f .0); same = done-same _ x (f .1) }
+
+pub blank-ok : (s : Canvas) (i : ℕ) (d : List ℕ) (x : Drawn) → length (s .marks) ≡ 1024 → blankOf s i d ≡ done x → (stateOk (x .canvas) ≡ true) × (length (x .canvas .marks) ≡ 1024)
+blank-ok s i d x n e =
+    let k = blank-taken s i d x e in
+    let t = state-tile s (k .sound) (k .tiled) in
+    rw (← (k .same)) (unfold blankedAs in drawn-ok s i (s .tile) (s .alpha) n (ready-tiled s (k .sound) (k .tiled)) (k .inside) (t .alpha) (t .least))
 
 -- ---- every number of such a state is small
 

@@ -5,3 +5,4 @@ pub mod BlankLaws
 pub mod SequenceLaws
 pub mod KeepLaws
 pub mod ComposeLaws
+pub mod CallLaws
