@@ -86,17 +86,17 @@ alike-covers g t m k x y =
     let b : g .«output_height» ≤ m .height * g .rows = rw (k .height) y in
     true-and _ _ (le-leb _ _ a) (le-leb _ _ b)
 
-length-drawn : (g : GridDescriptor) (t : Form) (i : ℕ) (m : Form) (T : Pic) (d : List ℕ) → length (drawnOn g t i m T d) ≡ length d
+pub length-drawn : (g : GridDescriptor) (t : Form) (i : ℕ) (m : Form) (T : Pic) (d : List ℕ) → length (drawnOn g t i m T d) ≡ length d
 unfolding drawnOn storeTile
 length-drawn g t i m T d = length-storePart _ _ _ _ Alpha _ ∙ length-storePart _ _ _ _ Cr _ ∙ length-storePart _ _ _ _ Cb _ ∙ length-storePart _ _ _ _ Luma _ ∙ length-told _ _ _
 
 -- ---- a tile that is accepted
 
-take-first : (s : Canvas) (m : Form) → hasTile s ≡ false → coversOf (s .desc) m ≡ true → acceptOf s m ≡ done m
+pub take-first : (s : Canvas) (m : Form) → hasTile s ≡ false → coversOf (s .desc) m ≡ true → acceptOf s m ≡ done m
 unfolding acceptOf
 take-first s m h c = pick-false (hasTile s) _ _ h ∙ refuse-no _ _ (ap not c)
 
-take-later : (s : Canvas) (t m : Form) → hasTile s ≡ true → Alike t (s .tile) → Alike t m → acceptOf s m ≡ done (s .tile)
+pub take-later : (s : Canvas) (t m : Form) → hasTile s ≡ true → Alike t (s .tile) → Alike t m → acceptOf s m ≡ done (s .tile)
 unfolding acceptOf sameSize sameLayout
 take-later s t m h k l =
     pick-true (hasTile s) _ _ h

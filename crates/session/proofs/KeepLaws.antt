@@ -1,4 +1,5 @@
--- Each call keeps a state that calls can have made: start makes one, place and blank keep it. Assumes nothing.
+-- Each call keeps a state that calls can have made: start makes one, place and blank keep it (MadeLaws has the other way too). Assumes
+-- nothing.
 use mathlib.Core.Bool.{false, not, true}
 use mathlib.Core.List.{List}
 use mathlib.Core.Path.{_∙_, _≡_, ap, refl, sym}
@@ -70,7 +71,7 @@ start-ok body s small e =
 -- ---- a cell drawn
 
 -- what a state says to a cell that is drawn in it: the first tile's form, and the words clear beyond the grid
-record Ready (s : Canvas) (t : Form) : Type 0 where
+pub record Ready (s : Canvas) (t : Form) : Type 0 where
   pub grid : GridSound (s .desc)
   pub tile : FormSound t
   pub covers : coversOf (s .desc) t ≡ true
@@ -120,7 +121,7 @@ drawn-ok s i t a n k l small least = (sound, long)
         let h : pick (hasTile u) (tiledOk u) (bareOk u) ≡ true = pick-true (hasTile u) (tiledOk u) (bareOk u) (has-tile s i t a (k .tile)) ∙ tiled in
         state-whole u g h
 
-tiled-parts : (s : Canvas) → tiledOk s ≡ true → (coversOf (s .desc) (s .tile) ≡ true) × (clearFrom (s .marks) (countOf (s .desc)) (countOf (s .desc) / 64) (1024 - countOf (s .desc) / 64) ≡ true)
+tiled-parts : (s : Canvas) → tiledOk s ≡ true → (coversOf (s .desc) (s .tile) ≡ true) × (clearFrom (s .marks) (countOf (s .desc)) (countOf (s .desc) / 64) (1024 - countOf (s .desc) / 64) ≡ true) × (anyWord (s .marks) 0 1024 ≡ true)
 unfolding tiledOk
 tiled-parts s k =
     let a = and-true (formOk (s .tile)) _ k in
@@ -128,7 +129,7 @@ tiled-parts s k =
     let c = and-true (leb (s .alpha) 1) _ (b .1) in
     let d = and-true (leb (s .tile .format .alpha) (s .alpha)) _ (c .1) in
     let e = and-true (clearFrom (s .marks) (countOf (s .desc)) (countOf (s .desc) / 64) (1024 - countOf (s .desc) / 64)) _ (d .1) in
-    (b .0, e .0)
+    (b .0, e .0, e .1)
 
 bare-parts : (s : Canvas) → bareOk s ≡ true → (s .alpha ≡ 0) × (anyWord (s .marks) 0 1024 ≡ false)
 unfolding bareOk
@@ -141,7 +142,7 @@ bare-parts s k =
     (eqb-true _ _ (e .0), not-true _ (e .1))
 
 -- with a tile
-ready-tiled : (s : Canvas) → stateOk s ≡ true → hasTile s ≡ true → Ready s (s .tile)
+pub ready-tiled : (s : Canvas) → stateOk s ≡ true → hasTile s ≡ true → Ready s (s .tile)
 ready-tiled s e h =
     record {
       grid = state-grid s e;
@@ -153,11 +154,14 @@ ready-tiled s e h =
     tiled : tiledOk s ≡ true
     tiled = sym (pick-true (hasTile s) (tiledOk s) (bareOk s) h) ∙ state-parts s e .1
 
-    parts : (coversOf (s .desc) (s .tile) ≡ true) × (clearFrom (s .marks) (countOf (s .desc)) (countOf (s .desc) / 64) (1024 - countOf (s .desc) / 64) ≡ true)
+    parts : (coversOf (s .desc) (s .tile) ≡ true) × (clearFrom (s .marks) (countOf (s .desc)) (countOf (s .desc) / 64) (1024 - countOf (s .desc) / 64) ≡ true) × (anyWord (s .marks) 0 1024 ≡ true)
     parts = tiled-parts s tiled
 
 pub state-covers : (s : Canvas) → stateOk s ≡ true → hasTile s ≡ true → coversOf (s .desc) (s .tile) ≡ true
 state-covers s e h = ready-tiled s e h .covers
+
+pub state-marked : (s : Canvas) → stateOk s ≡ true → hasTile s ≡ true → anyWord (s .marks) 0 1024 ≡ true
+state-marked s e h = tiled-parts s (sym (pick-true (hasTile s) (tiledOk s) (bareOk s) h) ∙ state-parts s e .1) .2
 
 -- before one
 pub bare-state : (s : Canvas) → stateOk s ≡ true → hasTile s ≡ false → (s .alpha ≡ 0) × ((i : ℕ) → i < 1024 → getD (s .marks) i 0 ≡ 0)
@@ -276,10 +280,10 @@ pub record NumbersSmall (s : Canvas) : Type 0 where
   pub tileAlpha : s .tile .format .alpha ≤ 2 ^ 30
   pub alpha : s .alpha ≤ 2 ^ 30
 
-side-small : (w h : ℕ) → 1 ≤ w → 1 ≤ h → w * h ≤ 2 ^ 30 → (w ≤ 2 ^ 30) × (h ≤ 2 ^ 30)
+pub side-small : (w h : ℕ) → 1 ≤ w → 1 ≤ h → w * h ≤ 2 ^ 30 → (w ≤ 2 ^ 30) × (h ≤ 2 ^ 30)
 side-small w h a b l = (omega (arith, mul-below w h w 1 (omega arith) b), omega (arith, mul-below w h 1 h a (omega arith)))
 
-bare-zero : (s : Canvas) → hasTile s ≡ false → bareOk s ≡ true → (s .tile .width ≡ 0) × (s .tile .height ≡ 0) × (s .tile .format .chroma ≡ 0) × (s .tile .format .depth ≡ 0) × (s .tile .format .alpha ≡ 0)
+pub bare-zero : (s : Canvas) → hasTile s ≡ false → bareOk s ≡ true → (s .tile .width ≡ 0) × (s .tile .height ≡ 0) × (s .tile .format .chroma ≡ 0) × (s .tile .format .depth ≡ 0) × (s .tile .format .alpha ≡ 0)
 unfolding bareOk hasTile
 bare-zero s h k =
     let a = and-true (eqb (s .tile .height) 0) _ k in

@@ -6,3 +6,4 @@ pub mod SequenceLaws
 pub mod KeepLaws
 pub mod ComposeLaws
 pub mod CallLaws
+pub mod MadeLaws

@@ -1,12 +1,13 @@
 -- Calls of a session in turn ("Canvas session"). Assumes nothing.
 use mathlib.Core.Bool.{_&&_}
 use mathlib.Core.List.{List, [], _∷_}
+use mathlib.Core.Path.{_≡_}
 use Prim.Native.Nat.{_%_, ℕ}
 use lib.Dec.{eqb}
 use lib.ListN.{length, take}
 use Rattle.laws.specs.Out.{Out, andThen, done, refused}
 use Rattle.laws.specs.Pick.{pick}
-use Rattle.image.specs.Bytes.{decode, headBytes}
+use Rattle.image.specs.Bytes.{Bytes, decode, headBytes}
 use Rattle.image.specs.Format.{columnsOf, hasAlpha, hasPart, rowsOf}
 use Rattle.image.specs.Picture.{Pic}
 use Rattle.image.specs.Record.{recordOf}
@@ -53,6 +54,15 @@ callAll (c ∷ cs) e = andThen (callAll cs e) (callOf c)
 -- start, and such calls over one buffer
 unfoldable pub callsRun : List ℕ → List Call → List ℕ → Out Drawn
 callsRun body cs d = andThen (sessionOf body) (λ s. callAll cs (record { canvas = s; buffer = d }))
+
+-- a state that start and such calls come to, over some buffer
+pub record MadeBy (s : Canvas) : Type 0 where
+  pub body : List ℕ
+  pub small : Bytes body
+  pub calls : List Call
+  pub before : List ℕ
+  pub after : List ℕ
+  pub run : callsRun body calls before ≡ done (record { canvas = s; buffer = after })
 
 -- ---- what they leave
 
