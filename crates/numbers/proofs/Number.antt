@@ -1,13 +1,14 @@
--- Laws of house numbers: a step of the writer, a step of the reader. Assumes nothing.
-use mathlib.Core.Path.{_≡_, refl, sym, ap, _∙_}
+-- Laws of house numbers: a step of the writer, a step of the reader; what was written is read back, and what is read is the shortest
+-- form. Assumes nothing.
+use mathlib.Core.Path.{_≡_, refl, sym, ap, ap₂, _∙_}
 use mathlib.Core.List.{List, [], _∷_, _++_}
 use Prim.Native.Nat.{ℕ, zero, suc, _+_, _-_, _*_, _/_, _%_, _^_, _≤_, _<_}
 use native.Mathlib.Nat.{pow-suc, div-lt-iff-lt-mul, pow-le-pow-right, mul-le-mul-right, not-suc-le-zero, add-zero, add-assoc, mul-comm, mul-assoc, add-mul, mod-add-div'}
 use native.Mathlib.Numerals.{add-one}
 use native.Mathlib.Omega.{arith}
 use lib.Dec.{ltb, leb, lit<}
-use lib.ListN.{length, getD, drop, length-drop}
-use lib.Seq.{getD-drop, drop-drop, drop-append-seam}
+use lib.ListN.{length, getD, drop, take, length-drop, length-append}
+use lib.Seq.{getD-drop, drop-cons, drop-drop, drop-append-seam, take-at}
 use borrow.Author.Tests.{lt-ltb, le-ltb, le-leb, lt-leb}
 use Rattle.laws.specs.Pick.{pick}
 use Rattle.laws.proofs.Order.{by-order, apart}
@@ -188,3 +189,101 @@ number-at s i n rest e h =
 
 pub past-append : (s : List ℕ) (i : ℕ) (a b : List ℕ) → drop i s ≡ a ++ b → drop (i + length a) s ≡ b
 past-append s i a b e = sym (drop-drop (length a) i s) ∙ ap (drop (length a)) e ∙ drop-append-seam a b
+
+-- ---- what is read is the shortest form
+
+-- a last group by itself
+groups-last : (k n : ℕ) → n < 128 → groups k n ≡ n ∷ []
+unfolding groups pick
+groups-last zero n h = refl
+groups-last (suc k) n h = simp (lt-ltb n 128 h)
+
+groups-more : (k n : ℕ) → 128 ≤ n → groups (suc k) n ≡ (n % 128 + 128) ∷ groups k (n / 128)
+unfolding groups pick
+groups-more k n h = simp (le-ltb n 128 h)
+
+head-drop : (s : List ℕ) (i : ℕ) → i < length s → drop i s ≡ getD s i 0 ∷ drop (i + 1) s
+head-drop s i h = drop-cons s i 0 h ∙ ap (λ (j : ℕ). getD s i 0 ∷ drop j s) (sym (add-one i))
+
+-- what the groups from place i on came to: the number n, of which these are the groups
+record Came (k : ℕ) (s : List ℕ) (i least w v x next : ℕ) : Type 0 where
+  n : ℕ
+  value : x ≡ v + n * w
+  some : least ≤ n
+  bytes : drop i s ≡ groups k n ++ drop next s
+
+came-last : (k : ℕ) (s : List ℕ) (i least w v x next : ℕ) → i < length s → getD s i 0 < 128 → least ≤ getD s i 0 → v + getD s i 0 * w ≡ x → i + 1 ≡ next → Came k s i least w v x next
+came-last k s i least w v x next h l t e f = record {
+  n = getD s i 0;
+  value = sym e;
+  some = t;
+  bytes = head-drop s i h ∙ rw (groups-last k (getD s i 0) l, f) refl;
+}
+
+-- a group below others
+group-on : (b m : ℕ) → 128 ≤ b → b < 256 → 1 ≤ m
+    → (128 ≤ b - 128 + m * 128) × ((b - 128 + m * 128) % 128 + 128 ≡ b) × ((b - 128 + m * 128) / 128 ≡ m)
+group-on b m l h s = (omega arith, omega arith, omega arith)
+
+came-more : (k : ℕ) (s : List ℕ) (i least w v x next : ℕ) → i < length s → 128 ≤ getD s i 0 → getD s i 0 < 256 → least ≤ 1
+    → Came k s (i + 1) 1 (w * 128) (v + (getD s i 0 - 128) * w) x next → Came (suc k) s i least w v x next
+came-more k s i least w v x next h g small few c =
+    let b = getD s i 0 in
+    let n = b - 128 + c .n * 128 in
+    let o = group-on b (c .n) g small (c .some) in
+    let value : v + (b - 128) * w + c .n * (w * 128) ≡ v + n * w =
+    ap₂ (λ (r m : ℕ). v + (r - 128) * w + m * (w * 128)) (sym (o .1)) (sym (o .2)) ∙ regroup n w v in
+    let bytes : b ∷ (groups k (c .n) ++ drop next s) ≡ groups (suc k) n ++ drop next s =
+    ap₂ (λ (r m : ℕ). r ∷ (groups k m ++ drop next s)) (sym (o .1)) (sym (o .2)) ∙ ap (λ (r : List ℕ). r ++ drop next s) (sym (groups-more k n (o .0))) in
+    record {
+      n = n;
+      value = c .value ∙ value;
+      some = omega (arith, o .0);
+      bytes = head-drop s i h ∙ ap (λ (r : List ℕ). b ∷ r) (c .bytes) ∙ bytes;
+    }
+
+-- the first of them, and what comes of the others
+came-step : (k : ℕ) (s : List ℕ) (i least w v x next : ℕ)
+    → (i < length s → 128 ≤ getD s i 0 → readFrom k s (i + 1) 1 (w * 128) (v + (getD s i 0 - 128) * w) ≡ Number x next → Came k s i least w v x next)
+    → readFrom (suc k) s i least w v ≡ Number x next → Came k s i least w v x next
+came-step k s i least w v x next others e =
+    let m : 0 < suc k = omega arith in
+    by-order i (length s)
+    (λ h.
+    by-order (getD s i 0) 128
+    (λ l.
+    by-order (getD s i 0) least
+    (λ t. let q = read-low (suc k) s i least w v m h l t in apart (cc))
+    (λ t.
+    by-order (v + getD s i 0 * w) (2 ^ 32)
+    (λ g. let q = read-last (suc k) s i least w v m h l t g in came-last k s i least w v x next h l t (cc) (cc))
+    (λ g. let q = read-large (suc k) s i least w v m h l t g in apart (cc))))
+    (λ l.
+    let q = read-more (suc k) s i least w v m h l in
+    let j : suc k - 1 ≡ k = omega arith in
+    others h l (rw j at (sym q ∙ e))))
+    (λ h. let q = read-end (suc k) s i least w v m h in apart (cc))
+
+came-from : (k : ℕ) (s : List ℕ) (i least w v x next : ℕ) → ((j : ℕ) → getD s j 0 < 256) → least ≤ 1 → readFrom (suc k) s i least w v ≡ Number x next → Came k s i least w v x next
+came-from zero s i least w v x next small few e =
+    came-step 0 s i least w v x next (λ h l f. let q = read-none s (i + 1) 1 (w * 128) (v + (getD s i 0 - 128) * w) in apart (cc)) e
+came-from (suc k) s i least w v x next small few e =
+    came-step (suc k) s i least w v x next
+    (λ h l f. came-more k s i least w v x next h l (small i) few (came-from k s (i + 1) 1 (w * 128) (v + (getD s i 0 - 128) * w) x next small (omega arith) f)) e
+
+-- the number's bytes, and what stands past them
+read-rest : (s : List ℕ) (at v next : ℕ) → ((i : ℕ) → getD s i 0 < 256) → readNumber s at ≡ Number v next → drop at s ≡ numberBytes v ++ drop next s
+unfolding numberBytes readNumber
+read-rest s at v next small e =
+    let c = came-from 4 s at 0 1 0 v next small (omega arith) e in
+    let q : c .n ≡ v = omega (arith, c .value) in
+    c .bytes ∙ ap (λ (n : ℕ). groups 4 n ++ drop next s) q
+
+-- Document 01: a number "is below 2^32, in shortest form". The bytes that a number is read from are those that its value is written as.
+pub read-shortest : (s : List ℕ) (at v next : ℕ) → ((i : ℕ) → getD s i 0 < 256) → readNumber s at ≡ Number v next → take (next - at) (drop at s) ≡ numberBytes v
+read-shortest s at v next small e =
+    let k = read-bounds s at v next e in
+    let f = read-rest s at v next small e in
+    let n : length (numberBytes v) ≡ next - at =
+    omega (arith, k .1, k .2, ap length f, length-append (numberBytes v) (drop next s), length-drop at s, length-drop next s) in
+    ap (take (next - at)) f ∙ take-at (numberBytes v) (drop next s) (next - at) n
