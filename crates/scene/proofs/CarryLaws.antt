@@ -6,7 +6,7 @@ use Prim.Native.Nat.{_+_, _-_, _<_, _≤_, suc, zero, ℕ}
 use native.Mathlib.Nat.{le-trans}
 use native.Mathlib.Omega.{arith}
 use lib.ListN.{drop, drop-of-length-le, length, length-append, length-drop, length-replicate, replicate, take}
-use lib.Seq.{length-take-le, take-at}
+use lib.Seq.{length-take-le, take-all, take-at}
 use borrow.Author.Tests.{le-ltb, lt-ltb}
 use Rattle.laws.proofs.Order.{and-true, by-order, by-test, pick-false, pick-true}
 use Rattle.laws.proofs.Out.{andThen-done, done-same, fitted-room, same-done, then-done}
@@ -348,6 +348,11 @@ cleared d from n l e =
     ap (puts d from) z
     ∙ puts-split d from _ (omega (arith, k))
     ∙ ap (λ (l : List ℕ). take from d ++ l) (ap (λ (l : List ℕ). replicate (length d - from) 0 ++ l) (drop-of-length-le d past) ∙ append-nil _)
+
+pub cleared-none : (d : List ℕ) (from : ℕ) → length d ≤ from → d ≡ take from d ++ replicate (length d - from) 0
+cleared-none d from l =
+    let z : length d - from ≡ 0 = omega arith in
+    sym (ap (λ (k : ℕ). take from d ++ replicate k 0) z ∙ append-nil _ ∙ take-all from d l)
 
 module _ (n : ℕ) (bs d e f g : List ℕ) (h : Ended n bs d e f g) where
   pub ended-output : take n e ++ replicate (length e - n) 0 ≡ bs ++ replicate (length d - length bs) 0

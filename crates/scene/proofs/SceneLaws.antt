@@ -2,18 +2,19 @@
 use mathlib.Core.Bool.{Bool, false, true}
 use mathlib.Core.List.{List, _++_}
 use mathlib.Core.Path.{_∙_, _≡_, ap, refl, sym}
-use Prim.Native.Nat.{_-_, _<_, _≤_, ℕ}
+use Prim.Native.Nat.{_-_, _≤_, ℕ}
 use native.Mathlib.Nat.{le-trans}
 use native.Mathlib.Omega.{arith}
-use lib.ListN.{drop, length, replicate, take}
+use lib.Dec.{ltb}
+use lib.ListN.{length, replicate, take}
 use lib.Seq.{take-at}
-use borrow.Author.Tests.{le-ltb, lt-ltb}
-use Rattle.laws.proofs.Out.{Same, andThen-done, done-same, refuse-no, refuse-yes, refused-back, same-left, same-refused, then-done, then-refuse, then-refused}
+use borrow.Author.Tests.{le-ltb, ltb-false}
+use Rattle.laws.proofs.Out.{Same, alike, andThen-done, both, done-same, not-done, refuse-done, refuse-no, refused-back, same-left, then-done, then-refuse, then-refused}
 use Rattle.laws.proofs.Puts.{length-puts, puts-start}
 use Rattle.laws.specs.Out.{Out, andThen, answerOf, done, reason, refuse, refused}
 use Rattle.laws.specs.Puts.{puts}
 use Rattle.laws.specs.declared.Answer.{Answer}
-use Rattle.laws.specs.declared.Answer.the-variants.{Refused, Wrote}
+use Rattle.laws.specs.declared.Answer.the-variants.{Refused}
 use Rattle.laws.specs.declared.Refusal.{Refusal}
 use Rattle.numbers.specs.Number.{onNumber, readNumber}
 use Rattle.numbers.specs.declared.NumberRead.{NumberRead}
@@ -46,8 +47,9 @@ use Rattle.scene.proofs.ComposedLaws.{grid-tame, overlay-tame}
 use Rattle.scene.proofs.CourseLaws.{Leads, course-drawn, lies-even}
 use Rattle.scene.specs.Carry.{Finished, Ready, bytesIn, chainBytes, lies, lying, recordAfter}
 use Rattle.scene.specs.Chain.{Drawn, begun, chainDrawn}
-use Rattle.scene.specs.Course.{courseOf}
+use Rattle.scene.specs.Course.{courseOf, heldFor, heldOf}
 use Rattle.scene.specs.Scene.{gridDrawn, gridScene, outputOf, overlayDrawn, overlayScene, roomFor, spareOf}
+use Rattle.scene.specs.declared.carry.Held.{Held}
 use Rattle.scene.specs.declared.course.Course.{Course}
 
 -- ---- what is answered and written
@@ -72,117 +74,137 @@ scene-done o bs d d′ e f f′ g a q i j k = (
 unfoldable pub sceneOn : List PropertyEntry → Bool → Pic → ℕ → ℕ → Out (List ℕ)
 sceneOn es flag P output spare = andThen (chainDrawn es flag P) (roomFor output spare)
 
+-- where a form's record lies, and what the chain on its picture comes to
+record Planned (es : List PropertyEntry) (flag : Bool) (P : Pic) (m : Form) (output spare : ℕ) (h : Held) : Type 0 where
+  drawn : Drawn
+  run : chainDrawn es flag P ≡ done drawn
+  over : drawn .longest ≤ output
+  under : drawn .longest ≤ spare
+  size : h .size ≡ sizeOf m
+  side : h .inside ≡ lies flag es
+
 module _ (es : List PropertyEntry) (flag : Bool) (P : Pic) (k : Tame P) (m : Form) (same : m ≡ P .form) (output spare : ℕ) where
-  abbrev by-forms : Same Leads (courseOf es flag m) (chainDrawn es flag P)
+  by-forms : Same Leads (courseOf es flag m) (chainDrawn es flag P)
   by-forms = rw same (course-drawn es flag P k)
 
-  pub on-refused : (r : Refusal) → courseOf es flag m ≡ refused r → sceneOn es flag P output spare ≡ refused r
-  unfolding sceneOn
-  on-refused r e = then-refused _ (same-refused Leads _ _ by-forms r e)
+  -- 17 by forms is 17 by pictures
+  room-refused : (c : Course) (d : Drawn) (r : Refusal) → Leads c d → heldFor output spare m c ≡ refused r → roomFor output spare d ≡ refused r
+  unfolding heldFor roomFor refuse
+  room-refused c d r l = rw (l .longest) (go (ltb output (d .longest)) (ltb spare (d .longest)))
+    where
+      held : Held
+      held = record { size = sizeOf m; inside = c .even }
 
-  module _ (c : Course) (e : courseOf es flag m ≡ done c) where
-    -- what is drawn
-    pub on-drawn : (d : Drawn) × (chainDrawn es flag P ≡ done d) × Leads c d
-    on-drawn = same-left Leads _ _ by-forms c e
+      go : (t u : Bool) → refuse t 17 (refuse u 17 (done held)) ≡ refused r → refuse t 17 (refuse u 17 (done (encode (d .pic)))) ≡ refused r
+      go true u q = cc
+      go false true q = cc
+      go false false q = not-done r _ (sym q)
 
-    pub on-short : output < c .longest → sceneOn es flag P output spare ≡ refused (reason 17)
+  pub held-refused : (r : Refusal) → heldOf es flag m output spare ≡ refused r → sceneOn es flag P output spare ≡ refused r
+  unfolding heldOf sceneOn andThen
+  held-refused r = go _ _ by-forms
+    where
+      go : (o : Out Course) (u : Out Drawn) → Same Leads o u → andThen o (heldFor output spare m) ≡ refused r → andThen u (roomFor output spare) ≡ refused r
+      go _ _ alike q = cc
+      go _ _ (both {a = c} {b = d} l) q = room-refused c d r l q
+
+  held-planned : (h : Held) → heldOf es flag m output spare ≡ done h → Planned es flag P m output spare h
+  unfolding heldOf heldFor
+  held-planned h q =
+      let a = andThen-done _ _ h q in
+      let b = refuse-done _ 17 _ h (a .2) in
+      let c = refuse-done _ 17 _ h (b .1) in
+      let d = same-left Leads _ _ by-forms (a .0) (a .1) in
+      let i = done-same _ h (c .1) in
+      record {
+        drawn = d .0;
+        run = d .1;
+        over = rw (← d .2 .longest) (ltb-false _ _ (b .0));
+        under = rw (← d .2 .longest) (ltb-false _ _ (c .0));
+        size = sym (ap (λ (z : Held). z .size) i);
+        side = sym (ap (λ (z : Held). z .inside) i) ∙ lies-even flag es m (a .0) (a .1);
+      }
+
+  module _ (h : Held) (p : Planned es flag P m output spare h) where
+    planned-done : sceneOn es flag P output spare ≡ done (encode (p .drawn .pic))
     unfolding sceneOn roomFor
-    on-short l =
-        let k : output < on-drawn .0 .longest = rw (on-drawn .2 .longest) at l in
-        then-done _ (on-drawn .1) ∙ refuse-yes _ _ (lt-ltb _ _ k)
+    planned-done = then-done _ (p .run) ∙ refuse-no _ _ (le-ltb _ _ (p .over)) ∙ refuse-no _ _ (le-ltb _ _ (p .under))
 
-    pub on-narrow : c .longest ≤ output → spare < c .longest → sceneOn es flag P output spare ≡ refused (reason 17)
-    unfolding sceneOn roomFor
-    on-narrow o l =
-        let i : on-drawn .0 .longest ≤ output = rw (on-drawn .2 .longest) at o in
-        let j : spare < on-drawn .0 .longest = rw (on-drawn .2 .longest) at l in
-        then-done _ (on-drawn .1) ∙ refuse-no _ _ (le-ltb _ _ i) ∙ refuse-yes _ _ (lt-ltb _ _ j)
-
-    module _ (o : c .longest ≤ output) (s : c .longest ≤ spare) where
-      abbrev i : on-drawn .0 .longest ≤ output
-      i = rw (on-drawn .2 .longest) at o
-
-      abbrev j : on-drawn .0 .longest ≤ spare
-      j = rw (on-drawn .2 .longest) at s
-
-      pub on-done : sceneOn es flag P output spare ≡ done (encode (on-drawn .0 .pic))
-      unfolding sceneOn roomFor
-      on-done = then-done _ (on-drawn .1) ∙ refuse-no _ _ (le-ltb _ _ i) ∙ refuse-no _ _ (le-ltb _ _ j)
-
-      pub on-carried : Carried output spare flag es P (length (encode P)) (on-drawn .0)
-      unfolding chainDrawn begun
-      on-carried = chain-carried output spare flag es P (length (encode P)) (on-drawn .0) k (omega arith) (on-drawn .1) i j
+    planned-carried : Carried output spare flag es P (length (encode P)) (p .drawn)
+    unfolding chainDrawn begun
+    planned-carried = chain-carried output spare flag es P (length (encode P)) (p .drawn) k (omega arith) (p .run) (p .over) (p .under)
 
 -- ---- the composed record in one of the buffers
 
-module _ (s : List ℕ) (h : Chain) (judged : Judged s h) (flag : Bool) (P : Pic) (k : Tame P) (m : Form) (same : m ≡ P .form) (output spare : List ℕ) (c : Course)
-    (e : courseOf (judged .entries) flag m ≡ done c) (o : c .longest ≤ length output) (p : c .longest ≤ length spare) where
+module _ (s : List ℕ) (g : Chain) (judged : Judged s g) (flag : Bool) (P : Pic) (k : Tame P) (m : Form) (same : m ≡ P .form) (output spare : List ℕ) (h : Held)
+    (e : heldOf (judged .entries) flag m (length output) (length spare) ≡ done h) where
   abbrev es : List PropertyEntry
   es = judged .entries
 
-  abbrev carried : Carried (length output) (length spare) flag es P (length (encode P)) (on-drawn es flag P k m same (length output) (length spare) c e .0)
-  carried = on-carried es flag P k m same (length output) (length spare) c e o p
+  abbrev planned : Planned es flag P m (length output) (length spare) h
+  planned = held-planned es flag P k m same (length output) (length spare) h e
 
-  size-is : sizeOf m ≡ length (encode P)
-  size-is = ap sizeOf same ∙ sym (length-encode P)
+  abbrev carried : Carried (length output) (length spare) flag es P (length (encode P)) (planned .drawn)
+  carried = planned-carried es flag P k m same (length output) (length spare) h planned
 
-  first-fits : length (encode P) ≤ c .longest
-  first-fits = rw (on-drawn es flag P k m same (length output) (length spare) c e .2 .longest) (carried .grows)
+  size-is : h .size ≡ length (encode P)
+  size-is = planned .size ∙ ap sizeOf same ∙ sym (length-encode P)
+
+  -- the composed record has room
+  pub first-output : length (encode P) ≤ length output
+  first-output = le-trans (carried .grows) (planned .over)
+
+  pub first-spare : length (encode P) ≤ length spare
+  first-spare = le-trans (carried .grows) (planned .under)
 
   -- a buffer that begins with it
-  begins : (d : List ℕ) → length (encode P) ≤ length d → take (sizeOf m) (puts d 0 (encode P)) ≡ encode P
-  begins d l = ap (take (sizeOf m)) (puts-start d (encode P) l) ∙ take-at (encode P) _ (sizeOf m) (sym size-is)
+  begins : (d : List ℕ) → length (encode P) ≤ length d → take (h .size) (puts d 0 (encode P)) ≡ encode P
+  begins d l = ap (take (h .size)) (puts-start d (encode P) l) ∙ take-at (encode P) _ (h .size) (sym size-is)
 
   -- the bytes that the chain ends with
-  ends-with : (bs : List ℕ) → bs ≡ encode P → chainBytes s (h .count) (h .first) flag bs ≡ encode (on-drawn es flag P k m same (length output) (length spare) c e .0 .pic)
+  ends-with : (bs : List ℕ) → bs ≡ encode P → chainBytes s (g .count) (g .first) flag bs ≡ encode (planned .drawn .pic)
   unfolding chainBytes bytesIn
   ends-with bs i = ap bytesIn (then-done _ (judged .read) ∙ ap (λ (b : List ℕ). foldChain recordAfter flag es b) i ∙ carried .ends)
 
-  ready-with : (here : Bool) (d f : List ℕ) → here ≡ lies flag es → length d ≡ length output → length f ≡ length spare → lying here (sizeOf m) d f ≡ encode P
-      → Ready s (h .count) (h .first) flag here (sizeOf m) d f
-  ready-with here d f side i j b = record {
+  ready-with : (d f : List ℕ) → length d ≡ length output → length f ≡ length spare → lying (h .inside) (h .size) d f ≡ encode P
+      → Ready s (g .count) (g .first) flag (h .inside) (h .size) d f
+  ready-with d f i j b = record {
     entries = es;
     read = judged .read;
-    side = side;
-    first = rw (i, size-is) (le-trans first-fits o);
-    other = rw (j, size-is) (le-trans first-fits p);
+    side = planned .side;
+    first = rw (i, size-is) first-output;
+    other = rw (j, size-is) first-spare;
     room = rw (i, j, b) (carried .room);
   }
 
-  -- the composed record has room
-  pub first-long : length (encode P) ≤ c .longest
-  first-long = first-fits
-
-  pub first-size : sizeOf m ≤ c .longest
-  first-size = rw size-is first-fits
-
-  module _ (n : ℕ) (long : n ≡ sizeOf m) (d : List ℕ) where
-    pub ready-output : c .even ≡ true → d ≡ puts output 0 (encode P) → Ready s (h .count) (h .first) flag true n d spare
+  -- the buffers once it is drawn: in output, or in the spare
+  module _ (d : List ℕ) where
+    lies-output : h .inside ≡ true → d ≡ puts output 0 (encode P) → lying (h .inside) (h .size) d spare ≡ encode P
     unfolding lying
-    ready-output t i = rw (long, i) (ready-with true _ _ (sym t ∙ lies-even flag es m c e) (length-puts output 0 (encode P)) refl (begins output (le-trans first-fits o)))
+    lies-output t i = ap (λ (z : Bool). lying z (h .size) d spare) t ∙ ap (take (h .size)) i ∙ begins output first-output
 
-    pub ready-spare : c .even ≡ false → d ≡ puts spare 0 (encode P) → Ready s (h .count) (h .first) flag false n output d
+    lies-spare : h .inside ≡ false → d ≡ puts spare 0 (encode P) → lying (h .inside) (h .size) output d ≡ encode P
     unfolding lying
-    ready-spare t i = rw (long, i) (ready-with false _ _ (sym t ∙ lies-even flag es m c e) refl (length-puts spare 0 (encode P)) (begins spare (le-trans first-fits p)))
+    lies-spare t i = ap (λ (z : Bool). lying z (h .size) output d) t ∙ ap (take (h .size)) i ∙ begins spare first-spare
 
-    -- what the call then comes to, from either buffer
-    module _ (u : Out (List ℕ)) (is : u ≡ sceneOn es flag P (length output) (length spare)) (a : Answer) (f g : List ℕ) where
-      scene-ends : u ≡ done (encode (on-drawn es flag P k m same (length output) (length spare) c e .0 .pic))
-      scene-ends = is ∙ on-done es flag P k m same (length output) (length spare) c e o p
+    pub ready-output : h .inside ≡ true → d ≡ puts output 0 (encode P) → Ready s (g .count) (g .first) flag (h .inside) (h .size) d spare
+    ready-output t i = ready-with d spare (ap length i ∙ length-puts output 0 (encode P)) refl (lies-output t i)
 
-      pub scene-output : d ≡ puts output 0 (encode P) → Finished a (chainBytes s (h .count) (h .first) flag (lying true n d spare)) d f spare g
-          → (a ≡ answerOf u) × (f ≡ outputOf u output) × (g ≡ spareOf u spare)
-      unfolding lying
-      scene-output i w =
-          let b : take n d ≡ encode P = ap (λ (j : ℕ). take j d) long ∙ ap (take (sizeOf m)) i ∙ begins output (le-trans first-fits o) in
-          scene-done u _ output d f spare spare g a scene-ends (ap length i ∙ length-puts output 0 (encode P)) refl (rw (ends-with _ b) at w)
+    pub ready-spare : h .inside ≡ false → d ≡ puts spare 0 (encode P) → Ready s (g .count) (g .first) flag (h .inside) (h .size) output d
+    ready-spare t i = ready-with output d refl (ap length i ∙ length-puts spare 0 (encode P)) (lies-spare t i)
 
-      pub scene-spare : d ≡ puts spare 0 (encode P) → Finished a (chainBytes s (h .count) (h .first) flag (lying false n output d)) output f d g
-          → (a ≡ answerOf u) × (f ≡ outputOf u output) × (g ≡ spareOf u spare)
-      unfolding lying
-      scene-spare i w =
-          let b : take n d ≡ encode P = ap (λ (j : ℕ). take j d) long ∙ ap (take (sizeOf m)) i ∙ begins spare (le-trans first-fits p) in
-          scene-done u _ output output f spare d g a scene-ends refl (ap length i ∙ length-puts spare 0 (encode P)) (rw (ends-with _ b) at w)
+    -- what the call then comes to
+    module _ (u : Out (List ℕ)) (is : u ≡ sceneOn es flag P (length output) (length spare)) (a : Answer) (f z : List ℕ) where
+      scene-ends : u ≡ done (encode (planned .drawn .pic))
+      scene-ends = is ∙ planned-done es flag P k m same (length output) (length spare) h planned
+
+      pub scene-output : h .inside ≡ true → d ≡ puts output 0 (encode P) → Finished a (chainBytes s (g .count) (g .first) flag (lying (h .inside) (h .size) d spare)) d f spare z
+          → (a ≡ answerOf u) × (f ≡ outputOf u output) × (z ≡ spareOf u spare)
+      scene-output t i w = scene-done u _ output d f spare spare z a scene-ends (ap length i ∙ length-puts output 0 (encode P)) refl (rw (ends-with _ (lies-output t i)) at w)
+
+      pub scene-spare : h .inside ≡ false → d ≡ puts spare 0 (encode P) → Finished a (chainBytes s (g .count) (g .first) flag (lying (h .inside) (h .size) output d)) output f d z
+          → (a ≡ answerOf u) × (f ≡ outputOf u output) × (z ≡ spareOf u spare)
+      scene-spare t i w = scene-done u _ output output f spare d z a scene-ends refl (ap length i ∙ length-puts spare 0 (encode P)) (rw (ends-with _ (lies-spare t i)) at w)
 
 -- ---- the grid's scene
 
@@ -196,6 +218,10 @@ pub record GridKnown (body tray chain : List ℕ) (flag : Bool) (h : Chain) (t :
 pub grid-form : (tray : List ℕ) (t : Tiles) (m : Form) → m ≡ canvasForm (t .desc) (t .tile) (t .alpha) → m ≡ gridOn tray t .form
 unfolding gridOn gridPic
 grid-form tray t m e = e
+
+pub grid-size : (tray : List ℕ) (t : Tiles) → sizeOf (canvasForm (t .desc) (t .tile) (t .alpha)) ≡ length (encode (gridOn tray t))
+unfolding gridOn gridPic
+grid-size tray t = sym (length-encode (gridOn tray t))
 
 module _ (body tray chain : List ℕ) (flag : Bool) where
   pub grid-malformed : readNumber tray 0 ≡ NumberRead.Malformed → (output spare : ℕ) → gridScene body tray chain flag output spare ≡ refused (reason 5)

@@ -1,7 +1,9 @@
 -- Where a chain leads, by forms alone: what is known before anything is drawn. Assumes nothing.
 use mathlib.Core.Bool.{Bool, false, not, true}
 use mathlib.Core.List.{List}
-use Rattle.laws.specs.Out.{Out, andThen, done, refused}
+use Prim.Native.Nat.{ℕ}
+use lib.Dec.{ltb}
+use Rattle.laws.specs.Out.{Out, andThen, done, refuse, refused}
 use Rattle.laws.specs.Pick.{pick}
 use Rattle.image.specs.Bytes.{sizeOf}
 use Rattle.image.specs.Picture.{sized}
@@ -14,9 +16,11 @@ use Rattle.props.specs.declared.entry.PropertyEntry.{PropertyEntry}
 use Rattle.transform.specs.Move.{cropMove, turnForm}
 use Rattle.transform.specs.Turn.{quarterOf}
 use Rattle.scene.specs.Chain.{longer}
+use Rattle.scene.specs.declared.carry.Held.{Held}
 use Rattle.scene.specs.declared.course.Course.{Course}
 use Rattle.scene.specs.declared.course.CourseRead.{CourseRead}
 use Rattle.scene.specs.declared.course.FormRead.{FormRead}
+use Rattle.scene.specs.declared.plan.HeldRead.{HeldRead}
 
 -- the form after a property
 unfoldable pub formAfter : Property → Form → Out Form
@@ -47,6 +51,14 @@ courseAfter p c =
 unfoldable pub courseOf : List PropertyEntry → Bool → Form → Out Course
 courseOf es essentialOnly m = foldChain courseAfter essentialOnly es (setOff m)
 
+-- 17 output or spare shorter than the longest record; else the composed record, in output where an even number of properties draw
+unfoldable pub heldFor : ℕ → ℕ → Form → Course → Out Held
+heldFor output spare m c =
+    refuse (ltb output (c .longest)) 17 (refuse (ltb spare (c .longest)) 17 (done (record { size = sizeOf m; inside = c .even })))
+
+unfoldable pub heldOf : List PropertyEntry → Bool → Form → ℕ → ℕ → Out Held
+heldOf es essentialOnly m output spare = andThen (courseOf es essentialOnly m) (heldFor output spare m)
+
 -- what the code answers
 abbrev pub formOut : FormRead → Out Form
 formOut (FormRead.Form m) = done m
@@ -55,3 +67,7 @@ formOut (FormRead.Refused e) = refused e
 abbrev pub courseOut : CourseRead → Out Course
 courseOut (CourseRead.Course c) = done c
 courseOut (CourseRead.Refused e) = refused e
+
+abbrev pub heldOut : HeldRead → Out Held
+heldOut (HeldRead.Held h) = done h
+heldOut (HeldRead.Refused e) = refused e

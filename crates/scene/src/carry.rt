@@ -92,26 +92,21 @@ fn draw_entry(
     held
 }
 
-// A chain that was judged, on a record of so many bytes at the start of output (`inside`) or of the spare, so that the last record
-// ends in output. Answers its length.
-pub fn draw_chain(
+// A chain that was judged, on a record that lies so that the last record ends in output. Answers its length.
+fn draw_chain(
     s: &[u8],
     chain: Chain,
     essential_only: bool,
     output: &mut [u8],
     spare: &mut [u8],
-    first: usize,
-    inside: bool,
+    first: Held,
 ) -> usize
-    requires { ⌜ Ready (now s) (chain .count) (chain .first) «essential_only» inside first (now output) (now spare) ⌝ }
-    ensures { λ r. ⌜ Ended r (chainBytes (now (s .entry)) (chain .count) (chain .first) «essential_only» (lying inside first (now (output .entry)) (now (spare .entry)))) (now (output .entry)) (now (output .exit)) (now (spare .entry)) (now (spare .exit)) ⌝ }
+    requires { ⌜ Ready (now s) (chain .count) (chain .first) «essential_only» (first .inside) (first .size) (now output) (now spare) ⌝ }
+    ensures { λ r. ⌜ Ended r (chainBytes (now (s .entry)) (chain .count) (chain .first) «essential_only» (lying (first .inside) (first .size) (now (output .entry)) (now (spare .entry)))) (now (output .entry)) (now (output .exit)) (now (spare .entry)) (now (spare .exit)) ⌝ }
 {
     let mut next = chain.first;
     let mut left = chain.count;
-    let mut held = Held {
-        size: first,
-        inside,
-    };
+    let mut held = first;
     while left > 0 {
         let EntryRead::Read(e) = props::read_entry(s, next) else {
             return held.size;
@@ -125,27 +120,27 @@ pub fn draw_chain(
 
 // Zeros from a place on.
 fn clear(out: &mut [u8], from: usize)
-    requires { ⌜ from ≤ length (now out) ⌝ }
     ensures { λ _. ⌜ now (out .exit) ≡ take from (now (out .entry)) ++ replicate (length (now (out .entry)) - from) 0 ⌝ }
 {
-    let n = out.len() - from;
-    image::fill_row(out, from, 1, 0, n);
+    if from < out.len() {
+        let n = out.len() - from;
+        image::fill_row(out, from, 1, 0, n);
+    }
 }
 
 // The chain on a composed record: the last record at the start of output, zero past it, and zero all over the spare.
-pub fn finish_scene(
+pub(crate) fn finish_scene(
     s: &[u8],
     chain: Chain,
     essential_only: bool,
     output: &mut [u8],
     spare: &mut [u8],
-    first: usize,
-    inside: bool,
+    first: Held,
 ) -> Answer
-    requires { ⌜ Ready (now s) (chain .count) (chain .first) «essential_only» inside first (now output) (now spare) ⌝ }
-    ensures { λ r. ⌜ Finished r (chainBytes (now (s .entry)) (chain .count) (chain .first) «essential_only» (lying inside first (now (output .entry)) (now (spare .entry)))) (now (output .entry)) (now (output .exit)) (now (spare .entry)) (now (spare .exit)) ⌝ }
+    requires { ⌜ Ready (now s) (chain .count) (chain .first) «essential_only» (first .inside) (first .size) (now output) (now spare) ⌝ }
+    ensures { λ r. ⌜ Finished r (chainBytes (now (s .entry)) (chain .count) (chain .first) «essential_only» (lying (first .inside) (first .size) (now (output .entry)) (now (spare .entry)))) (now (output .entry)) (now (output .exit)) (now (spare .entry)) (now (spare .exit)) ⌝ }
 {
-    let size = draw_chain(s, chain, essential_only, output, spare, first, inside);
+    let size = draw_chain(s, chain, essential_only, output, spare, first);
     clear(output, size);
     clear(spare, 0);
     Answer::Wrote(size)

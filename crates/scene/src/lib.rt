@@ -2,14 +2,15 @@
 // in the lent output. All refusals are found before anything is written.
 mod carry;
 mod course;
+mod plan;
 
 ghost use mathlib.Core.Path.{_≡_};
 ghost use lib.ListN.{length};
 ghost use Rattle.laws.specs.Out.{answerOf};
 ghost use Rattle.scene.specs.Scene.{gridScene, overlayScene, outputOf, spareOf};
 use crate::carry::finish_scene;
-use crate::course::CourseRead;
-use crate::course::plan_chain;
+use crate::plan::HeldRead;
+use crate::plan::plan_scene;
 use fill::Colour;
 use grid::TilesRead;
 use laws::Answer;
@@ -41,30 +42,15 @@ pub fn grid_scene(
             TilesRead::Refused(e) => Answer::Refused(e),
             TilesRead::Read(t) => {
                 let form = grid::canvas_form(t.desc, t.tile, t.alpha);
-                match plan_chain(chain, c, essential_only, form) {
-                    CourseRead::Refused(e) => Answer::Refused(e),
-                    CourseRead::Course(k) => {
-                        if output.len() < k.longest {
-                            return Answer::Refused(Refusal::ROOM);
-                        }
-                        if spare.len() < k.longest {
-                            return Answer::Refused(Refusal::ROOM);
-                        }
-                        let size = image::record_size(form);
-                        if k.even {
+                match plan_scene(chain, c, essential_only, form, output.len(), spare.len()) {
+                    HeldRead::Refused(e) => Answer::Refused(e),
+                    HeldRead::Held(held) => {
+                        if held.inside {
                             grid::draw_grid(output, tray, t);
-                            return finish_scene(
-                                chain,
-                                c,
-                                essential_only,
-                                output,
-                                spare,
-                                size,
-                                true,
-                            );
+                            return finish_scene(chain, c, essential_only, output, spare, held);
                         }
                         grid::draw_grid(spare, tray, t);
-                        finish_scene(chain, c, essential_only, output, spare, size, false)
+                        finish_scene(chain, c, essential_only, output, spare, held)
                     }
                 }
             }
@@ -104,30 +90,15 @@ pub fn overlay_scene(
                 if overlay::alpha_above(tray, first, count, format.top()) {
                     return Answer::Refused(Refusal::OPACITY);
                 }
-                match plan_chain(chain, c, essential_only, form) {
-                    CourseRead::Refused(e) => Answer::Refused(e),
-                    CourseRead::Course(k) => {
-                        if output.len() < k.longest {
-                            return Answer::Refused(Refusal::ROOM);
-                        }
-                        if spare.len() < k.longest {
-                            return Answer::Refused(Refusal::ROOM);
-                        }
-                        let size = image::record_size(form);
-                        if k.even {
+                match plan_scene(chain, c, essential_only, form, output.len(), spare.len()) {
+                    HeldRead::Refused(e) => Answer::Refused(e),
+                    HeldRead::Held(held) => {
+                        if held.inside {
                             overlay::draw_overlay(output, body, tray, premultiplied, plan, colour);
-                            return finish_scene(
-                                chain,
-                                c,
-                                essential_only,
-                                output,
-                                spare,
-                                size,
-                                true,
-                            );
+                            return finish_scene(chain, c, essential_only, output, spare, held);
                         }
                         overlay::draw_overlay(spare, body, tray, premultiplied, plan, colour);
-                        finish_scene(chain, c, essential_only, output, spare, size, false)
+                        finish_scene(chain, c, essential_only, output, spare, held)
                     }
                 }
             }

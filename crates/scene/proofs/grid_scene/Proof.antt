@@ -1,6 +1,6 @@
 use mathlib.Core.Path.{_∙_, _≡_, ap, sym}
-use native.Mathlib.Nat.{le-trans}
 use native.Mathlib.Omega.{arith}
+use lib.ListN.{length}
 use borrow.Author.Needs.{needs}
 use denote.Ref.{now}
 use Rattle.laws.proofs.Out.{then-done}
@@ -9,32 +9,31 @@ use Rattle.image.specs.Bytes.{Bytes}
 use Rattle.props.specs.Chain.{chainOut}
 use Rattle.grid.specs.Run.{gridOn}
 use Rattle.grid.specs.Tiles.{tilesOut}
-use Rattle.scene.proofs.SceneLaws.{GridKnown, first-size, grid-chain, grid-form, grid-malformed, grid-read, grid-tiles, on-narrow, on-refused, on-short, ready-output, ready-spare, scene-output, scene-refused, scene-spare}
+use Rattle.scene.proofs.SceneLaws.{GridKnown, first-output, first-spare, grid-chain, grid-form, grid-malformed, grid-read, grid-size, grid-tiles, held-refused, ready-output, ready-spare, scene-output, scene-refused, scene-spare}
+use Rattle.scene.specs.Course.{heldOf, heldOut}
 use Rattle.scene.proofs.grid_scene.Statement.{statement}
-use Rattle.scene.specs.Course.{courseOf, courseOut}
 use Rattle.scene.proofs.grid_scene.Tie as tie
 use Rattle.scene.proofs.grid_scene.Reads as reads
 use Rattle.scene.proofs.grid_scene.Lts as lts
 use Rattle.grid.proofs.draw_grid.Reads as draw-grid-reads
 use Rattle.grid.proofs.canvas_form.Reads as canvas-form-reads
 use Rattle.grid.proofs.read_tiles.Reads as read-tiles-reads
-use Rattle.image.proofs.record_size.Reads as record-size-reads
 use Rattle.numbers.proofs.read_number.Reads as read-number-reads
 use Rattle.props.proofs.check_chain.Reads as check-chain-reads
 use Rattle.scene.proofs.carry.finish_scene.Reads as finish-scene-reads
-use Rattle.scene.proofs.course.plan_chain.Reads as plan-chain-reads
+use Rattle.scene.proofs.plan.plan_scene.Reads as plan-scene-reads
 
 ready : (c : tie.After-t) → GridKnown (now (c .before .before .before .before .before .before .before .before .before .before .before .before .before .before .before .args .body)) (now (c .before .before .before .before .before .before .before .before .before .before .before .before .before .before .before .args .tray)) (now (c .before .before .before .before .before .before .before .before .before .before .before .before .before .before .before .args .chain)) (c .before .before .before .before .before .before .before .before .before .before .before .before .before .before .before .args .essential-only) (c .before .before .before .before .c .given .0 .0) (c .t .given .0 .0)
 unfolding Bytes
 ready c = grid-read _ _ _ _ _ _ (sym (c .before .before .before .before .before .before .before .before .before .read-number .ensures) ∙ c .before .before .before .before .before .before .before .enum-told .given .1) _ (sym (c .before .before .before .before .before .before .check-chain .ensures) ∙ ap chainOut (c .before .before .before .before .c .given .1)) (λ i. omega (arith, c .before .before .before .before .before .before .before .before .before .before .before .before .before .before .shared-slice-known .given i)) (λ i. omega (arith, c .before .before .before .before .before .before .before .before .before .before .before .before .before .shared-slice-known2 .given i)) _ (sym (c .before .before .read-tiles .ensures) ∙ ap tilesOut (c .t .given .1))
 
-led : (c : tie.After-k) → courseOf (ready ((c .before .before .before .before .before)) .judged .entries) (c .before .before .before .before .before .before .before .before .before .before .before .before .before .before .before .before .before .before .before .before .args .essential-only) (c .before .before .before .canvas-form .result) ≡ done (c .k .given .0 .0)
-led c = sym (then-done _ (ready ((c .before .before .before .before .before)) .judged .read)) ∙ sym (c .before .before .plan-chain .ensures) ∙ ap courseOut (c .k .given .1)
-
 formed : (c : tie.After-canvas-form) → (c .canvas-form .result) ≡ gridOn (now (c .before .before .before .before .before .before .before .before .before .before .before .before .before .before .before .before .before .args .tray)) (c .before .before .t .given .0 .0) .form
 formed c = grid-form _ _ _ (c .canvas-form .ensures)
 
--- src/lib.rt:35:52
+led : (c : tie.After-held) → heldOf (ready (c .before .before .before .before .before) .judged .entries) (c .before .before .before .before .before .before .before .before .before .before .before .before .before .before .before .before .before .before .before .before .args .essential-only) (c .before .before .before .canvas-form .result) (length (now (c .before .before .before .before .before .before .before .before .before .before .before .before .before .before .before .before .before .before .before .before .args .output))) (length (now (c .before .before .before .before .before .before .before .before .before .before .before .before .before .before .before .before .before .before .before .before .args .spare))) ≡ done (c .held .given .0 .0)
+led c = sym (then-done _ (ready (c .before .before .before .before .before) .judged .read)) ∙ sym (c .before .before .plan-scene .ensures) ∙ ap heldOut (c .held .given .1)
+
+-- src/lib.rt:36:52
 read-number-requires : tie.Need-read-number-requires
 read-number-requires c κs = search needs
 
@@ -45,113 +44,101 @@ enum-told c = search needs
 enum-told-2 : tie.Need-enum-told-2
 enum-told-2 c = search needs
 
--- src/lib.rt:36:9
+-- src/lib.rt:37:9
 returns : tie.Need-returns
 returns c = scene-refused _ _ _ _ (grid-malformed _ _ _ _ (sym (c .before .before .read-number .ensures) ∙ c .enum-told2 .given .1) _ _)
 
--- src/lib.rt:38:11
+-- src/lib.rt:39:11
 check-chain-requires : tie.Need-check-chain-requires
 check-chain-requires c κs = search needs
 
--- src/lib.rt:39:28
+-- src/lib.rt:40:28
 enum-known-e : tie.Need-enum-known-e
 enum-known-e c = search needs
 
--- src/lib.rt:40:25
+-- src/lib.rt:41:25
 enum-known-c : tie.Need-enum-known-c
 enum-known-c c = search needs
 
--- src/lib.rt:40:37
+-- src/lib.rt:41:37
 read-tiles-requires : tie.Need-read-tiles-requires
 read-tiles-requires c κs = search needs
 
--- src/lib.rt:41:32
+-- src/lib.rt:42:32
 enum-known-e-2 : tie.Need-enum-known-e-2
 enum-known-e-2 c = search needs
 
--- src/lib.rt:42:29
+-- src/lib.rt:43:29
 enum-known-t : tie.Need-enum-known-t
 enum-known-t c = search needs
 
--- src/lib.rt:43:21
+-- src/lib.rt:44:21
 canvas-form-requires : tie.Need-canvas-form-requires
 canvas-form-requires c κs = search needs
 
--- src/lib.rt:44:23
-plan-chain-requires : tie.Need-plan-chain-requires
-plan-chain-requires c κs = (ready ((c .before .before)) .judged, rw (c .canvas-form .ensures) (ready ((c .before .before)) .taken .canvas))
+-- src/lib.rt:45:23
+plan-scene-requires : tie.Need-plan-scene-requires
+plan-scene-requires c κs = (ready (c .before .before) .judged, rw (c .canvas-form .ensures) (ready (c .before .before) .taken .canvas))
 
--- src/lib.rt:45:41
+-- src/lib.rt:46:39
 enum-known-e-3 : tie.Need-enum-known-e-3
 enum-known-e-3 c = search needs
 
--- src/lib.rt:46:40
-enum-known-k : tie.Need-enum-known-k
-enum-known-k c = search needs
+-- src/lib.rt:47:36
+enum-known-held : tie.Need-enum-known-held
+enum-known-held c = search needs
 
--- src/lib.rt:48:29
-returns-2 : tie.Need-returns-2
-returns-2 c = scene-refused _ _ _ _ (ready ((c .before .before .before .before .before .before .before .before)) .is _ _ ∙ on-short _ _ _ (ready ((c .before .before .before .before .before .before .before .before)) .tame) _ (formed ((c .before .before .before .before .before .before))) _ _ _ (led ((c .before .before .before))) (c .if1 .taken))
-
--- src/lib.rt:51:29
-returns-3 : tie.Need-returns-3
-returns-3 c = scene-refused _ _ _ _ (ready ((c .before .before .before .before .before .before .before .before .before .before)) .is _ _ ∙ on-narrow _ _ _ (ready ((c .before .before .before .before .before .before .before .before .before .before)) .tame) _ (formed ((c .before .before .before .before .before .before .before .before))) _ _ _ (led ((c .before .before .before .before .before))) (c .before .before .if1 .left) (c .if2 .taken))
-
--- src/lib.rt:53:29
-record-size-requires : tie.Need-record-size-requires
-record-size-requires c κs = rw (c .before .before .before .before .before .before .before .before .canvas-form .ensures) (ready ((c .before .before .before .before .before .before .before .before .before .before)) .taken .canvas)
-
--- src/lib.rt:55:29
+-- src/lib.rt:49:29
 draw-grid-requires : tie.Need-draw-grid-requires
-draw-grid-requires c κs = (ready ((c .before .before .before .before .before .before .before .before .before .before .before .before .before)) .taken, rw (← c .before .before .before .before .before .before .before .before .before .before .before .canvas-form .ensures) (le-trans (first-size _ _ (ready ((c .before .before .before .before .before .before .before .before .before .before .before .before .before)) .judged) _ _ (ready ((c .before .before .before .before .before .before .before .before .before .before .before .before .before)) .tame) _ (formed ((c .before .before .before .before .before .before .before .before .before .before .before))) (now (c .before .before .before .before .before .before .before .before .before .before .before .before .before .before .before .before .before .before .before .before .before .before .before .before .before .before .before .before .args .output)) (now (c .before .before .before .before .before .before .before .before .before .before .before .before .before .before .before .before .before .before .before .before .before .before .before .before .before .before .before .before .args .spare)) _ (led ((c .before .before .before .before .before .before .before .before))) (c .before .before .before .before .before .if1 .left) (c .before .before .before .if2 .left)) (c .before .before .before .before .before .if1 .left)))
+draw-grid-requires c κs = (ready (c .before .before .before .before .before .before .before .before) .taken, rw (grid-size (now (c .before .before .before .before .before .before .before .before .before .before .before .before .before .before .before .before .before .before .before .before .before .before .before .args .tray)) _) (first-output _ _ (ready (c .before .before .before .before .before .before .before .before) .judged) _ _ (ready (c .before .before .before .before .before .before .before .before) .tame) _ (formed (c .before .before .before .before .before .before)) (now (c .before .before .before .before .before .before .before .before .before .before .before .before .before .before .before .before .before .before .before .before .before .before .before .args .output)) (now (c .before .before .before .before .before .before .before .before .before .before .before .before .before .before .before .before .before .before .before .before .before .before .before .args .spare)) _ (led (c .before .before .before))))
 
--- src/lib.rt:56:29
+-- src/lib.rt:50:29
 finish-scene-requires : tie.Need-finish-scene-requires
-finish-scene-requires c κs = ready-output _ _ (ready ((c .before .before .before .before .before .before .before .before .before .before .before .before .before .before .before .before .before .before)) .judged) _ _ (ready ((c .before .before .before .before .before .before .before .before .before .before .before .before .before .before .before .before .before .before)) .tame) _ (formed ((c .before .before .before .before .before .before .before .before .before .before .before .before .before .before .before .before))) _ _ _ (led ((c .before .before .before .before .before .before .before .before .before .before .before .before .before))) (c .before .before .before .before .before .before .before .before .before .before .if1 .left) (c .before .before .before .before .before .before .before .before .if2 .left) _ (c .before .before .before .before .before .before .before .record-size .ensures) _ (c .before .before .before .before .before .before .if3 .taken) (c .before .before .before .before .draw-grid .ensures)
+finish-scene-requires c κs = ready-output _ _ (ready (c .before .before .before .before .before .before .before .before .before .before .before .before .before) .judged) _ _ (ready (c .before .before .before .before .before .before .before .before .before .before .before .before .before) .tame) _ (formed (c .before .before .before .before .before .before .before .before .before .before .before)) _ _ _ (led (c .before .before .before .before .before .before .before .before)) _ (c .before .before .before .before .before .before .if1 .taken) (c .before .before .before .before .draw-grid .ensures)
 
--- src/lib.rt:56:29
+-- src/lib.rt:50:29
 same-length : tie.Need-same-length
 same-length c = search needs
 
--- src/lib.rt:56:29
+-- src/lib.rt:50:29
 same-length-2 : tie.Need-same-length-2
 same-length-2 c = search needs
 
--- src/lib.rt:56:29
-returns-4 : tie.Need-returns-4
-returns-4 c = scene-output _ _ (ready ((c .before .before .before .before .before .before .before .before .before .before .before .before .before .before .before .before .before .before .before .before .before .before .before)) .judged) _ _ (ready ((c .before .before .before .before .before .before .before .before .before .before .before .before .before .before .before .before .before .before .before .before .before .before .before)) .tame) _ (formed ((c .before .before .before .before .before .before .before .before .before .before .before .before .before .before .before .before .before .before .before .before .before))) _ _ _ (led ((c .before .before .before .before .before .before .before .before .before .before .before .before .before .before .before .before .before .before))) (c .before .before .before .before .before .before .before .before .before .before .before .before .before .before .before .if1 .left) (c .before .before .before .before .before .before .before .before .before .before .before .before .before .if2 .left) _ (c .before .before .before .before .before .before .before .before .before .before .before .before .record-size .ensures) _ _ (ready ((c .before .before .before .before .before .before .before .before .before .before .before .before .before .before .before .before .before .before .before .before .before .before .before)) .is _ _) _ _ _ (c .before .before .before .before .before .before .before .before .before .draw-grid .ensures) (c .before .before .before .before .finish-scene .ensures)
+-- src/lib.rt:50:29
+returns-2 : tie.Need-returns-2
+returns-2 c = scene-output _ _ (ready (c .before .before .before .before .before .before .before .before .before .before .before .before .before .before .before .before .before .before) .judged) _ _ (ready (c .before .before .before .before .before .before .before .before .before .before .before .before .before .before .before .before .before .before) .tame) _ (formed (c .before .before .before .before .before .before .before .before .before .before .before .before .before .before .before .before)) _ _ _ (led (c .before .before .before .before .before .before .before .before .before .before .before .before .before)) _ _ (ready (c .before .before .before .before .before .before .before .before .before .before .before .before .before .before .before .before .before .before) .is _ _) _ _ _ (c .before .before .before .before .before .before .before .before .before .before .before .if1 .taken) (c .before .before .before .before .before .before .before .before .before .draw-grid .ensures) (c .before .before .before .before .finish-scene .ensures)
 
--- src/lib.rt:66:25
+-- src/lib.rt:52:25
 draw-grid-requires-2 : tie.Need-draw-grid-requires-2
-draw-grid-requires-2 c κs = (ready ((c .before .before .before .before .before .before .before .before .before .before .before .before .before)) .taken, rw (← c .before .before .before .before .before .before .before .before .before .before .before .canvas-form .ensures) (le-trans (first-size _ _ (ready ((c .before .before .before .before .before .before .before .before .before .before .before .before .before)) .judged) _ _ (ready ((c .before .before .before .before .before .before .before .before .before .before .before .before .before)) .tame) _ (formed ((c .before .before .before .before .before .before .before .before .before .before .before))) (now (c .before .before .before .before .before .before .before .before .before .before .before .before .before .before .before .before .before .before .before .before .before .before .before .before .before .before .before .before .args .output)) (now (c .before .before .before .before .before .before .before .before .before .before .before .before .before .before .before .before .before .before .before .before .before .before .before .before .before .before .before .before .args .spare)) _ (led ((c .before .before .before .before .before .before .before .before))) (c .before .before .before .before .before .if1 .left) (c .before .before .before .if2 .left)) (c .before .before .before .if2 .left)))
+draw-grid-requires-2 c κs = (ready (c .before .before .before .before .before .before .before .before) .taken, rw (grid-size (now (c .before .before .before .before .before .before .before .before .before .before .before .before .before .before .before .before .before .before .before .before .before .before .before .args .tray)) _) (first-spare _ _ (ready (c .before .before .before .before .before .before .before .before) .judged) _ _ (ready (c .before .before .before .before .before .before .before .before) .tame) _ (formed (c .before .before .before .before .before .before)) (now (c .before .before .before .before .before .before .before .before .before .before .before .before .before .before .before .before .before .before .before .before .before .before .before .args .output)) (now (c .before .before .before .before .before .before .before .before .before .before .before .before .before .before .before .before .before .before .before .before .before .before .before .args .spare)) _ (led (c .before .before .before))))
 
--- src/lib.rt:67:25
+-- src/lib.rt:53:25
 finish-scene-requires-2 : tie.Need-finish-scene-requires-2
-finish-scene-requires-2 c κs = ready-spare _ _ (ready ((c .before .before .before .before .before .before .before .before .before .before .before .before .before .before .before .before .before .before)) .judged) _ _ (ready ((c .before .before .before .before .before .before .before .before .before .before .before .before .before .before .before .before .before .before)) .tame) _ (formed ((c .before .before .before .before .before .before .before .before .before .before .before .before .before .before .before .before))) _ _ _ (led ((c .before .before .before .before .before .before .before .before .before .before .before .before .before))) (c .before .before .before .before .before .before .before .before .before .before .if1 .left) (c .before .before .before .before .before .before .before .before .if2 .left) _ (c .before .before .before .before .before .before .before .record-size .ensures) _ (c .before .before .before .before .before .before .if3 .left) (c .before .before .before .before .draw-grid2 .ensures)
+finish-scene-requires-2 c κs = ready-spare _ _ (ready (c .before .before .before .before .before .before .before .before .before .before .before .before .before) .judged) _ _ (ready (c .before .before .before .before .before .before .before .before .before .before .before .before .before) .tame) _ (formed (c .before .before .before .before .before .before .before .before .before .before .before)) _ _ _ (led (c .before .before .before .before .before .before .before .before)) _ (c .before .before .before .before .before .before .if1 .left) (c .before .before .before .before .draw-grid2 .ensures)
 
--- src/lib.rt:23:1
+-- src/lib.rt:24:1
+returns-3 : tie.Need-returns-3
+returns-3 c = scene-refused _ _ _ _ (grid-chain _ _ _ _ _ _ (sym (c .before .before .before .before .before .before .read-number .ensures) ∙ c .before .before .before .before .enum-told .given .1) _ (sym (c .before .before .before .check-chain .ensures) ∙ ap chainOut (c .before .e .given .1)) _ _)
+
+-- src/lib.rt:24:1
+returns-4 : tie.Need-returns-4
+returns-4 c = scene-refused _ _ _ _ (grid-tiles _ _ _ _ _ _ (sym (c .before .before .before .before .before .before .before .before .before .before .read-number .ensures) ∙ c .before .before .before .before .before .before .before .before .enum-told .given .1) _ (sym (c .before .before .before .before .before .before .before .check-chain .ensures) ∙ ap chainOut (c .before .before .before .before .before .c .given .1)) _ (sym (c .before .before .before .read-tiles .ensures) ∙ ap tilesOut (c .before .e2 .given .1)) _ _)
+
+-- src/lib.rt:24:1
 returns-5 : tie.Need-returns-5
-returns-5 c = scene-refused _ _ _ _ (grid-chain _ _ _ _ _ _ (sym (c .before .before .before .before .before .before .read-number .ensures) ∙ c .before .before .before .before .enum-told .given .1) _ (sym (c .before .before .before .check-chain .ensures) ∙ ap chainOut (c .before .e .given .1)) _ _)
+returns-5 c = scene-refused _ _ _ _ (ready (c .before .before .before .before .before .before) .is _ _ ∙ held-refused _ _ _ (ready (c .before .before .before .before .before .before) .tame) _ (formed (c .before .before .before .before)) _ _ _ (sym (then-done _ (ready (c .before .before .before .before .before .before) .judged .read)) ∙ sym (c .before .before .before .plan-scene .ensures) ∙ ap heldOut (c .before .e3 .given .1)))
 
--- src/lib.rt:23:1
-returns-6 : tie.Need-returns-6
-returns-6 c = scene-refused _ _ _ _ (grid-tiles _ _ _ _ _ _ (sym (c .before .before .before .before .before .before .before .before .before .before .read-number .ensures) ∙ c .before .before .before .before .before .before .before .before .enum-told .given .1) _ (sym (c .before .before .before .before .before .before .before .check-chain .ensures) ∙ ap chainOut (c .before .before .before .before .before .c .given .1)) _ (sym (c .before .before .before .read-tiles .ensures) ∙ ap tilesOut (c .before .e2 .given .1)) _ _)
-
--- src/lib.rt:23:1
-returns-7 : tie.Need-returns-7
-returns-7 c = scene-refused _ _ _ _ (ready ((c .before .before .before .before .before .before)) .is _ _ ∙ on-refused _ _ _ (ready ((c .before .before .before .before .before .before)) .tame) _ (formed ((c .before .before .before .before))) _ _ _ (sym (then-done _ (ready ((c .before .before .before .before .before .before)) .judged .read)) ∙ sym (c .before .before .before .plan-chain .ensures) ∙ ap courseOut (c .before .e3 .given .1)))
-
--- src/lib.rt:23:1
+-- src/lib.rt:24:1
 same-length-3 : tie.Need-same-length-3
 same-length-3 c = search needs
 
--- src/lib.rt:23:1
+-- src/lib.rt:24:1
 same-length-4 : tie.Need-same-length-4
 same-length-4 c = search needs
 
--- src/lib.rt:23:1
-returns-8 : tie.Need-returns-8
-returns-8 c = scene-spare _ _ (ready ((c .before .before .before .before .before .before .before .before .before .before .before .before .before .before .before .before .before .before .before .before .before .before .before)) .judged) _ _ (ready ((c .before .before .before .before .before .before .before .before .before .before .before .before .before .before .before .before .before .before .before .before .before .before .before)) .tame) _ (formed ((c .before .before .before .before .before .before .before .before .before .before .before .before .before .before .before .before .before .before .before .before .before))) _ _ _ (led ((c .before .before .before .before .before .before .before .before .before .before .before .before .before .before .before .before .before .before))) (c .before .before .before .before .before .before .before .before .before .before .before .before .before .before .before .if1 .left) (c .before .before .before .before .before .before .before .before .before .before .before .before .before .if2 .left) _ (c .before .before .before .before .before .before .before .before .before .before .before .before .record-size .ensures) _ _ (ready ((c .before .before .before .before .before .before .before .before .before .before .before .before .before .before .before .before .before .before .before .before .before .before .before)) .is _ _) _ _ _ (c .before .before .before .before .before .before .before .before .before .draw-grid2 .ensures) (c .before .before .before .before .finish-scene2 .ensures)
+-- src/lib.rt:24:1
+returns-6 : tie.Need-returns-6
+returns-6 c = scene-spare _ _ (ready (c .before .before .before .before .before .before .before .before .before .before .before .before .before .before .before .before .before .before) .judged) _ _ (ready (c .before .before .before .before .before .before .before .before .before .before .before .before .before .before .before .before .before .before) .tame) _ (formed (c .before .before .before .before .before .before .before .before .before .before .before .before .before .before .before .before)) _ _ _ (led (c .before .before .before .before .before .before .before .before .before .before .before .before .before)) _ _ (ready (c .before .before .before .before .before .before .before .before .before .before .before .before .before .before .before .before .before .before) .is _ _) _ _ _ (c .before .before .before .before .before .before .before .before .before .before .before .if1 .left) (c .before .before .before .before .before .before .before .before .before .draw-grid2 .ensures) (c .before .before .before .before .finish-scene2 .ensures)
 
 pub grid-scene-spec : {M : Type 1} → statement M
 grid-scene-spec =
@@ -168,22 +155,19 @@ grid-scene-spec =
     enum-known-e-2
     enum-known-t
     canvas-form-requires
-    plan-chain-requires
+    plan-scene-requires
     enum-known-e-3
-    enum-known-k
-    returns-2
-    returns-3
-    record-size-requires
+    enum-known-held
     draw-grid-requires
     finish-scene-requires
     same-length
     same-length-2
-    returns-4
+    returns-2
     draw-grid-requires-2
     finish-scene-requires-2
+    returns-3
+    returns-4
     returns-5
-    returns-6
-    returns-7
     same-length-3
     same-length-4
-    returns-8)
+    returns-6)

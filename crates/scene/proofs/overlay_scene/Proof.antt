@@ -1,6 +1,6 @@
 use mathlib.Core.Path.{_∙_, _≡_, ap, sym}
-use native.Mathlib.Nat.{le-trans}
 use native.Mathlib.Omega.{arith}
+use lib.ListN.{length}
 use borrow.Author.Needs.{needs}
 use denote.Ref.{now}
 use Rattle.laws.proofs.Out.{refuse-no, refuse-yes, then-done}
@@ -9,37 +9,36 @@ use Rattle.image.specs.Bytes.{Bytes}
 use Rattle.props.specs.Chain.{chainOut}
 use Rattle.overlay.proofs.RunLaws.{above-is, planPic}
 use Rattle.overlay.specs.Block.{planOut}
-use Rattle.scene.proofs.SceneLaws.{OverlayKnown, first-long, on-narrow, on-refused, on-short, overlay-chain, overlay-inputs, overlay-malformed, overlay-read, plan-form, ready-output, ready-spare, scene-output, scene-refused, scene-spare}
+use Rattle.scene.proofs.SceneLaws.{OverlayKnown, first-output, first-spare, held-refused, overlay-chain, overlay-inputs, overlay-malformed, overlay-read, plan-form, ready-output, ready-spare, scene-output, scene-refused, scene-spare}
+use Rattle.scene.specs.Course.{heldOf, heldOut}
 use Rattle.scene.proofs.overlay_scene.Statement.{statement}
-use Rattle.scene.specs.Course.{courseOf, courseOut}
 use Rattle.scene.proofs.overlay_scene.Tie as tie
 use Rattle.scene.proofs.overlay_scene.Reads as reads
 use Rattle.scene.proofs.overlay_scene.Lts as lts
 use Rattle.image.proofs.format.PixelFormat.top.Reads as top-reads
-use Rattle.image.proofs.record_size.Reads as record-size-reads
 use Rattle.numbers.proofs.read_number.Reads as read-number-reads
 use Rattle.overlay.proofs.draw_overlay.Reads as draw-overlay-reads
 use Rattle.overlay.proofs.alpha_above.Reads as alpha-above-reads
 use Rattle.overlay.proofs.read_inputs.Reads as read-inputs-reads
 use Rattle.props.proofs.check_chain.Reads as check-chain-reads
 use Rattle.scene.proofs.carry.finish_scene.Reads as finish-scene-reads
-use Rattle.scene.proofs.course.plan_chain.Reads as plan-chain-reads
+use Rattle.scene.proofs.plan.plan_scene.Reads as plan-scene-reads
 
 ready : (c : tie.After-plan) → OverlayKnown (now (c .before .before .before .before .before .before .before .before .before .before .before .before .before .before .before .before .before .args .body)) (now (c .before .before .before .before .before .before .before .before .before .before .before .before .before .before .before .before .before .args .tray)) (now (c .before .before .before .before .before .before .before .before .before .before .before .before .before .before .before .before .before .args .chain)) (c .before .before .before .before .before .before .before .before .before .before .before .before .before .before .before .before .before .args .essential-only) (now (c .before .before .before .before .before .before .before .before .before .before .before .before .before .before .before .before .before .args .premultiplied)) (c .before .before .before .before .before .before .before .before .before .before .before .before .before .before .before .before .before .args .colour) (c .before .before .before .before .before .before .before .before .count .given .0 .0) (c .before .before .before .before .before .before .before .before .count .given .0 .1 .0) (c .before .before .before .before .c .given .0 .0) (c .plan .given .0 .0)
 unfolding Bytes
 ready c = overlay-read _ _ _ _ _ _ _ _ (sym (c .before .before .before .before .before .before .before .before .before .before .read-number .ensures) ∙ c .before .before .before .before .before .before .before .before .count .given .1) _ (sym (c .before .before .before .before .before .before .check-chain .ensures) ∙ ap chainOut (c .before .before .before .before .c .given .1)) (λ i. omega (arith, c .before .before .before .before .before .before .before .before .before .before .before .before .before .before .before .before .shared-slice-known .given i)) _ (sym (c .before .before .read-inputs .ensures) ∙ ap planOut (c .plan .given .1))
 
-led : (c : tie.After-k) → courseOf (ready ((c .before .before .before .before .before .before .before .before .before)) .judged .entries) (c .before .before .before .before .before .before .before .before .before .before .before .before .before .before .before .before .before .before .before .before .before .before .before .before .before .before .args .essential-only) (c .before .before .before .before .before .before .before .before .before .plan .given .0 .0 .form) ≡ done (c .k .given .0 .0)
-led c = sym (then-done _ (ready ((c .before .before .before .before .before .before .before .before .before)) .judged .read)) ∙ sym (c .before .before .plan-chain .ensures) ∙ ap courseOut (c .k .given .1)
-
 formed : (c : tie.After-plan) → (c .plan .given .0 .0 .form) ≡ planPic (now (c .before .before .before .before .before .before .before .before .before .before .before .before .before .before .before .before .before .args .body)) (now (c .before .before .before .before .before .before .before .before .before .before .before .before .before .before .before .before .before .args .tray)) (now (c .before .before .before .before .before .before .before .before .before .before .before .before .before .before .before .before .before .args .premultiplied)) (c .before .before .before .before .before .before .before .before .before .before .before .before .before .before .before .before .before .args .colour) (c .plan .given .0 .0) .form
 formed c = plan-form (now (c .before .before .before .before .before .before .before .before .before .before .before .before .before .before .before .before .before .args .body)) (now (c .before .before .before .before .before .before .before .before .before .before .before .before .before .before .before .before .before .args .tray)) (now (c .before .before .before .before .before .before .before .before .before .before .before .before .before .before .before .before .before .args .premultiplied)) (c .before .before .before .before .before .before .before .before .before .before .before .before .before .before .before .before .before .args .colour) (c .plan .given .0 .0)
 
--- src/lib.rt:93:9
+led : (c : tie.After-held) → heldOf (ready (c .before .before .before .before .before .before .before .before .before) .judged .entries) (c .before .before .before .before .before .before .before .before .before .before .before .before .before .before .before .before .before .before .before .before .before .before .before .before .before .before .args .essential-only) (c .before .before .before .before .before .before .before .before .before .plan .given .0 .0 .form) (length (now (c .before .before .before .before .before .before .before .before .before .before .before .before .before .before .before .before .before .before .before .before .before .before .before .before .before .before .args .output))) (length (now (c .before .before .before .before .before .before .before .before .before .before .before .before .before .before .before .before .before .before .before .before .before .before .before .before .before .before .args .spare))) ≡ done (c .held .given .0 .0)
+led c = sym (then-done _ (ready (c .before .before .before .before .before .before .before .before .before) .judged .read)) ∙ sym (c .before .before .plan-scene .ensures) ∙ ap heldOut (c .held .given .1)
+
+-- src/lib.rt:79:9
 read-number-requires : tie.Need-read-number-requires
 read-number-requires c κs = search needs
 
--- src/lib.rt:91:16
+-- src/lib.rt:77:16
 enum-known-count : tie.Need-enum-known-count
 enum-known-count c = search needs
 
@@ -47,121 +46,109 @@ enum-known-count c = search needs
 enum-told : tie.Need-enum-told
 enum-told c = search needs
 
--- src/lib.rt:95:9
+-- src/lib.rt:81:9
 returns : tie.Need-returns
 returns c = scene-refused _ _ _ _ (overlay-malformed _ _ _ _ _ _ (sym (c .before .before .read-number .ensures) ∙ c .enum-told .given .1) _ _)
 
--- src/lib.rt:97:11
+-- src/lib.rt:83:11
 check-chain-requires : tie.Need-check-chain-requires
 check-chain-requires c κs = search needs
 
--- src/lib.rt:98:28
+-- src/lib.rt:84:28
 enum-known-e : tie.Need-enum-known-e
 enum-known-e c = search needs
 
--- src/lib.rt:99:25
+-- src/lib.rt:85:25
 enum-known-c : tie.Need-enum-known-c
 enum-known-c c = search needs
 
--- src/lib.rt:99:37
+-- src/lib.rt:85:37
 read-inputs-requires : tie.Need-read-inputs-requires
 read-inputs-requires c κs = search needs
 
--- src/lib.rt:100:31
+-- src/lib.rt:86:31
 enum-known-e-2 : tie.Need-enum-known-e-2
 enum-known-e-2 c = search needs
 
--- src/lib.rt:101:28
+-- src/lib.rt:87:28
 enum-known-plan : tie.Need-enum-known-plan
 enum-known-plan c = search needs
 
--- src/lib.rt:104:61
+-- src/lib.rt:90:61
 top-requires : tie.Need-top-requires
-top-requires c κs = ready ((c .before .before .before)) .sound .form .high
+top-requires c κs = ready (c .before .before .before) .sound .form .high
 
--- src/lib.rt:104:20
+-- src/lib.rt:90:20
 alpha-above-requires : tie.Need-alpha-above-requires
 alpha-above-requires c κs = search needs
 
--- src/lib.rt:105:21
+-- src/lib.rt:91:21
 returns-2 : tie.Need-returns-2
-returns-2 c = scene-refused _ _ _ _ (ready ((c .before .before .before .before .before .before)) .is _ _ ∙ refuse-yes _ _ (above-is _ _ _ _ _ _ (c .before .before .top .ensures) (c .before .alpha-above .ensures) ∙ c .if1 .taken))
+returns-2 c = scene-refused _ _ _ _ (ready (c .before .before .before .before .before .before) .is _ _ ∙ refuse-yes _ _ (above-is _ _ _ _ _ _ (c .before .before .top .ensures) (c .before .alpha-above .ensures) ∙ c .if1 .taken))
 
--- src/lib.rt:107:23
-plan-chain-requires : tie.Need-plan-chain-requires
-plan-chain-requires c κs = (ready ((c .before .before .before .before .before .before)) .judged, ready ((c .before .before .before .before .before .before)) .sound .form)
+-- src/lib.rt:93:23
+plan-scene-requires : tie.Need-plan-scene-requires
+plan-scene-requires c κs = (ready (c .before .before .before .before .before .before) .judged, ready (c .before .before .before .before .before .before) .sound .form)
 
--- src/lib.rt:108:41
+-- src/lib.rt:94:39
 enum-known-e-3 : tie.Need-enum-known-e-3
 enum-known-e-3 c = search needs
 
--- src/lib.rt:109:40
-enum-known-k : tie.Need-enum-known-k
-enum-known-k c = search needs
+-- src/lib.rt:95:36
+enum-known-held : tie.Need-enum-known-held
+enum-known-held c = search needs
 
--- src/lib.rt:111:29
-returns-3 : tie.Need-returns-3
-returns-3 c = scene-refused _ _ _ _ (ready ((c .before .before .before .before .before .before .before .before .before .before .before .before)) .is _ _ ∙ refuse-no _ _ (above-is _ _ _ _ _ _ (c .before .before .before .before .before .before .before .before .top .ensures) (c .before .before .before .before .before .before .before .alpha-above .ensures) ∙ c .before .before .before .before .before .before .if1 .left) ∙ on-short _ _ _ (ready ((c .before .before .before .before .before .before .before .before .before .before .before .before)) .tame) _ (formed ((c .before .before .before .before .before .before .before .before .before .before .before .before))) _ _ _ (led ((c .before .before .before))) (c .if2 .taken))
-
--- src/lib.rt:114:29
-returns-4 : tie.Need-returns-4
-returns-4 c = scene-refused _ _ _ _ (ready ((c .before .before .before .before .before .before .before .before .before .before .before .before .before .before)) .is _ _ ∙ refuse-no _ _ (above-is _ _ _ _ _ _ (c .before .before .before .before .before .before .before .before .before .before .top .ensures) (c .before .before .before .before .before .before .before .before .before .alpha-above .ensures) ∙ c .before .before .before .before .before .before .before .before .if1 .left) ∙ on-narrow _ _ _ (ready ((c .before .before .before .before .before .before .before .before .before .before .before .before .before .before)) .tame) _ (formed ((c .before .before .before .before .before .before .before .before .before .before .before .before .before .before))) _ _ _ (led ((c .before .before .before .before .before))) (c .before .before .if2 .left) (c .if3 .taken))
-
--- src/lib.rt:116:29
-record-size-requires : tie.Need-record-size-requires
-record-size-requires c κs = ready ((c .before .before .before .before .before .before .before .before .before .before .before .before .before .before)) .sound .form
-
--- src/lib.rt:118:29
+-- src/lib.rt:97:29
 draw-overlay-requires : tie.Need-draw-overlay-requires
-draw-overlay-requires c κs = (ready ((c .before .before .before .before .before .before .before .before .before .before .before .before .before .before .before .before .before)) .sound, le-trans (first-long _ _ (ready ((c .before .before .before .before .before .before .before .before .before .before .before .before .before .before .before .before .before)) .judged) _ _ (ready ((c .before .before .before .before .before .before .before .before .before .before .before .before .before .before .before .before .before)) .tame) _ (formed ((c .before .before .before .before .before .before .before .before .before .before .before .before .before .before .before .before .before))) (now (c .before .before .before .before .before .before .before .before .before .before .before .before .before .before .before .before .before .before .before .before .before .before .before .before .before .before .before .before .before .before .before .before .before .before .args .output)) (now (c .before .before .before .before .before .before .before .before .before .before .before .before .before .before .before .before .before .before .before .before .before .before .before .before .before .before .before .before .before .before .before .before .before .before .args .spare)) _ (led ((c .before .before .before .before .before .before .before .before))) (c .before .before .before .before .before .if2 .left) (c .before .before .before .if3 .left)) (c .before .before .before .before .before .if2 .left))
+draw-overlay-requires c κs = (ready (c .before .before .before .before .before .before .before .before .before .before .before .before) .sound, first-output _ _ (ready (c .before .before .before .before .before .before .before .before .before .before .before .before) .judged) _ _ (ready (c .before .before .before .before .before .before .before .before .before .before .before .before) .tame) _ (formed (c .before .before .before .before .before .before .before .before .before .before .before .before)) (now (c .before .before .before .before .before .before .before .before .before .before .before .before .before .before .before .before .before .before .before .before .before .before .before .before .before .before .before .before .before .args .output)) (now (c .before .before .before .before .before .before .before .before .before .before .before .before .before .before .before .before .before .before .before .before .before .before .before .before .before .before .before .before .before .args .spare)) _ (led (c .before .before .before)))
 
--- src/lib.rt:119:29
+-- src/lib.rt:98:29
 finish-scene-requires : tie.Need-finish-scene-requires
-finish-scene-requires c κs = ready-output _ _ (ready ((c .before .before .before .before .before .before .before .before .before .before .before .before .before .before .before .before .before .before .before .before .before .before)) .judged) _ _ (ready ((c .before .before .before .before .before .before .before .before .before .before .before .before .before .before .before .before .before .before .before .before .before .before)) .tame) _ (formed ((c .before .before .before .before .before .before .before .before .before .before .before .before .before .before .before .before .before .before .before .before .before .before))) _ _ _ (led ((c .before .before .before .before .before .before .before .before .before .before .before .before .before))) (c .before .before .before .before .before .before .before .before .before .before .if2 .left) (c .before .before .before .before .before .before .before .before .if3 .left) _ (c .before .before .before .before .before .before .before .record-size .ensures) _ (c .before .before .before .before .before .before .if4 .taken) (c .before .before .before .before .draw-overlay .ensures .1)
+finish-scene-requires c κs = ready-output _ _ (ready (c .before .before .before .before .before .before .before .before .before .before .before .before .before .before .before .before .before) .judged) _ _ (ready (c .before .before .before .before .before .before .before .before .before .before .before .before .before .before .before .before .before) .tame) _ (formed (c .before .before .before .before .before .before .before .before .before .before .before .before .before .before .before .before .before)) _ _ _ (led (c .before .before .before .before .before .before .before .before)) _ (c .before .before .before .before .before .before .if2 .taken) (c .before .before .before .before .draw-overlay .ensures .1)
 
--- src/lib.rt:119:29
+-- src/lib.rt:98:29
 same-length : tie.Need-same-length
 same-length c = search needs
 
--- src/lib.rt:119:29
+-- src/lib.rt:98:29
 same-length-2 : tie.Need-same-length-2
 same-length-2 c = search needs
 
--- src/lib.rt:119:29
-returns-5 : tie.Need-returns-5
-returns-5 c = scene-output _ _ (ready ((c .before .before .before .before .before .before .before .before .before .before .before .before .before .before .before .before .before .before .before .before .before .before .before .before .before .before .before)) .judged) _ _ (ready ((c .before .before .before .before .before .before .before .before .before .before .before .before .before .before .before .before .before .before .before .before .before .before .before .before .before .before .before)) .tame) _ (formed ((c .before .before .before .before .before .before .before .before .before .before .before .before .before .before .before .before .before .before .before .before .before .before .before .before .before .before .before))) _ _ _ (led ((c .before .before .before .before .before .before .before .before .before .before .before .before .before .before .before .before .before .before))) (c .before .before .before .before .before .before .before .before .before .before .before .before .before .before .before .if2 .left) (c .before .before .before .before .before .before .before .before .before .before .before .before .before .if3 .left) _ (c .before .before .before .before .before .before .before .before .before .before .before .before .record-size .ensures) _ _ (ready ((c .before .before .before .before .before .before .before .before .before .before .before .before .before .before .before .before .before .before .before .before .before .before .before .before .before .before .before)) .is _ _ ∙ refuse-no _ _ (above-is _ _ _ _ _ _ (c .before .before .before .before .before .before .before .before .before .before .before .before .before .before .before .before .before .before .before .before .before .before .before .top .ensures) (c .before .before .before .before .before .before .before .before .before .before .before .before .before .before .before .before .before .before .before .before .before .before .alpha-above .ensures) ∙ c .before .before .before .before .before .before .before .before .before .before .before .before .before .before .before .before .before .before .before .before .before .if1 .left)) _ _ _ (c .before .before .before .before .before .before .before .before .before .draw-overlay .ensures .1) (c .before .before .before .before .finish-scene .ensures)
+-- src/lib.rt:98:29
+returns-3 : tie.Need-returns-3
+returns-3 c = scene-output _ _ (ready (c .before .before .before .before .before .before .before .before .before .before .before .before .before .before .before .before .before .before .before .before .before .before) .judged) _ _ (ready (c .before .before .before .before .before .before .before .before .before .before .before .before .before .before .before .before .before .before .before .before .before .before) .tame) _ (formed (c .before .before .before .before .before .before .before .before .before .before .before .before .before .before .before .before .before .before .before .before .before .before)) _ _ _ (led (c .before .before .before .before .before .before .before .before .before .before .before .before .before)) _ _ (ready (c .before .before .before .before .before .before .before .before .before .before .before .before .before .before .before .before .before .before .before .before .before .before) .is _ _ ∙ refuse-no _ _ (above-is _ _ _ _ _ _ (c .before .before .before .before .before .before .before .before .before .before .before .before .before .before .before .before .before .before .top .ensures) (c .before .before .before .before .before .before .before .before .before .before .before .before .before .before .before .before .before .alpha-above .ensures) ∙ c .before .before .before .before .before .before .before .before .before .before .before .before .before .before .before .before .if1 .left)) _ _ _ (c .before .before .before .before .before .before .before .before .before .before .before .if2 .taken) (c .before .before .before .before .before .before .before .before .before .draw-overlay .ensures .1) (c .before .before .before .before .finish-scene .ensures)
 
--- src/lib.rt:129:25
+-- src/lib.rt:100:25
 draw-overlay-requires-2 : tie.Need-draw-overlay-requires-2
-draw-overlay-requires-2 c κs = (ready ((c .before .before .before .before .before .before .before .before .before .before .before .before .before .before .before .before .before)) .sound, le-trans (first-long _ _ (ready ((c .before .before .before .before .before .before .before .before .before .before .before .before .before .before .before .before .before)) .judged) _ _ (ready ((c .before .before .before .before .before .before .before .before .before .before .before .before .before .before .before .before .before)) .tame) _ (formed ((c .before .before .before .before .before .before .before .before .before .before .before .before .before .before .before .before .before))) (now (c .before .before .before .before .before .before .before .before .before .before .before .before .before .before .before .before .before .before .before .before .before .before .before .before .before .before .before .before .before .before .before .before .before .before .args .output)) (now (c .before .before .before .before .before .before .before .before .before .before .before .before .before .before .before .before .before .before .before .before .before .before .before .before .before .before .before .before .before .before .before .before .before .before .args .spare)) _ (led ((c .before .before .before .before .before .before .before .before))) (c .before .before .before .before .before .if2 .left) (c .before .before .before .if3 .left)) (c .before .before .before .if3 .left))
+draw-overlay-requires-2 c κs = (ready (c .before .before .before .before .before .before .before .before .before .before .before .before) .sound, first-spare _ _ (ready (c .before .before .before .before .before .before .before .before .before .before .before .before) .judged) _ _ (ready (c .before .before .before .before .before .before .before .before .before .before .before .before) .tame) _ (formed (c .before .before .before .before .before .before .before .before .before .before .before .before)) (now (c .before .before .before .before .before .before .before .before .before .before .before .before .before .before .before .before .before .before .before .before .before .before .before .before .before .before .before .before .before .args .output)) (now (c .before .before .before .before .before .before .before .before .before .before .before .before .before .before .before .before .before .before .before .before .before .before .before .before .before .before .before .before .before .args .spare)) _ (led (c .before .before .before)))
 
--- src/lib.rt:130:25
+-- src/lib.rt:101:25
 finish-scene-requires-2 : tie.Need-finish-scene-requires-2
-finish-scene-requires-2 c κs = ready-spare _ _ (ready ((c .before .before .before .before .before .before .before .before .before .before .before .before .before .before .before .before .before .before .before .before .before .before)) .judged) _ _ (ready ((c .before .before .before .before .before .before .before .before .before .before .before .before .before .before .before .before .before .before .before .before .before .before)) .tame) _ (formed ((c .before .before .before .before .before .before .before .before .before .before .before .before .before .before .before .before .before .before .before .before .before .before))) _ _ _ (led ((c .before .before .before .before .before .before .before .before .before .before .before .before .before))) (c .before .before .before .before .before .before .before .before .before .before .if2 .left) (c .before .before .before .before .before .before .before .before .if3 .left) _ (c .before .before .before .before .before .before .before .record-size .ensures) _ (c .before .before .before .before .before .before .if4 .left) (c .before .before .before .before .draw-overlay2 .ensures .1)
+finish-scene-requires-2 c κs = ready-spare _ _ (ready (c .before .before .before .before .before .before .before .before .before .before .before .before .before .before .before .before .before) .judged) _ _ (ready (c .before .before .before .before .before .before .before .before .before .before .before .before .before .before .before .before .before) .tame) _ (formed (c .before .before .before .before .before .before .before .before .before .before .before .before .before .before .before .before .before)) _ _ _ (led (c .before .before .before .before .before .before .before .before)) _ (c .before .before .before .before .before .before .if2 .left) (c .before .before .before .before .draw-overlay2 .ensures .1)
 
--- src/lib.rt:76:1
+-- src/lib.rt:62:1
+returns-4 : tie.Need-returns-4
+returns-4 c = scene-refused _ _ _ _ (overlay-chain _ _ _ _ _ _ _ _ (sym (c .before .before .before .before .before .before .before .read-number .ensures) ∙ c .before .before .before .before .before .count .given .1) _ (sym (c .before .before .before .check-chain .ensures) ∙ ap chainOut (c .before .e .given .1)) _ _)
+
+-- src/lib.rt:62:1
+returns-5 : tie.Need-returns-5
+returns-5 c = scene-refused _ _ _ _ (overlay-inputs _ _ _ _ _ _ _ _ (sym (c .before .before .before .before .before .before .before .before .before .before .before .read-number .ensures) ∙ c .before .before .before .before .before .before .before .before .before .count .given .1) _ (sym (c .before .before .before .before .before .before .before .check-chain .ensures) ∙ ap chainOut (c .before .before .before .before .before .c .given .1)) _ (sym (c .before .before .before .read-inputs .ensures) ∙ ap planOut (c .before .e2 .given .1)) _ _)
+
+-- src/lib.rt:62:1
 returns-6 : tie.Need-returns-6
-returns-6 c = scene-refused _ _ _ _ (overlay-chain _ _ _ _ _ _ _ _ (sym (c .before .before .before .before .before .before .before .read-number .ensures) ∙ c .before .before .before .before .before .count .given .1) _ (sym (c .before .before .before .check-chain .ensures) ∙ ap chainOut (c .before .e .given .1)) _ _)
+returns-6 c = scene-refused _ _ _ _ (ready (c .before .before .before .before .before .before .before .before .before .before) .is _ _ ∙ refuse-no _ _ (above-is _ _ _ _ _ _ (c .before .before .before .before .before .before .top .ensures) (c .before .before .before .before .before .alpha-above .ensures) ∙ c .before .before .before .before .if1 .left) ∙ held-refused _ _ _ (ready (c .before .before .before .before .before .before .before .before .before .before) .tame) _ (formed (c .before .before .before .before .before .before .before .before .before .before)) _ _ _ (sym (then-done _ (ready (c .before .before .before .before .before .before .before .before .before .before) .judged .read)) ∙ sym (c .before .before .before .plan-scene .ensures) ∙ ap heldOut (c .before .e3 .given .1)))
 
--- src/lib.rt:76:1
-returns-7 : tie.Need-returns-7
-returns-7 c = scene-refused _ _ _ _ (overlay-inputs _ _ _ _ _ _ _ _ (sym (c .before .before .before .before .before .before .before .before .before .before .before .read-number .ensures) ∙ c .before .before .before .before .before .before .before .before .before .count .given .1) _ (sym (c .before .before .before .before .before .before .before .check-chain .ensures) ∙ ap chainOut (c .before .before .before .before .before .c .given .1)) _ (sym (c .before .before .before .read-inputs .ensures) ∙ ap planOut (c .before .e2 .given .1)) _ _)
-
--- src/lib.rt:76:1
-returns-8 : tie.Need-returns-8
-returns-8 c = scene-refused _ _ _ _ (ready ((c .before .before .before .before .before .before .before .before .before .before)) .is _ _ ∙ refuse-no _ _ (above-is _ _ _ _ _ _ (c .before .before .before .before .before .before .top .ensures) (c .before .before .before .before .before .alpha-above .ensures) ∙ c .before .before .before .before .if1 .left) ∙ on-refused _ _ _ (ready ((c .before .before .before .before .before .before .before .before .before .before)) .tame) _ (formed ((c .before .before .before .before .before .before .before .before .before .before))) _ _ _ (sym (then-done _ (ready ((c .before .before .before .before .before .before .before .before .before .before)) .judged .read)) ∙ sym (c .before .before .before .plan-chain .ensures) ∙ ap courseOut (c .before .e3 .given .1)))
-
--- src/lib.rt:76:1
+-- src/lib.rt:62:1
 same-length-3 : tie.Need-same-length-3
 same-length-3 c = search needs
 
--- src/lib.rt:76:1
+-- src/lib.rt:62:1
 same-length-4 : tie.Need-same-length-4
 same-length-4 c = search needs
 
--- src/lib.rt:76:1
-returns-9 : tie.Need-returns-9
-returns-9 c = scene-spare _ _ (ready ((c .before .before .before .before .before .before .before .before .before .before .before .before .before .before .before .before .before .before .before .before .before .before .before .before .before .before .before)) .judged) _ _ (ready ((c .before .before .before .before .before .before .before .before .before .before .before .before .before .before .before .before .before .before .before .before .before .before .before .before .before .before .before)) .tame) _ (formed ((c .before .before .before .before .before .before .before .before .before .before .before .before .before .before .before .before .before .before .before .before .before .before .before .before .before .before .before))) _ _ _ (led ((c .before .before .before .before .before .before .before .before .before .before .before .before .before .before .before .before .before .before))) (c .before .before .before .before .before .before .before .before .before .before .before .before .before .before .before .if2 .left) (c .before .before .before .before .before .before .before .before .before .before .before .before .before .if3 .left) _ (c .before .before .before .before .before .before .before .before .before .before .before .before .record-size .ensures) _ _ (ready ((c .before .before .before .before .before .before .before .before .before .before .before .before .before .before .before .before .before .before .before .before .before .before .before .before .before .before .before)) .is _ _ ∙ refuse-no _ _ (above-is _ _ _ _ _ _ (c .before .before .before .before .before .before .before .before .before .before .before .before .before .before .before .before .before .before .before .before .before .before .before .top .ensures) (c .before .before .before .before .before .before .before .before .before .before .before .before .before .before .before .before .before .before .before .before .before .before .alpha-above .ensures) ∙ c .before .before .before .before .before .before .before .before .before .before .before .before .before .before .before .before .before .before .before .before .before .if1 .left)) _ _ _ (c .before .before .before .before .before .before .before .before .before .draw-overlay2 .ensures .1) (c .before .before .before .before .finish-scene2 .ensures)
+-- src/lib.rt:62:1
+returns-7 : tie.Need-returns-7
+returns-7 c = scene-spare _ _ (ready (c .before .before .before .before .before .before .before .before .before .before .before .before .before .before .before .before .before .before .before .before .before .before) .judged) _ _ (ready (c .before .before .before .before .before .before .before .before .before .before .before .before .before .before .before .before .before .before .before .before .before .before) .tame) _ (formed (c .before .before .before .before .before .before .before .before .before .before .before .before .before .before .before .before .before .before .before .before .before .before)) _ _ _ (led (c .before .before .before .before .before .before .before .before .before .before .before .before .before)) _ _ (ready (c .before .before .before .before .before .before .before .before .before .before .before .before .before .before .before .before .before .before .before .before .before .before) .is _ _ ∙ refuse-no _ _ (above-is _ _ _ _ _ _ (c .before .before .before .before .before .before .before .before .before .before .before .before .before .before .before .before .before .before .top .ensures) (c .before .before .before .before .before .before .before .before .before .before .before .before .before .before .before .before .before .alpha-above .ensures) ∙ c .before .before .before .before .before .before .before .before .before .before .before .before .before .before .before .before .if1 .left)) _ _ _ (c .before .before .before .before .before .before .before .before .before .before .before .if2 .left) (c .before .before .before .before .before .before .before .before .before .draw-overlay2 .ensures .1) (c .before .before .before .before .finish-scene2 .ensures)
 
 pub overlay-scene-spec : {M : Type 1} → statement M
 overlay-scene-spec =
@@ -180,22 +167,19 @@ overlay-scene-spec =
     top-requires
     alpha-above-requires
     returns-2
-    plan-chain-requires
+    plan-scene-requires
     enum-known-e-3
-    enum-known-k
-    returns-3
-    returns-4
-    record-size-requires
+    enum-known-held
     draw-overlay-requires
     finish-scene-requires
     same-length
     same-length-2
-    returns-5
+    returns-3
     draw-overlay-requires-2
     finish-scene-requires-2
+    returns-4
+    returns-5
     returns-6
-    returns-7
-    returns-8
     same-length-3
     same-length-4
-    returns-9)
+    returns-7)

@@ -1,0 +1,49 @@
+// What is judged of a scene after its composed form is known, before anything is written: where its chain leads, and whether the lent
+// buffers have room.
+ghost use mathlib.Core.Path.{_≡_};
+ghost use Rattle.laws.specs.Out.{andThen};
+ghost use Rattle.image.specs.Sound.{FormSound};
+ghost use Rattle.props.specs.Chain.{Judged, entriesAt};
+ghost use Rattle.scene.specs.Course.{heldOf, heldOut};
+use crate::carry::Held;
+use crate::course::CourseRead;
+use crate::course::plan_chain;
+use image::Form;
+use laws::Refusal;
+use props::Chain;
+
+pub(crate) enum HeldRead {
+    Held(Held),
+    Refused(Refusal),
+}
+
+// Where the composed record of a form lies, for a chain that was judged, output and spare of so many bytes: the record's size, and
+// whether it is drawn in output. Refusals: the entries' in turn; 17 output or spare shorter than the longest of the composed and
+// step records.
+pub(crate) fn plan_scene(
+    s: &[u8],
+    chain: Chain,
+    essential_only: bool,
+    m: Form,
+    output: usize,
+    spare: usize,
+) -> HeldRead
+    requires { ⌜ Judged (now s) chain × FormSound m ⌝ }
+    ensures { λ r. ⌜ heldOut r ≡ andThen (entriesAt (chain .count) (now (s .entry)) (chain .first)) (λ es. heldOf es «essential_only» m output spare) ⌝ }
+{
+    match plan_chain(s, chain, essential_only, m) {
+        CourseRead::Refused(e) => HeldRead::Refused(e),
+        CourseRead::Course(k) => {
+            if output < k.longest {
+                return HeldRead::Refused(Refusal::ROOM);
+            }
+            if spare < k.longest {
+                return HeldRead::Refused(Refusal::ROOM);
+            }
+            HeldRead::Held(Held {
+                size: image::record_size(m),
+                inside: k.even,
+            })
+        }
+    }
+}
