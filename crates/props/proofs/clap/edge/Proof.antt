@@ -1,5 +1,7 @@
 use mathlib.Core.Bool.{not}
-use mathlib.Core.Path.{_∙_, ap, sym}
+use mathlib.Core.Path.{_∙_, _≡_, ap, sym}
+use Prim.Native.Nat.{_%_, _-_}
+use native.Mathlib.Omega.{arith}
 use borrow.Author.Needs.{needs}
 use borrow.Author.Tests.{eq-eqb, le-ltb, lt-ltb, ne-eqb}
 use Rattle.laws.proofs.Out.{refuse-no, refuse-yes}
@@ -25,7 +27,10 @@ rem-if3 : tie.Need-rem-if3
 rem-if3 c = search needs
 
 returns-3 : tie.Need-returns-3
-returns-3 c = sym (edge-from _ _ _ _ _ (c .before .if1 .left) ∙ refuse-yes _ _ (ap not (ne-eqb _ _ (c .if3 .taken))))
+returns-3 c =
+    let a = c .before .before .args in
+    let h : (a .ahead - a .behind) % a .den ≡ 0 → ⊥ = λ e. omega (arith, e, c .if3 .taken) in
+    sym (edge-from _ _ _ _ _ (c .before .if1 .left) ∙ refuse-yes _ _ (ap not (ne-eqb _ _ h)))
 
 div-at : tie.Need-div-at
 div-at c = search needs
