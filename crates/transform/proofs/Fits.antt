@@ -2,17 +2,17 @@
 use mathlib.Core.Bool.{Bool, _&&_, _||_, false, or-false, true}
 use mathlib.Core.Path.{_∙_, _≡_, ap, refl, sym}
 use Prim.Native.Nat.{_*_, _+_, _-_, _<_, _^_, _≤_, ℕ}
-use native.Mathlib.Nat.{le-trans, mul-comm}
+use native.Mathlib.Nat.{le-trans, lt-of-le-of-lt, lt-of-lt-of-le, mul-comm}
 use native.Mathlib.Omega.{arith}
 use lib.Dec.{eqb}
 use lib.Pow.{high, low}
 use borrow.Author.Tests.{eqb-true}
 use Rattle.laws.proofs.Order.{apart, by-test, mul-below, or-left, pick-true}
 use Rattle.laws.specs.Pick.{pick}
-use Rattle.image.proofs.FormLaws.{height-le, width-le}
+use Rattle.image.proofs.FormLaws.{height-le, side-le, width-le}
 use Rattle.image.proofs.PictureLaws.{evenly-if, evenly-part, needs-X, needs-Y, needs-colour, odd-false, parts-444}
 use Rattle.image.specs.Format.{bytesOf, columnsOf, cover, halfX, halfY, halved, halvesX, halvesY, hasPart, isMono, rowsOf, sideOf}
-use Rattle.image.specs.Picture.{Evenly, as444, needs444, odd, sized}
+use Rattle.image.specs.Picture.{Evenly, as444, needs444, sized}
 use Rattle.image.specs.Sound.{FormSound}
 use Rattle.image.specs.declared.format.Form.{Form}
 use Rattle.image.specs.declared.format.Part.{Part}
@@ -51,6 +51,17 @@ unfolding endAxis pick Evenly
 end-moves t h true n s l = back-moves t h n s l
 end-moves t true false n s l = forward-moves t true 0 n n s (λ e. refl) (omega arith)
 end-moves t false false n s l = forward-moves t false 0 n n s (λ e. tt) (omega arith)
+
+-- and as many samples as the plane has, promoted or not
+pub end-few : (t h back : Bool) (n : ℕ) → n ≤ 2 ^ 30 → 1 ≤ n → AxisMoves t h (endAxis back n) (sideOf h n) n
+unfolding pick sideOf
+end-few false h back n s l = end-moves false h back n s l
+end-few true h back n s l =
+    let e = end-moves true h back n s l in
+    record {
+      fits = record { small = e .fits .small; few = lt-of-le-of-lt (side-le h n) (e .fits .few); behind = λ k q b. e .fits .behind k (lt-of-lt-of-le q (side-le h n)) b };
+      inside = λ k q. e .inside k (lt-of-lt-of-le q (side-le h n));
+    }
 
 -- ---- the new form
 
@@ -112,26 +123,20 @@ pub crop-fits : (m : Form) (r : CropRect) → FormSound m → Inside r (m .width
 unfolding cropMove cropWith columnsOf rowsOf sized pick
 crop-fits m r ok i = moves-fit m (cropMove m r) (with-sound b m (r .width) (r .height) ok k (i .wide) (i .tall) area) (with-bytes b m k) (k .parts) axes
   where
-    ox : Bool
-    ox = odd (r .x) || odd (r .width)
-
-    oy : Bool
-    oy = odd (r .y) || odd (r .height)
-
     b : Bool
-    b = needs444 (m .format) ox oy
+    b = cropMove m r .promoted
 
     k : With b m
-    k = with-form b m ok (λ e. needs-colour (m .format) ox oy e)
+    k = with-form b m ok (λ e. needs-colour (m .format) _ _ e)
 
     area : r .width * r .height ≤ 2 ^ 30
     area = le-trans (mul-below (m .width) (m .height) (r .width) (r .height) (omega (arith, i .across)) (omega (arith, i .down))) (ok .area)
 
     evenX : (p : Part) → b ≡ false → Evenly (halfX (m .format) p) (r .x)
-    evenX p e = evenly-part _ p _ (evenly-if _ _ (λ h. odd-false (r .x) (or-left _ (odd (r .width)) (needs-X (m .format) ox oy e h))))
+    evenX p e = evenly-part _ p _ (evenly-if _ _ (λ h. odd-false (r .x) (or-left _ _ (needs-X (m .format) _ _ e h))))
 
     evenY : (p : Part) → b ≡ false → Evenly (halfY (m .format) p) (r .y)
-    evenY p e = evenly-part _ p _ (evenly-if _ _ (λ h. odd-false (r .y) (or-left _ (odd (r .height)) (needs-Y (m .format) ox oy e h))))
+    evenY p e = evenly-part _ p _ (evenly-if _ _ (λ h. odd-false (r .y) (or-left _ _ (needs-Y (m .format) _ _ e h))))
 
     axes : AxesMove m (cropMove m r)
     axes = record {
@@ -147,12 +152,12 @@ mirror-fits m t ok = moves-fit m (mirrorMove m t) ok refl (λ p. refl) (axes t)
   where
     axes : (b : Bool) → AxesMove m (mirrorMove m b)
     axes true = record {
-      across = λ p. end-moves false (halfX (m .format) p) true (m .width) (width-le m ok) (ok .wide);
-      down = λ p. end-moves false (halfY (m .format) p) false (m .height) (height-le m ok) (ok .tall);
+      across = λ p. end-few _ (halfX (m .format) p) true (m .width) (width-le m ok) (ok .wide);
+      down = λ p. end-few _ (halfY (m .format) p) false (m .height) (height-le m ok) (ok .tall);
     }
     axes false = record {
-      across = λ p. end-moves false (halfX (m .format) p) false (m .width) (width-le m ok) (ok .wide);
-      down = λ p. end-moves false (halfY (m .format) p) true (m .height) (height-le m ok) (ok .tall);
+      across = λ p. end-few _ (halfX (m .format) p) false (m .width) (width-le m ok) (ok .wide);
+      down = λ p. end-few _ (halfY (m .format) p) true (m .height) (height-le m ok) (ok .tall);
     }
 
 pub half-fits : (m : Form) → FormSound m → MoveFits m (halfMove m)
@@ -160,7 +165,7 @@ unfolding halfMove halfWith columnsOf rowsOf sized pick
 half-fits m ok = moves-fit m (halfMove m) (with-sound b m (m .width) (m .height) ok k (ok .wide) (ok .tall) (ok .area)) (with-bytes b m k) (k .parts) axes
   where
     b : Bool
-    b = needs444 (m .format) (odd (m .width)) (odd (m .height))
+    b = halfMove m .promoted
 
     k : With b m
     k = with-form b m ok (λ e. needs-colour (m .format) _ _ e)
@@ -184,7 +189,7 @@ unfolding quarterMove quarterWith columnsOf rowsOf sized pick
 quarter-fits m left up ok = moves-fit m (quarterMove m left up) (with-sound b m (m .height) (m .width) ok k (ok .tall) (ok .wide) area) (with-bytes b m k) (k .parts) axes
   where
     b : Bool
-    b = needs444 (m .format) (lopsided (m .format) || odd (m .width)) (lopsided (m .format) || odd (m .height))
+    b = quarterMove m left up .promoted
 
     k : With b m
     k = with-form b m ok (λ e. needs-colour (m .format) _ _ e)
