@@ -204,9 +204,9 @@ sum-whole n w t h =
     let e : t * (w * 65535) ≡ 65535 * (w * t) = sym (mul-assoc t w 65535) ∙ mul-comm (t * w) 65535 ∙ ap (λ (k : ℕ). 65535 * k) (mul-comm t w) in
     rw e at h
 
--- a mean of samples is a sample
-pub mean-small : (n d : ℕ) → 1 ≤ d → n ≤ 65535 * d → (n + d / 2) / d < 65536
-mean-small n d l h = div-lt-iff-lt-mul l .1 (omega arith)
+-- a mean of samples is a sample, however it is rounded
+pub mean-small : (n k d : ℕ) → k < d → n ≤ 65535 * d → (n + k) / d < 65536
+mean-small n k d l h = let p : 1 ≤ d = omega arith in div-lt-iff-lt-mul p .1 (omega arith)
 
 -- products along an axis of at most 2 ^ 26 samples
 pub axis-small : (k from : ℕ) → k ≤ 2 ^ 27 → from ≤ 2 ^ 26 → k * from ≤ 2 ^ 53

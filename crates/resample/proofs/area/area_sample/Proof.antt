@@ -1,7 +1,7 @@
 use mathlib.Core.Path.{_≡_, ap, ap₂, refl}
 use Prim.Native.Nat.{_*_, _+_, _-_, _<_, _^_, _≤_, ℕ}
 use native.Mathlib.Omega.{arith}
-use borrow.Author.Needs.{needs}
+use borrow.Author.Needs.{fits-under, needs}
 use denote.Ref.{now}
 use Rattle.laws.proofs.Order.{mul-below}
 use Rattle.image.specs.Bytes.{sampleIn}
@@ -101,7 +101,7 @@ div-result c = omega (arith, whole ((c .before .before .before .before .before .
 
 -- src/area.rt:110:5
 cast-result : tie.Need-cast-result Inv-loop μ-loop
-cast-result c = omega (arith, mean-small _ _ (whole ((c .before .before .before .before .before .before .before)) .0) (total ((c .before .before)) .1))
+cast-result c = fits-under _ _ 65536 (mean-small _ _ _ (omega (arith, whole ((c .before .before .before .before .before .before .before)) .0)) (total ((c .before .before)) .1)) tt
 
 -- src/area.rt:98:1
 returns : tie.Need-returns Inv-loop μ-loop

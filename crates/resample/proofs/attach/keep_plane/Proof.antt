@@ -1,7 +1,8 @@
 use mathlib.Core.List.{List, _++_}
 use mathlib.Core.Path.{_∙_, ap}
-use Prim.Native.Nat.{_+_, ℕ}
-use lib.ListN.{length}
+use Prim.Native.Nat.{_+_, _≤_, ℕ}
+use native.Mathlib.Omega.{arith}
+use lib.ListN.{length, length-append}
 use borrow.Author.Needs.{needs}
 use denote.Ref.{now}
 use Rattle.laws.proofs.Writing.{Writing, writing-fits, writing-last, writing-run, writing-start}
@@ -21,6 +22,10 @@ begun : (c : tie.Start) → Writing (now (c .args .out)) (c .args .at) (keptPlan
 unfolding keptPlane
 begun c = writing-start _ _ _ (c .pre .1)
 
+-- there is room for its numbers and its bytes, in any order
+room : (c : tie.Start) → c .args .at + (length (numberBytes (c .args .q .stride)) + (length (numberBytes (c .args .q .len)) + length (dataOf (now (c .args .s)) (c .args .q)))) ≤ length (now (c .args .out))
+room c = omega (arith, begun c .room, length-append (numberBytes (c .args .q .stride)) (numberBytes (c .args .q .len) ++ dataOf (now (c .args .s)) (c .args .q)), length-append (numberBytes (c .args .q .len)) (dataOf (now (c .args .s)) (c .args .q)))
+
 w1 : (c : tie.After-write-number) → Writing (now (c .before .before .before .before .before .args .out)) (c .before .before .before .before .before .args .at) (keptPlane (now (c .before .before .before .before .before .args .s)) (c .before .before .before .before .before .args .q)) (c .write-number .last .0) (c .write-number .result) (numberBytes (c .before .before .before .before .before .args .q .len) ++ dataOf (now (c .before .before .before .before .before .args .s)) (c .before .before .before .before .before .args .q))
 w1 c = writing-run (numberBytes (c .before .before .before .before .before .args .q .stride)) (begun ((c .before .before .before .before .before))) (c .write-number .ensures .0) (c .write-number .ensures .1)
 
@@ -33,7 +38,7 @@ cast-write-number c = search needs
 
 -- src/attach.rt:77:9
 write-number-requires : tie.Need-write-number-requires
-write-number-requires c κs = writing-fits (numberBytes (c .before .before .before .before .args .q .stride)) _ (begun ((c .before .before .before .before)))
+write-number-requires c κs = omega (arith, room (c .before .before .before .before))
 
 -- src/attach.rt:78:43
 cast-write-number-2 : tie.Need-cast-write-number-2

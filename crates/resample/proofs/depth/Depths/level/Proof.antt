@@ -1,5 +1,5 @@
 use mathlib.Core.Path.{_∙_, _≡_, sym}
-use Prim.Native.Nat.{_*_, _+_, _/_}
+use Prim.Native.Nat.{_*_, _+_, _/_, _<_, _≤_, ℕ}
 use native.Mathlib.Omega.{arith}
 use borrow.Author.Needs.{needs}
 use borrow.Author.Tests.{eq-eqb}
@@ -14,6 +14,12 @@ use Rattle.resample.proofs.depth.Depths.level.Tie as tie
 use Rattle.resample.proofs.depth.Depths.level.Reads as reads
 use Rattle.resample.proofs.depth.Depths.level.Lts as lts
 use Rattle.resample.proofs.depth.top_at.Reads as top-at-reads
+
+lt-as : {a b c d : ℕ} → a ≡ b → c ≡ d → a < c → b < d
+lt-as e f h = omega (arith, e, f)
+
+le-as : {a b c d : ℕ} → a ≡ b → c ≡ d → a ≤ c → b ≤ d
+le-as e f h = omega (arith, e, f)
 
 worked : (c : tie.After-top-at2) → (c .before .before .before .before .args .v * c .top-at2 .result + c .before .top-at .result / 2) / c .before .top-at .result ≡ rounded (c .before .before .before .before .args .v * topAt (c .before .before .before .before .args .self .new)) (topAt (c .before .before .before .before .args .self .old))
 unfolding rounded
@@ -52,7 +58,7 @@ cast-result c = search needs
 
 -- src/depth.rt:42:13
 returns-2 : tie.Need-returns-2
-returns-2 c = c .before .top-at2 .ensures .0 ∙ sym (level-other _ _ _ (c .before .before .before .if1 .left) ∙ least-right _ _ (rw (worked ((c .before)), c .before .top-at2 .ensures .0) at (c .if2 .taken)))
+returns-2 c = c .before .top-at2 .ensures .0 ∙ sym (level-other _ _ _ (c .before .before .before .if1 .left) ∙ least-right _ _ (lt-as (c .before .top-at2 .ensures .0) (worked ((c .before))) (c .if2 .taken)))
 
 -- src/depth.rt:44:9
 cast-result-2 : tie.Need-cast-result-2
@@ -60,7 +66,7 @@ cast-result-2 c = search needs
 
 -- src/depth.rt:31:5
 returns-3 : tie.Need-returns-3
-returns-3 c = worked ((c .before)) ∙ sym (level-other _ _ _ (c .before .before .before .if1 .left) ∙ least-left _ _ (rw (worked ((c .before)), c .before .top-at2 .ensures .0) at (c .if2 .left)))
+returns-3 c = worked ((c .before)) ∙ sym (level-other _ _ _ (c .before .before .before .if1 .left) ∙ least-left _ _ (le-as (worked ((c .before))) (c .before .top-at2 .ensures .0) (c .if2 .left)))
 
 pub level-spec : {M : Type 1} → statement M
 level-spec =
