@@ -320,7 +320,7 @@ tiles-more c T columns n d = let e : n + 1 ≡ suc n = omega arith in ap (λ (k 
 
 length-storeTile : (c : Form) (T : Pic) (column row : ℕ) (d : List ℕ) → length (storeTile c T column row d) ≡ length d
 unfolding storeTile
-length-storeTile c T column row d = length-storePart c T column row Alpha _ ∙ length-storePart c T column row Cr _ ∙ length-storePart c T column row Cb _ ∙ length-storePart c T column row Luma d
+length-storeTile c T column row d = length-storePart c T column row _ _ ∙ length-storePart c T column row Cr _ ∙ length-storePart c T column row Cb _ ∙ length-storePart c T column row Luma d
 
 pub length-storeTiles : (c : Form) (T : ℕ → Pic) (columns n : ℕ) (d : List ℕ) → length (storeTiles c T columns n d) ≡ length d
 unfolding storeTiles

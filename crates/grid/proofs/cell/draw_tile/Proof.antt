@@ -1,6 +1,6 @@
 use mathlib.Core.Path.{_∙_, ap}
 use borrow.Author.Needs.{needs}
-use Rattle.image.specs.declared.format.Part.the-variants.{Alpha, Cb, Cr}
+use Rattle.image.specs.declared.format.Part.the-variants.{Cb, Cr}
 use Rattle.grid.proofs.cell.draw_tile.Statement.{statement}
 use Rattle.grid.specs.Cell.{storePart, storeTile}
 use Rattle.grid.proofs.cell.draw_tile.Tie as tie
@@ -31,7 +31,7 @@ same-length c = search needs
 -- src/cell.rt:174:1
 returns : tie.Need-returns
 unfolding storeTile
-returns c = c .before .before .draw-part4 .ensures ∙ ap (storePart _ _ _ _ Alpha) (c .before .before .before .before .before .before .draw-part3 .ensures ∙ ap (storePart _ _ _ _ Cr) (c .before .before .before .before .before .before .before .before .before .before .draw-part2 .ensures ∙ ap (storePart _ _ _ _ Cb) (c .before .before .before .before .before .before .before .before .before .before .before .before .before .before .draw-part .ensures)))
+returns c = c .before .before .draw-part4 .ensures ∙ ap (storePart _ _ _ _ _) (c .before .before .before .before .before .before .draw-part3 .ensures ∙ ap (storePart _ _ _ _ Cr) (c .before .before .before .before .before .before .before .before .before .before .draw-part2 .ensures ∙ ap (storePart _ _ _ _ Cb) (c .before .before .before .before .before .before .before .before .before .before .before .before .before .before .draw-part .ensures)))
 
 pub draw-tile-spec : {M : Type 1} → statement M
 draw-tile-spec =
