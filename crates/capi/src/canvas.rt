@@ -1,9 +1,8 @@
 // The canvas session, its state in plain words that the caller keeps. Any words are safe: a state that no call can have made is 5.
 ghost use mathlib.Core.Path.{_≡_};
-ghost use mathlib.Core.List.{_++_};
 ghost use Prim.Native.Nat.{_+_, _≤_};
 ghost use lib.ListN.{length};
-ghost use Rattle.laws.specs.Out.{andThen, done, written};
+ghost use Rattle.laws.specs.Out.{written};
 ghost use Rattle.laws.specs.Puts.{puts};
 ghost use Rattle.session.specs.Session.{drawnBuffer};
 ghost use Rattle.capi.specs.Code.{codeOf, noneOf};

@@ -1,4 +1,3 @@
 pub mod FieldLaws
 pub mod Taken
 pub mod OffsetLaws
-pub mod Cases

@@ -1,18 +1,17 @@
 -- Laws of an overlay's offsets: where they stand, and what they are. Assumes nothing.
 use mathlib.Core.List.{List}
 use mathlib.Core.Path.{_≡_, ap, refl}
-use Prim.Native.Nat.{_%_, _*_, _+_, _-_, _/_, _<_, _^_, _≤_, suc, ℕ}
+use Prim.Native.Nat.{_%_, _*_, _+_, _-_, _<_, _^_, _≤_, suc, ℕ}
 use native.Mathlib.Nat.{sub-zero}
 use native.Mathlib.Omega.{arith}
 use lib.IntN.{negsuc, pos, subℕ, ℤ}
 use lib.ListN.{getD, length}
 use borrow.Author.Tests.{le-ltb, lt-ltb}
-use Rattle.laws.proofs.Order.{by-order, item-within, mul-below}
-use Rattle.laws.specs.Pick.{pick}
-use Rattle.numbers.specs.Field.{bigEndian, fieldAt, offsetOf, signedOf}
+use Rattle.laws.proofs.Order.{item-within, mul-below}
+use Rattle.numbers.specs.Field.{fieldAt, offsetOf, signedOf}
 use Rattle.numbers.specs.declared.Cursor.{Cursor}
 use Rattle.numbers.specs.declared.FieldRead.the-variants.{Field}
-use Rattle.derived.proofs.FieldLaws.{bigEndian-below, few-patterns, field-below, field-read, patterns, shift-patterns}
+use Rattle.derived.proofs.FieldLaws.{few-patterns, field-below, field-read, patterns, shift-patterns}
 use Rattle.derived.specs.Overlay.{offsetPlace, signedAt}
 use Rattle.derived.specs.Sound.{OverlaySound}
 use Rattle.derived.specs.declared.overlay.OverlayDescriptor.{OverlayDescriptor}
@@ -44,15 +43,3 @@ pub one-side {ℓ} : {X : Type ℓ} (z : ℤ) → (offsetOf z .behind ≡ 0 → 
 unfolding offsetOf
 one-side (pos n) f g = f refl
 one-side (negsuc n) f g = g refl
-
--- an offset of at most four bytes
-pub signed-small : (range p : ℕ) → p < range → range ≤ 2 ^ 32 → (offsetOf (signedOf range p) .ahead < 2 ^ 31) × (offsetOf (signedOf range p) .behind ≤ 2 ^ 31)
-unfolding offsetOf signedOf pick
-signed-small range p h k =
-    by-order p (range / 2)
-    (λ l. simp (lt-ltb p (range / 2) l) (omega arith, omega arith))
-    (λ l. simp (le-ltb p (range / 2) l) (omega arith, omega arith))
-
-pub placement-small : (s : List ℕ) (at n : ℕ) → n ≤ 4 → ((i : ℕ) → getD s i 0 < 256) → (offsetOf (signedAt s at n) .ahead < 2 ^ 31) × (offsetOf (signedAt s at n) .behind ≤ 2 ^ 31)
-unfolding signedAt
-placement-small s at n h k = signed-small (2 ^ (8 * n)) (bigEndian s at n) (rw (← patterns n) (bigEndian-below s at n k)) (few-patterns n h)

@@ -3,4 +3,3 @@ pub mod TopLaws
 pub mod Rounding
 pub mod NearLaws
 pub mod Bound
-pub mod Cases

@@ -4,7 +4,6 @@ use Prim.Native.Nat.{ℕ, _+_, _-_, _*_, _^_, _<_, min}
 use lib.Dec.{eqb}
 use Rattle.laws.specs.Pick.{pick}
 use Rattle.fill.specs.Fill.{nclxOf, redOf, blueOf, topAt}
-use Rattle.fill.specs.declared.Nclx.{Nclx}
 use Rattle.fill.specs.declared.Colour.{Colour}
 use Rattle.fill.specs.declared.Ycbcr.{Ycbcr}
 

@@ -1,5 +1,5 @@
 -- A fill's samples (document 01, Fill; `fill_to_ycbcr`; H.273), over doubles whose operations round once. Assumes nothing.
-use mathlib.Core.Bool.{Bool, true, false}
+use mathlib.Core.Bool.{Bool, true}
 use Prim.Native.Nat.{ℕ, _+_, _-_, _*_, _/_, _^_}
 use lib.Dec.{eqb, ltb}
 use lib.Ieee.{Float}

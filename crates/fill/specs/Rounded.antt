@@ -1,5 +1,5 @@
 -- IEEE 754's binary64 as the fill uses it: each operation rounds once. Assumes nothing.
-use mathlib.Core.Bool.{Bool, true, false, cond}
+use mathlib.Core.Bool.{false, cond}
 use Prim.Native.Nat.{ℕ, _+_, _*_, _/_, min}
 use lib.IntN.{pos}
 use lib.Ieee as Ieee

@@ -1,6 +1,6 @@
 -- Laws of cells: how much of a tile shows along one axis, and rows stored one below the other. Assumes nothing.
 use mathlib.Core.Bool.{Bool, false, true}
-use mathlib.Core.List.{List, []}
+use mathlib.Core.List.{List}
 use mathlib.Core.Path.{_∙_, _≡_, ap, ap₂, refl, sym}
 use Prim.Native.Nat.{_*_, _+_, _-_, _/_, _<_, _^_, _≤_, suc, zero, ℕ}
 use native.Mathlib.Omega.{arith}
@@ -65,12 +65,6 @@ rows-more d at stride f k = let e : k + 1 ≡ suc k = omega arith in ap (storeRo
 pub rows-none : (d : List ℕ) (at stride : ℕ) (f : ℕ → List ℕ) (k : ℕ) → k ≡ 0 → storeRows d at stride f k ≡ d
 unfolding storeRows
 rows-none d at stride f k e = ap (storeRows d at stride f) e
-
--- rows of no bytes
-pub rows-empty : (d : List ℕ) (at stride : ℕ) (f : ℕ → List ℕ) (k : ℕ) → ((y : ℕ) → f y ≡ []) → storeRows d at stride f k ≡ d
-unfolding storeRows puts
-rows-empty d at stride f zero h = refl
-rows-empty d at stride f (suc k) h = ap (puts (storeRows d at stride f k) (at + k * stride)) (h k) ∙ rows-empty d at stride f k h
 
 pub rows-cong : (d : List ℕ) (at stride : ℕ) (f g : ℕ → List ℕ) (k : ℕ) → ((y : ℕ) → y < k → f y ≡ g y) → storeRows d at stride f k ≡ storeRows d at stride g k
 unfolding storeRows

@@ -17,10 +17,10 @@ use Rattle.laws.specs.Pick.{pick}
 use Rattle.laws.specs.Puts.{puts}
 use Rattle.image.proofs.FormLaws.{columns-some, rows-some}
 use Rattle.image.proofs.PictureLaws.{needs-colour}
-use Rattle.image.proofs.RoundTrip.{Agree, encode-agree, length-encode}
+use Rattle.image.proofs.RoundTrip.{encode-agree, length-encode}
 use Rattle.image.specs.Bytes.{decode, encode, headBytes, sizeOf}
 use Rattle.image.specs.Format.{bytesOf, columnsOf, halved, halvesX, halvesY, hasPart, isMono, rowsOf, sideOf, topOf}
-use Rattle.image.specs.Picture.{Pic, as444, needs444, odd, sized}
+use Rattle.image.specs.Picture.{Agree, Pic, as444, needs444, odd, sized}
 use Rattle.image.specs.declared.format.Form.{Form}
 use Rattle.image.specs.declared.format.Part.{Part}
 use Rattle.image.specs.declared.format.Part.the-variants.{Alpha, Cb, Cr, Luma}

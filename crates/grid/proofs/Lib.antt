@@ -9,4 +9,3 @@ pub mod PasteLaws
 pub mod MosaicLaws
 pub mod GridLaws
 pub mod Composed
-pub mod Cases

@@ -21,7 +21,7 @@ use Rattle.grid.proofs.CellLaws.{visible-shows, visible-tile}
 use Rattle.grid.proofs.LaidLaws.{onPart-here, onPart-other, partNumber, samePart}
 use Rattle.grid.proofs.PasteLaws.{Meets, paste-form, pasteAt, pastePart, pasteTile, shows, tile-pasted}
 use Rattle.grid.specs.Cell.{storeTile, visibleOf}
-use Rattle.grid.specs.Mosaic.{laid, storeTiles, tileIndex}
+use Rattle.grid.specs.Mosaic.{among, laid, storeTiles, tileIndex}
 
 -- ---- a tile's samples, part by part
 
@@ -70,10 +70,6 @@ tile-at T column row P Alpha x y =
 unfoldable pub pastes : (ℕ → Pic) → ℕ → List ℕ → Pic → Pic
 pastes T columns [] P = P
 pastes T columns (j ∷ js) P = pasteTile (T j) (j % columns) (j / columns) (pastes T columns js P)
-
-unfoldable pub among : ℕ → List ℕ → Bool
-among i [] = false
-among i (j ∷ js) = pick (eqb j i) true (among i js)
 
 pub pastes-form : (T : ℕ → Pic) (columns : ℕ) (js : List ℕ) (P : Pic) → pastes T columns js P .form ≡ P .form
 unfolding pastes pasteTile

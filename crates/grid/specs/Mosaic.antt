@@ -1,8 +1,8 @@
 -- The composed picture of a grid ("Grid"), and the canvas that its tiles are stored in. Assumes nothing.
-use mathlib.Core.List.{List, _++_}
+use mathlib.Core.Bool.{Bool, false, true}
+use mathlib.Core.List.{List, [], _++_, _∷_}
 use Prim.Native.Nat.{_%_, _*_, _+_, _/_, suc, zero, ℕ}
-use lib.Dec.{T}
-use lib.Pow.{high}
+use lib.Dec.{eqb}
 use Rattle.laws.specs.Pick.{pick}
 use Rattle.image.specs.Bytes.{headBytes, planeBytes}
 use Rattle.image.specs.Format.{columnsOf, hasPart, rowsOf, topOf}
@@ -64,3 +64,8 @@ canvasBytes c a = laid (headBytes (withAlpha c a)) (plainPic c)
 unfoldable pub storeTiles : Form → (ℕ → Pic) → ℕ → ℕ → List ℕ → List ℕ
 storeTiles c T columns zero d = d
 storeTiles c T columns (suc n) d = storeTile c (T n) (n % columns) (n / columns) (storeTiles c T columns n d)
+
+-- whether a cell is in a list of cells
+unfoldable pub among : ℕ → List ℕ → Bool
+among i [] = false
+among i (j ∷ js) = pick (eqb j i) true (among i js)

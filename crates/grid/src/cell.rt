@@ -1,13 +1,13 @@
 // A tile's samples stored in its cell of a canvas, row by row.
 ghost use mathlib.Core.Path.{_≡_};
 ghost use mathlib.Core.Bool.{true};
-ghost use Prim.Native.Nat.{_+_, _*_, _≤_, _<_, _^_};
+ghost use Prim.Native.Nat.{_+_, _*_, _<_, _^_};
 ghost use lib.ListN.{length};
 ghost use Rattle.laws.specs.Pick.{pick};
 ghost use Rattle.image.specs.Format.{bytesOf, hasPart};
 ghost use Rattle.image.specs.Bytes.{decode, sizeOf};
 ghost use Rattle.image.specs.Line.{lineBytes};
-ghost use Rattle.image.specs.Sound.{FormSound, Sound};
+ghost use Rattle.image.specs.Sound.{FormSound};
 ghost use Rattle.grid.specs.Cell.{visibleOf, cellOf, storeRows, storePart, storeTile, tileForm, tilePic, tileLine, RowsFit, Suits};
 use image::Form;
 use image::Frame;

@@ -1,6 +1,6 @@
 // A canvas before its tiles: its header, and each plane of one sample.
 ghost use mathlib.Core.Path.{_≡_};
-ghost use Prim.Native.Nat.{_+_, _≤_, _<_, _^_};
+ghost use Prim.Native.Nat.{_+_, _≤_};
 ghost use lib.ListN.{length};
 ghost use Rattle.laws.specs.Puts.{puts};
 ghost use Rattle.image.specs.Bytes.{planeBytes, planeSize, sizeOf};

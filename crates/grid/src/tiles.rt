@@ -1,11 +1,11 @@
 // The tiles of a grid's tray: read in turn, held to the first, with every refusal in document 01's order.
 ghost use mathlib.Core.Path.{_≡_};
-ghost use Prim.Native.Nat.{_<_, _≤_, _^_};
-ghost use Rattle.laws.specs.Out.{andThen, Out};
+ghost use Prim.Native.Nat.{_<_};
+ghost use Rattle.laws.specs.Out.{andThen};
 ghost use Rattle.laws.specs.Pick.{pick};
 ghost use Rattle.image.specs.Format.{hasAlpha};
 ghost use Rattle.image.specs.Tray.{framesAt};
-ghost use Rattle.grid.specs.Tiles.{promotesOf, withAlpha, canvasForm, coversOf, sameSize, sameLayout, judgeOf, countOf, tilesOf, tilesOut, FramesTaken};
+ghost use Rattle.grid.specs.Tiles.{promotesOf, withAlpha, canvasForm, coversOf, sameSize, sameLayout, judgeOf, tilesOf, tilesOut, FramesTaken};
 use crate::cell::tile_form;
 use derived::GridDescriptor;
 use derived::GridRead;

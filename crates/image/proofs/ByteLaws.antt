@@ -5,8 +5,8 @@ use Prim.Native.Nat.{_%_, _*_, _+_, _-_, _/_, _<_, _^_, _≤_, suc, zero, ℕ}
 use native.Mathlib.Nat.{suc-mul}
 use native.Mathlib.Numerals.{add-one}
 use native.Mathlib.Omega.{arith}
-use lib.ListN.{List·getD-append, List·getD-eq-default, drop, getD, length, length-take, set, take}
-use lib.Seq.{drop-cons, drop-drop, getD-append-add, getD-drop, getD-take, set-set, take-add}
+use lib.ListN.{List·getD-eq-default, drop, getD, length, length-take, set, take}
+use lib.Seq.{drop-cons, drop-drop, getD-drop, getD-take, set-set, take-add}
 use borrow.Author.Tests.{eq-eqb, ne-eqb}
 use Rattle.laws.proofs.Order.{by-equal, by-order, pick-false, pick-true}
 use Rattle.laws.proofs.Span.{length-span-all, span-cong}
@@ -100,15 +100,6 @@ samples-taken d bytes i n small l h r =
     ap (run _ 0) z ∙ run-taken d bytes i 0 n small l h (omega arith) ∙ ap (λ (q : ℕ). take (n * bytes) (drop q d)) y
 
 -- ---- everything encoded is bytes, and a sample of bytes is small
-
-pub bytes-append : (a b : List ℕ) → Bytes a → Bytes b → Bytes (a ++ b)
-unfolding Bytes
-bytes-append a b f g i =
-    by-order i (length a) (λ l. rw (List·getD-append a b 0 i l) (f i))
-    (λ l.
-    let e : length a + (i - length a) ≡ i = omega arith in
-    let q : getD (a ++ b) i 0 ≡ getD b (i - length a) 0 = ap (λ (n : ℕ). getD (a ++ b) n 0) (sym e) ∙ getD-append-add a b (i - length a) 0 in
-    rw q (g (i - length a)))
 
 pub sample-small : (d : List ℕ) (bytes i : ℕ) → Bytes d → 1 ≤ bytes → bytes ≤ 2 → sampleAt d bytes i < 256 ^ bytes
 unfolding sampleAt Bytes

@@ -1,14 +1,14 @@
 -- Laws of formats: the bounds of tops, sides and rows. Assumes nothing.
 use mathlib.Core.Bool.{Bool, _||_, false, true}
-use mathlib.Core.Path.{_∙_, _≡_, ap, sym}
-use Prim.Native.Nat.{_%_, _*_, _-_, _<_, _^_, _≤_, suc, ℕ}
-use native.Mathlib.Nat.{le-trans, pow-suc}
+use mathlib.Core.Path.{_≡_, ap}
+use Prim.Native.Nat.{_%_, _*_, _<_, _^_, _≤_, ℕ}
+use native.Mathlib.Nat.{le-trans}
 use native.Mathlib.Omega.{arith}
 use lib.Dec.{eqb, leb}
 use lib.Pow.{pow-mono, pow-pos}
 use Rattle.laws.proofs.Order.{by-test, mul-below}
 use Rattle.laws.specs.Pick.{pick}
-use Rattle.image.specs.Format.{bytesOf, columnsOf, cover, halfX, halfY, halved, halvesX, halvesY, middleOf, rowSize, rowsOf, sideOf, topOf}
+use Rattle.image.specs.Format.{bytesOf, columnsOf, cover, halfX, halfY, halved, halvesX, halvesY, rowSize, rowsOf, sideOf, topOf}
 use Rattle.image.specs.Sound.{FormSound}
 use Rattle.image.specs.declared.format.Form.{Form}
 use Rattle.image.specs.declared.format.Part.{Part}
@@ -24,13 +24,6 @@ shift-small n d h l =
 pub top-small : (f : PixelFormat) → f .depth ≤ 16 → topOf f < 2 ^ 16
 unfolding topOf
 top-small f h = omega (arith, shift-small 16 (f .depth) h (omega arith))
-
-pub middle-small : (f : PixelFormat) → 8 ≤ f .depth → f .depth ≤ 16 → middleOf f ≤ topOf f
-unfolding middleOf topOf
-middle-small f l h =
-    let e : suc (f .depth - 1) ≡ f .depth = omega arith in
-    let p : 2 ^ f .depth ≡ 2 ^ (f .depth - 1) * 2 = ap (λ (k : ℕ). 2 ^ k) (sym e) ∙ pow-suc 2 (f .depth - 1) in
-    omega (arith, shift-small 16 (f .depth - 1) (omega arith) (omega arith))
 
 pub bytes-cases {ℓ} : {X : Type ℓ} (f : PixelFormat) → (bytesOf f ≡ 1 → X) → (bytesOf f ≡ 2 → X) → X
 unfolding bytesOf pick

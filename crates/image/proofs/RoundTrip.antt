@@ -15,18 +15,17 @@ use Rattle.laws.specs.Out.{done, fitted}
 use Rattle.laws.specs.Pick.{pick}
 use Rattle.numbers.proofs.Number.{at-head, number-at, past-append}
 use Rattle.numbers.specs.Number.{numberBytes, onNumber}
-use Rattle.image.proofs.ByteLaws.{data-bytes, length-sampleBytes, length-samplesOf, sample-one, sample-small, sample-two}
+use Rattle.image.proofs.ByteLaws.{length-sampleBytes, length-samplesOf, sample-one, sample-two}
 use Rattle.image.proofs.FormLaws.{bytes-few, height-le, row-le, rows-some, size-le, width-le}
 use Rattle.image.proofs.RecordLaws.{form-taken, format-taken}
-use Rattle.image.specs.Bytes.{Bytes, dataOf, decode, encode, headBytes, placed, planeBytes, planeHead, planeSize, promotedIn, rowBytes, rowsBytes, sampleAt, sampleBytes, sampleIn, samplesOf, sizeOf, tightAt}
+use Rattle.image.specs.Bytes.{dataOf, decode, encode, headBytes, placed, planeBytes, planeHead, planeSize, rowBytes, rowsBytes, sampleAt, sampleBytes, sampleIn, samplesOf, sizeOf, tightAt}
 use Rattle.image.specs.Format.{bytesOf, columnsOf, hasPart, rowSize, rowsOf}
-use Rattle.image.specs.Picture.{Pic, full, pixel, promote}
+use Rattle.image.specs.Picture.{Agree, Pic}
 use Rattle.image.specs.Record.{headAt, headOf, partAt, past, planeAt, planeOf, planesAt, recordAt, recordOf}
 use Rattle.image.specs.Sound.{FormSound}
 use Rattle.image.specs.declared.format.Form.{Form}
 use Rattle.image.specs.declared.format.Part.{Part}
 use Rattle.image.specs.declared.format.Part.the-variants.{Alpha, Cb, Cr, Luma}
-use Rattle.image.specs.declared.record.Frame.{Frame}
 use Rattle.image.specs.declared.record.Plane.{Plane}
 
 -- ---- how long a tight record is, by its form alone
@@ -278,10 +277,6 @@ sample-rows P k p x y hx hy =
 
 -- ---- pictures that agree where they have samples
 
-pub record Agree (P Q : Pic) : Type 0 where
-  pub form : P .form ≡ Q .form
-  pub reads : (p : Part) → hasPart (P .form .format) p ≡ true → (x y : ℕ) → x < columnsOf (P .form) p → y < rowsOf (P .form) p → P .at p x y ≡ Q .at p x y
-
 pub agree-self : (P : Pic) → Agree P P
 agree-self P = record { form = refl; reads = λ p h x y a b. refl }
 
@@ -360,15 +355,3 @@ decode-encode P ok k s at rest e =
             ap₂ (λ (d : List ℕ) (n : ℕ). sampleIn d (bytesOf (P .form .format)) n x y) (b .rows p t) (b .stride p t) ∙ sample-rows P k p x y hx hy;
       },
     )
-
--- a record of bytes shows samples that fit theirs
-pub decode-small : (s : List ℕ) (fr : Frame) → Bytes s → Small (decode s fr)
-unfolding decode sampleIn
-decode-small s fr b =
-    let few = bytes-few (fr .form .format) in
-    record { small = λ p x y hx hy. sample-small (dataOf s (planeOf fr p)) (bytesOf (fr .form .format)) _ (data-bytes s (planeOf fr p) b) (few .0) (few .1) }
-
--- the rule for one promoted sample is promotion's
-pub promoted-full : (s : List ℕ) (fr : Frame) (p : Part) (x y : ℕ) → promotedIn (dataOf s (planeOf fr p)) (fr .form .format) (planeOf fr p .stride) p x y ≡ promote (decode s fr) .at p x y
-unfolding promotedIn promote full pixel decode
-promoted-full s fr p x y = refl

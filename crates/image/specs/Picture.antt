@@ -1,10 +1,10 @@
 -- Pictures as functions, what a plane reads at a place, and promotion to 4:4:4. Assumes nothing.
 use mathlib.Core.Bool.{Bool, _&&_, _||_, false, true}
 use mathlib.Core.Path.{_≡_}
-use Prim.Native.Nat.{_%_, ℕ}
+use Prim.Native.Nat.{_%_, _<_, ℕ}
 use lib.Dec.{eqb}
 use Rattle.laws.specs.Pick.{pick}
-use Rattle.image.specs.Format.{cover, halfX, halfY, halvesX, halvesY, hasPart, middleOf}
+use Rattle.image.specs.Format.{columnsOf, cover, halfX, halfY, halvesX, halvesY, hasPart, middleOf, rowsOf}
 use Rattle.image.specs.declared.format.Form.{Form}
 use Rattle.image.specs.declared.format.Part.{Part}
 use Rattle.image.specs.declared.format.PixelFormat.{PixelFormat}
@@ -53,3 +53,8 @@ Evenly false n = Unit {0}
 pub record Even (m : Form) : Type 0 where
   pub evenX : Evenly (halvesX (m .format)) (m .width)
   pub evenY : Evenly (halvesY (m .format)) (m .height)
+
+-- the same picture: the same form, and the same samples in every plane
+pub record Agree (P Q : Pic) : Type 0 where
+  pub form : P .form ≡ Q .form
+  pub reads : (p : Part) → hasPart (P .form .format) p ≡ true → (x y : ℕ) → x < columnsOf (P .form) p → y < rowsOf (P .form) p → P .at p x y ≡ Q .at p x y

@@ -6,7 +6,7 @@ use lib.ListN.{length}
 use Rattle.laws.specs.Pick.{pick}
 use Rattle.laws.specs.Out.{Out, refused, done, andThen, refuse}
 use Rattle.numbers.specs.Number.{readNumber, onNumber}
-use Rattle.image.specs.Format.{hasPart, columnsOf, rowsOf, rowSize, formatOf, formOf}
+use Rattle.image.specs.Format.{hasPart, rowsOf, rowSize, formatOf, formOf}
 use Rattle.image.specs.declared.format.Part.{Part}
 use Rattle.image.specs.declared.format.Part.the-variants.{Luma, Cb, Cr, Alpha}
 use Rattle.image.specs.declared.format.Form.{Form}

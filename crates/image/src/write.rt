@@ -1,6 +1,6 @@
 // Tight records: their headers, their planes' numbers, and how long they are.
 ghost use mathlib.Core.Path.{_≡_};
-ghost use Prim.Native.Nat.{_+_, _*_, _≤_, _<_, _^_};
+ghost use Prim.Native.Nat.{_+_, _≤_, _<_, _^_};
 ghost use lib.ListN.{length};
 ghost use Rattle.laws.specs.Out.{answerOf, written, fitted};
 ghost use Rattle.laws.specs.Puts.{puts};

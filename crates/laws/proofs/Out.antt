@@ -1,11 +1,10 @@
 -- Laws of answers and refusals. Assumes nothing.
 use mathlib.Core.Path.{_≡_, refl, sym, ap, _∙_}
 use mathlib.Core.Bool.{Bool, true, false}
-use mathlib.Core.List.{List, _++_}
+use mathlib.Core.List.{List}
 use Prim.Native.Nat.{ℕ, _≤_, _<_}
-use lib.Dec.{ltb}
-use lib.ListN.{length, drop}
-use borrow.Author.Tests.{lt-ltb, le-ltb, ltb-false}
+use lib.ListN.{length}
+use borrow.Author.Tests.{lt-ltb, le-ltb}
 use Rattle.laws.specs.Pick.{pick}
 use Rattle.laws.specs.Puts.{puts}
 use Rattle.laws.specs.Out.{reason, Out, refused, done, andThen, refuse, answerOf, written, fitted}
@@ -126,10 +125,6 @@ same-left R _ _ (both {a = c} {b = b} r) a e = (b, refl, rw (← done-same c a e
 pub same-done : {A B : Type 0} (R : A → B → Type 0) (o : Out A) (u : Out B) → Same R o u → (b : B) → u ≡ done b → (a : A) × (o ≡ done a) × R a b
 same-done R _ _ alike b e = not-done _ b e
 same-done R _ _ (both {a = a} {b = c} r) b e = (a, refl, rw (← done-same c b e) r)
-
-pub same-refused : {A B : Type 0} (R : A → B → Type 0) (o : Out A) (u : Out B) → Same R o u → (r : Refusal) → o ≡ refused r → u ≡ refused r
-same-refused R _ _ (alike {r = q}) r e = let p : q ≡ r = cc in ap refused p
-same-refused R _ _ (both {a = a} {b = b} k) r e = not-done r a (sym e)
 
 -- ---- what is written
 

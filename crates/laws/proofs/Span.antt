@@ -1,11 +1,11 @@
 -- Laws of lists that are made item by item. Assumes nothing.
 use mathlib.Core.Path.{_≡_, refl, sym, ap, ap₂, _∙_}
-use mathlib.Core.List.{List, [], _∷_, _++_, append-assoc}
+use mathlib.Core.List.{List, [], _++_, append-assoc}
 use Prim.Native.Nat.{ℕ, zero, suc, _+_, _-_, _*_, _≤_, _<_}
-use native.Mathlib.Nat.{zero-mul, suc-mul, add-zero, not-suc-le-zero}
+use native.Mathlib.Nat.{zero-mul, suc-mul}
 use native.Mathlib.Omega.{arith}
 use lib.ListN.{length, drop, length-append}
-use lib.Seq.{drop-append-add, drop-drop, drop-append-seam}
+use lib.Seq.{drop-drop, drop-append-seam}
 use Rattle.laws.specs.Span.{run, span}
 
 pub span-step : (f : ℕ → List ℕ) (i n : ℕ) → i < n → span f i n ≡ f i ++ span f (i + 1) n

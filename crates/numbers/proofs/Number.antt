@@ -3,7 +3,7 @@
 use mathlib.Core.Path.{_≡_, refl, sym, ap, ap₂, _∙_}
 use mathlib.Core.List.{List, [], _∷_, _++_}
 use Prim.Native.Nat.{ℕ, zero, suc, _+_, _-_, _*_, _/_, _%_, _^_, _≤_, _<_}
-use native.Mathlib.Nat.{pow-suc, div-lt-iff-lt-mul, pow-le-pow-right, mul-le-mul-right, not-suc-le-zero, add-zero, add-assoc, mul-comm, mul-assoc, add-mul, mod-add-div'}
+use native.Mathlib.Nat.{pow-suc, div-lt-iff-lt-mul, pow-le-pow-right, not-suc-le-zero, add-zero, add-assoc, mul-comm, mul-assoc, add-mul, mod-add-div'}
 use native.Mathlib.Numerals.{add-one}
 use native.Mathlib.Omega.{arith}
 use lib.Dec.{ltb, leb, lit<}

@@ -1,6 +1,6 @@
 // Numbers as bytes: house numbers, big-endian fields, decimal text.
 ghost use mathlib.Core.Path.{_≡_};
-ghost use Prim.Native.Nat.{ℕ, _+_, _<_, _≤_, _^_};
+ghost use Prim.Native.Nat.{_+_, _<_, _≤_, _^_};
 ghost use lib.ListN.{length};
 ghost use Rattle.laws.specs.Puts.{puts};
 ghost use Rattle.numbers.specs.Number.{readNumber, numberBytes};

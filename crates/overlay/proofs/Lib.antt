@@ -6,6 +6,5 @@ pub mod FrameLaws
 pub mod NotedLaws
 pub mod RunLaws
 pub mod CoveredLaws
-pub mod Cases
 pub mod EvenLaws
 pub mod Sentences

@@ -68,13 +68,6 @@ in-row q r c h l =
     let k : q - r * c < c = omega arith in
     (ap (λ (n : ℕ). n / c) e ∙ digits-div r k, ap (λ (n : ℕ). n % c) e ∙ digits-mod r k)
 
--- a row before another ends before it begins
-pub row-above : (q r c : ℕ) → 1 ≤ c → q / c < r → q < r * c
-row-above q r c h l = let e = row-column q c h in omega (arith, item-within (q / c) r c l)
-
-pub row-below : (q r c : ℕ) → 1 ≤ c → r < q / c → r * c + c ≤ q
-row-below q r c h l = let e = row-column q c h in omega (arith, item-within r (q / c) c l)
-
 pub row-mono : (q s c : ℕ) → 1 ≤ c → q ≤ s → q / c ≤ s / c
 row-mono q s c h l = le-div-iff-mul-le h .1 (omega (arith, div-mul-le-self q c))
 

@@ -6,7 +6,6 @@ ghost use lib.Dec.{eqb, leb, ltb};
 ghost use lib.ListN.{length, getD};
 ghost use Rattle.laws.specs.Pick.{pick};
 ghost use Rattle.image.specs.Format.{sideOf, hasAlpha, bytesOf};
-ghost use Rattle.image.specs.Record.{recordAt};
 ghost use Rattle.derived.specs.Sound.{OverlaySound};
 ghost use Rattle.overlay.specs.Overlay.{paint, veil, laid, covers, base, spotAt, laidAt, allLaid};
 ghost use Rattle.overlay.specs.Run.{layersOf};

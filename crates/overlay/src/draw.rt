@@ -1,13 +1,13 @@
 // The composed picture, written plane by plane and stripe by stripe.
 ghost use mathlib.Core.Path.{_≡_};
-ghost use Prim.Native.Nat.{ℕ, _+_, _*_, _<_, _≤_, _^_};
+ghost use Prim.Native.Nat.{ℕ, _+_, _*_, _<_, _≤_};
 ghost use lib.ListN.{length, getD};
 ghost use Rattle.laws.specs.Puts.{puts};
 ghost use Rattle.image.specs.Format.{bytesOf, topOf};
 ghost use Rattle.image.specs.declared.format.Part.the-variants.{Alpha};
 ghost use Rattle.image.specs.Bytes.{samplesOf, rowsBytes, planeBytes, encode};
 ghost use Rattle.overlay.specs.Overlay.{ground, settle, settled, placeAt, overlayPic};
-ghost use Rattle.overlay.specs.Run.{fillPart, fillFor};
+ghost use Rattle.overlay.specs.Run.{fillFor};
 ghost use Rattle.overlay.specs.Block.{acrossAt, downAt, StripeFits, backdropFill, layersAt, PlanSound};
 use crate::blend::Stripe;
 use crate::blend::lay_inputs;

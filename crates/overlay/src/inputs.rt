@@ -2,7 +2,6 @@
 ghost use mathlib.Core.Path.{_≡_};
 ghost use Prim.Native.Nat.{_≤_};
 ghost use Rattle.laws.specs.Pick.{pick};
-ghost use Rattle.image.specs.Picture.{odd};
 ghost use Rattle.derived.specs.Sound.{OverlaySound};
 ghost use Rattle.overlay.specs.Overlay.{oddOffset};
 ghost use Rattle.overlay.specs.Block.{noted, notedForm, planOut, framesPlan};

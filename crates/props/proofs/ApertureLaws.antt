@@ -8,12 +8,11 @@ use lib.Dec.{eqb, ltb}
 use lib.IntN.{_*ℤ_, _+ℤ_, negsuc, negℤ, pos, subℕ, ℤ}
 use borrow.Author.Tests.{eq-eqb, eqb-false, eqb-true, le-ltb, lt-ltb, ltb-false, ne-eqb, not-false}
 use Rattle.laws.proofs.Order.{apart}
-use Rattle.laws.proofs.Out.{Holds, andThen-done, done-holds, done-same, not-done, refuse-done, refuse-no}
+use Rattle.laws.proofs.Out.{Holds, andThen-done, done-holds, done-same, not-done, refuse-done, refuse-no, then-done}
 use Rattle.laws.specs.Out.{done, reason, refuse, refused}
 use Rattle.laws.specs.declared.Refusal.{Refusal}
 use Rattle.numbers.specs.Field.{offsetOf, signedOf}
-use Rattle.props.proofs.Cases.{across}
-use Rattle.props.specs.Aperture.{NoRect, axisOf, edgeOf, resolveOf}
+use Rattle.props.specs.Aperture.{Exact, ExactRect, NoRect, axisOf, edgeOf, resolveOf}
 use Rattle.props.specs.Sound.{Inside}
 use Rattle.props.specs.declared.clap.Clap.{Clap}
 use Rattle.props.specs.declared.clap.CropRect.{CropRect}
@@ -61,13 +60,6 @@ no-rect (Resolved.Refused x) r k e = apart (cc)
 
 -- ---- what an axis that was taken says, and that it is taken where that holds
 
--- the part's size is n / d, it lies in the input, and its edge is the formula's number exactly
-pub record Exact (n d offN offD input : ℕ) (a : Strip) : Type 0 where
-  pub some : 1 ≤ a .size
-  pub size : a .size * d ≡ n
-  pub inside : a .edge + a .size ≤ input
-  pub edge : pos (a .edge * (2 * offD)) ≡ pos ((input - a .size) * offD) +ℤ pos 2 *ℤ signedOf (2 ^ 32) offN
-
 -- a quotient without rest
 whole : (k den : ℕ) → not (eqb (k % den) 0) ≡ false → k / den * den ≡ k
 whole k den e =
@@ -83,7 +75,7 @@ edge-taken (pos k) den gap size a e =
     (sym (ap (λ x. x .size) q), omega (arith, ltb-false gap (k / den) (g .0), ap (λ x. x .edge) q), ap (λ x. pos (x .edge * den)) (sym q) ∙ ap pos (whole k den (f .0)))
 edge-taken (negsuc k) den gap size a e = let f = refuse-done _ _ _ a e in not-done _ a (f .1)
 
-pub axis-taken : (n d offN offD input : ℕ) (a : Strip) → axisOf n d offN offD input ≡ done a → Exact n d offN offD input a
+pub axis-taken : (n d offN offD input : ℕ) (a : Strip) → axisOf n d offN offD input ≡ done a → Exact n d offN offD input (a .edge) (a .size)
 unfolding axisOf
 axis-taken n d offN offD input a e =
     let f = refuse-done _ _ _ a e in
@@ -95,9 +87,9 @@ axis-taken n d offN offD input a e =
     let l = ltb-false input (n / d) (j .0) in
     record {
       some = positive (a .size) (k .0) (eqb-false (n / d) 0 (i .0));
-      size = ap (λ x. x * d) (k .0) ∙ whole n d (h .0);
+      whole = ap (λ x. x * d) (k .0) ∙ whole n d (h .0);
       inside = omega arith;
-      edge = k .2 ∙ ap (λ (m : ℕ). pos ((input - m) * offD) +ℤ pos 2 *ℤ signedOf (2 ^ 32) offN) (sym (k .0));
+      placed = k .2 ∙ ap (λ (m : ℕ). pos ((input - m) * offD) +ℤ pos 2 *ℤ signedOf (2 ^ 32) offN) (sym (k .0));
     }
   where
     positive : (m : ℕ) → m ≡ n / d → (n / d ≡ 0 → ⊥) → 1 ≤ m
@@ -111,15 +103,15 @@ edge-exact k den gap size h l =
     ∙ refuse-no _ _ (le-ltb gap (k * den / den) (omega arith))
     ∙ ap (λ (m : ℕ). done (record { edge = m; size = size })) q
 
-pub axis-exact : (n d offN offD input : ℕ) (a : Strip) → 0 < d → 0 < offD → Exact n d offN offD input a → axisOf n d offN offD input ≡ done a
+pub axis-exact : (n d offN offD input : ℕ) (a : Strip) → 0 < d → 0 < offD → Exact n d offN offD input (a .edge) (a .size) → axisOf n d offN offD input ≡ done a
 unfolding axisOf
 axis-exact n d offN offD input a h l x =
-    let q : n / d ≡ a .size = ap (λ (m : ℕ). m / d) (sym (x .size)) ∙ mul-div-cancel (a .size) h in
-    let r : n % d ≡ 0 = ap (λ (m : ℕ). m % d) (sym (x .size)) ∙ mul-mod-left (a .size) d in
+    let q : n / d ≡ a .size = ap (λ (m : ℕ). m / d) (sym (x .whole)) ∙ mul-div-cancel (a .size) h in
+    let r : n % d ≡ 0 = ap (λ (m : ℕ). m % d) (sym (x .whole)) ∙ mul-mod-left (a .size) d in
     refuse-no _ _ (ne-eqb d 0 (λ e. above d h e)) ∙ refuse-no _ _ (ne-eqb offD 0 (λ e. above offD l e)) ∙ refuse-no _ _ (ap not (eq-eqb (n % d) 0 r))
     ∙ refuse-no _ _ (ne-eqb (n / d) 0 (λ e. above (a .size) (x .some) (sym q ∙ e))) ∙ refuse-no _ _ (le-ltb input (n / d) (omega (arith, x .inside)))
     ∙ ap (λ (m : ℕ). edgeOf (pos ((input - m) * offD) +ℤ pos 2 *ℤ signedOf (2 ^ 32) offN) (2 * offD) (input - m) m) q
-    ∙ ap (λ (z : ℤ). edgeOf z (2 * offD) (input - a .size) (a .size)) (sym (x .edge))
+    ∙ ap (λ (z : ℤ). edgeOf z (2 * offD) (input - a .size) (a .size)) (sym (x .placed))
     ∙ edge-exact (a .edge) (2 * offD) (input - a .size) (a .size) (omega arith) (omega (arith, x .inside))
   where
     above : (m : ℕ) → 0 < m → m ≡ 0 → ⊥
@@ -127,17 +119,27 @@ axis-exact n d offN offD input a h l x =
 
 -- ---- the rectangle
 
-pub resolve-inside : (c : Clap) (width height : ℕ) (r : CropRect) → resolveOf c width height ≡ done r → Inside r width height
+-- a rectangle that was taken is exact along both axes, and one that is exact is taken
+pub resolve-taken : (c : Clap) (width height : ℕ) (r : CropRect) → resolveOf c width height ≡ done r → ExactRect c width height r
 unfolding resolveOf
-resolve-inside c width height r e =
+resolve-taken c width height r e =
     let a = andThen-done _ _ r e in
     let b = andThen-done _ _ r (a .2) in
-    let x = axis-taken _ _ _ _ width (a .0) (a .1) in
-    let y = axis-taken _ _ _ _ height (b .0) (b .1) in
-    inside-as _ r width height (done-same _ r (b .2)) (record { across = x .inside; down = y .inside; wide = x .some; tall = y .some })
+    exact-as _ r (done-same _ r (b .2)) (record { across = axis-taken _ _ _ _ width (a .0) (a .1); down = axis-taken _ _ _ _ height (b .0) (b .1) })
   where
-    inside-as : (q q′ : CropRect) (w h : ℕ) → q ≡ q′ → Inside q w h → Inside q′ w h
-    inside-as q q′ w h p k = rw p at k
+    exact-as : (q q′ : CropRect) → q ≡ q′ → ExactRect c width height q → ExactRect c width height q′
+    exact-as q q′ p k = rw p at k
+
+pub resolve-exact : (c : Clap) (width height : ℕ) (r : CropRect) → 0 < c .«width_d» → 0 < c .«horiz_off_d» → 0 < c .«height_d» → 0 < c .«vert_off_d» → ExactRect c width height r → resolveOf c width height ≡ done r
+unfolding resolveOf
+resolve-exact c width height r i j k l x =
+    then-done _ (axis-exact _ _ _ _ width (record { edge = r .x; size = r .width }) i j (x .across))
+    ∙ then-done _ (axis-exact _ _ _ _ height (record { edge = r .y; size = r .height }) k l (x .down))
+
+pub resolve-inside : (c : Clap) (width height : ℕ) (r : CropRect) → resolveOf c width height ≡ done r → Inside r width height
+resolve-inside c width height r e =
+    let x = resolve-taken c width height r e in
+    record { across = x .across .inside; down = x .down .inside; wide = x .across .some; tall = x .down .some }
 
 pub resolve-holds : (c : Clap) (width height : ℕ) → Holds (λ r. Inside r width height) (resolveOf c width height)
 resolve-holds c width height = done-holds _ _ (λ r e. resolve-inside c width height r e)

@@ -2,4 +2,3 @@ pub mod ApertureLaws
 pub mod ChainLaws
 pub mod SizeLaws
 pub mod Prefix
-pub mod Cases

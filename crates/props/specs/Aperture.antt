@@ -1,6 +1,7 @@
 -- The clean aperture (ISO/IEC 14496-12, 12.1.4; document 01, clap). Assumes nothing.
 use mathlib.Core.Bool.{not}
-use Prim.Native.Nat.{_%_, _*_, _-_, _/_, _^_, suc, ℕ}
+use mathlib.Core.Path.{_≡_}
+use Prim.Native.Nat.{_%_, _*_, _+_, _-_, _/_, _^_, _≤_, suc, ℕ}
 use lib.Dec.{eqb, ltb}
 use lib.IntN.{_*ℤ_, _+ℤ_, negsuc, pos, ℤ}
 use Rattle.laws.specs.Out.{Out, andThen, done, reason, refuse, refused}
@@ -47,3 +48,15 @@ resolvedOut (Resolved.Refused e) = refused e
 unfoldable pub NoRect : Resolved → Type 0
 NoRect (Resolved.Rect r) = ⊥
 NoRect (Resolved.Refused e) = Unit
+
+-- a part of an axis, by its edge and its size: the size is n / d, the part lies in the input, and the edge is the formula's number exactly
+pub record Exact (n d offN offD input edge size : ℕ) : Type 0 where
+  pub some : 1 ≤ size
+  pub whole : size * d ≡ n
+  pub inside : edge + size ≤ input
+  pub placed : pos (edge * (2 * offD)) ≡ pos ((input - size) * offD) +ℤ pos 2 *ℤ signedOf (2 ^ 32) offN
+
+-- so along both axes of a picture
+pub record ExactRect (c : Clap) (width height : ℕ) (r : CropRect) : Type 0 where
+  pub across : Exact (c .«width_n») (c .«width_d») (c .«horiz_off_n») (c .«horiz_off_d») width (r .x) (r .width)
+  pub down : Exact (c .«height_n») (c .«height_d») (c .«vert_off_n») (c .«vert_off_d») height (r .y) (r .height)

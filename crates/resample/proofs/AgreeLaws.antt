@@ -3,35 +3,14 @@ use mathlib.Core.Path.{_∙_, _≡_, ap, ap₂, refl}
 use Prim.Native.Nat.{_*_, _+_, _-_, _<_, _≤_, suc, zero, ℕ}
 use native.Mathlib.Omega.{arith}
 use Rattle.image.proofs.FormLaws.{columns-some, rows-some}
-use Rattle.image.proofs.RoundTrip.{Agree}
-use Rattle.image.specs.Format.{columnsOf, halvesX, halvesY, rowsOf}
-use Rattle.image.specs.Picture.{Pic, sized}
+use Rattle.image.specs.Format.{columnsOf, rowsOf}
+use Rattle.image.specs.Picture.{Agree, Pic, sized}
 use Rattle.image.specs.Sound.{FormSound}
 use Rattle.image.specs.declared.format.Form.{Form}
 use Rattle.resample.proofs.FootLaws.{foot-in, past-in}
-use Rattle.resample.proofs.PlaceLaws.{near-in}
-use Rattle.resample.proofs.RunLaws.{depth-parts}
 use Rattle.resample.specs.Area.{FootIn, area, areaMean, firstOf, footOf, pastOf, sum, weighed, weightOf}
-use Rattle.resample.specs.Depth.{levelOf, rescaled, toDepth}
-use Rattle.resample.specs.Nearest.{nearPlace, nearest}
 use Rattle.resample.specs.Rounded.{rounded}
 use Rattle.resample.specs.declared.area.Foot.{Foot}
-
-pub rescaled-agree : (P Q : Pic) (depth : ℕ) → Agree P Q → Agree (rescaled P depth) (rescaled Q depth)
-unfolding rescaled toDepth columnsOf rowsOf halvesX halvesY
-rescaled-agree P Q depth a = record {
-  form = ap (λ (m : Form). toDepth m depth) (a .form);
-  reads = λ p h x y i j. ap₂ (λ (m : Form) (v : ℕ). levelOf (m .format .depth) depth v) (a .form) (a .reads p (depth-parts (P .form) depth p h) x y i j);
-}
-
-pub nearest-agree : (P Q : Pic) (w h : ℕ) → FormSound (P .form) → Agree P Q → Agree (nearest P w h) (nearest Q w h)
-unfolding nearest sized
-nearest-agree P Q w h ok a = record {
-  form = ap (λ (m : Form). sized m w h) (a .form);
-  reads = λ p e x y i j.
-      a .reads p e _ _ (near-in _ _ x (columns-some (P .form) ok p) i) (near-in _ _ y (rows-some (P .form) ok p) j)
-      ∙ ap (λ (m : Form). Q .at p (nearPlace (columnsOf m p) (columnsOf (sized m w h) p) x) (nearPlace (rowsOf m p) (rowsOf (sized m w h) p) y)) (a .form);
-}
 
 -- ---- sums over the samples that are touched
 

@@ -8,4 +8,3 @@ pub mod SameLaws
 pub mod AgreeLaws
 pub mod MeanLaws
 pub mod SmallLaws
-pub mod Cases

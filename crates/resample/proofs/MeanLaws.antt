@@ -1,17 +1,17 @@
 -- A mean over footprints is a mean: the weights of a footprint sum to its length, and a plane of one value keeps it. Assumes nothing.
-use mathlib.Core.Path.{_∙_, _≡_, ap, sym}
+use mathlib.Core.Path.{_∙_, _≡_, ap}
 use Prim.Native.Nat.{_*_, _+_, _-_, _/_, _<_, _≤_, suc, zero, ℕ}
 use native.Mathlib.Nat.{add-mul, div-lt-iff-lt-mul, le-div-iff-mul-le, mul-assoc, mul-comm}
 use native.Mathlib.Omega.{arith}
 use Rattle.laws.proofs.Order.{mul-below}
 use Rattle.image.proofs.FormLaws.{columns-some, rows-some}
 use Rattle.image.specs.Format.{columnsOf, rowsOf}
-use Rattle.image.specs.Picture.{Pic, sized}
+use Rattle.image.specs.Picture.{Pic}
 use Rattle.image.specs.Sound.{FormSound}
 use Rattle.image.specs.declared.format.Part.{Part}
 use Rattle.resample.proofs.AgreeLaws.{mean-cong}
 use Rattle.resample.proofs.FootLaws.{before, first-past, foot-in, least-left, least-le, weight-step}
-use Rattle.resample.specs.Area.{FootIn, area, areaMean, firstOf, footOf, pastOf, sum, weighed, weightOf}
+use Rattle.resample.specs.Area.{area, areaMean, firstOf, footOf, pastOf, sum, weighed, weightOf}
 use Rattle.resample.specs.Rounded.{rounded}
 use Rattle.resample.specs.declared.area.Foot.{Foot}
 

@@ -14,10 +14,10 @@ use Rattle.laws.specs.Pick.{pick}
 use Rattle.laws.specs.declared.Refusal.{Refusal}
 use Rattle.image.proofs.FormLaws.{columns-le, columns-some, rows-le, rows-some}
 use Rattle.image.proofs.RecordLaws.{whole-sound}
-use Rattle.image.proofs.RoundTrip.{Agree, drawn-as}
+use Rattle.image.proofs.RoundTrip.{drawn-as}
 use Rattle.image.specs.Bytes.{decode, encode}
 use Rattle.image.specs.Format.{columnsOf, halvesX, halvesY, hasAlpha, hasPart, isMono, rowsOf}
-use Rattle.image.specs.Picture.{Pic, sized}
+use Rattle.image.specs.Picture.{Agree, Pic, sized}
 use Rattle.image.specs.Record.{recordOf}
 use Rattle.image.specs.Sound.{FormSound}
 use Rattle.image.specs.declared.format.Form.{Form}

@@ -6,9 +6,8 @@ use native.Mathlib.Omega.{arith}
 use borrow.Author.Tests.{le-leb}
 use Rattle.laws.proofs.Order.{pick-true}
 use Rattle.image.proofs.FormLaws.{columns-some, rows-some}
-use Rattle.image.proofs.RoundTrip.{Agree}
 use Rattle.image.specs.Format.{columnsOf, rowsOf}
-use Rattle.image.specs.Picture.{Pic, sized}
+use Rattle.image.specs.Picture.{Agree, Pic, sized}
 use Rattle.image.specs.Sound.{FormSound}
 use Rattle.resample.proofs.FootLaws.{greatest-case, least-left}
 use Rattle.resample.proofs.PlaceLaws.{level-same, near-same}

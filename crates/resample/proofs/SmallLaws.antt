@@ -1,31 +1,18 @@
 -- What each operation makes of a picture whose samples fit their bytes has samples that fit theirs. Assumes nothing.
 use mathlib.Core.Path.{_∙_, _≡_, refl, sym}
 use Prim.Native.Nat.{_*_, _+_, _-_, _/_, _<_, _^_, _≤_, suc, zero, ℕ}
-use native.Mathlib.Nat.{div-lt-iff-lt-mul, lt-of-le-of-lt, mul-assoc, mul-comm, mul-le-mul, mul-left-comm, suc-mul}
+use native.Mathlib.Nat.{div-lt-iff-lt-mul, mul-assoc, mul-comm, mul-le-mul, mul-left-comm, suc-mul}
 use native.Mathlib.Omega.{arith}
-use lib.Dec.{leb, lit≤}
-use lib.Pow.{pow-mono, pow-pos}
-use borrow.Author.Tests.{leb-true}
-use Rattle.laws.proofs.Order.{by-test, pick-false, pick-true}
+use lib.Dec.{lit≤}
 use Rattle.image.proofs.FormLaws.{bytes-cases, columns-some, rows-some}
 use Rattle.image.proofs.RoundTrip.{Small}
 use Rattle.image.specs.Format.{bytesOf, columnsOf, rowsOf}
 use Rattle.image.specs.Picture.{Pic, sized}
 use Rattle.image.specs.Sound.{FormSound}
-use Rattle.image.specs.declared.format.PixelFormat.{PixelFormat}
-use Rattle.resample.proofs.FootLaws.{Weighing, foot-in, least-le, past-in, weighing-done, weighing-start, weighing-step}
-use Rattle.resample.proofs.PlaceLaws.{level-other, near-in}
+use Rattle.resample.proofs.FootLaws.{Weighing, foot-in, past-in, weighing-done, weighing-start, weighing-step}
 use Rattle.resample.specs.Area.{FootIn, area, areaMean, firstOf, pastOf, weighed}
-use Rattle.resample.specs.Depth.{levelOf, rescaled, toDepth, topAt}
-use Rattle.resample.specs.Nearest.{nearest}
 use Rattle.resample.specs.Rounded.{rounded}
 use Rattle.resample.specs.declared.area.Foot.{Foot}
-
-pub nearest-small : (P : Pic) (w h : ℕ) → FormSound (P .form) → Small P → Small (nearest P w h)
-unfolding nearest sized
-nearest-small P w h ok k = record {
-  small = λ p x y i j. k .small p _ _ (near-in _ _ x (columns-some (P .form) ok p) i) (near-in _ _ y (rows-some (P .form) ok p) j);
-}
 
 -- ---- a mean is at most the greatest sample
 
@@ -67,23 +54,4 @@ area-small P w h ok k = record {
       let m = mean-le _ _ (columnsOf (P .form) p) (rowsOf (P .form) p) (P .at p) (256 ^ bytesOf (P .form .format) - 1)
       (foot-in _ _ x (columns-some (P .form) ok p) i) (foot-in _ _ y (rows-some (P .form) ok p) j) (λ u v a b. omega (arith, k .small p u v a b)) in
       omega (arith, m, z);
-}
-
--- ---- another depth
-
-pub level-le : (old new v : ℕ) → (old ≡ new → ⊥) → levelOf old new v ≤ topAt new
-level-le old new v h = rw (level-other old new v h) (least-le _ (topAt new) .1)
-
--- a top fits the bytes of a sample
-top-fits : (f : PixelFormat) → f .depth ≤ 16 → topAt (f .depth) < 256 ^ bytesOf f
-unfolding bytesOf topAt
-top-fits f h =
-    by-test (leb (f .depth) 8)
-    (λ e. let b : 2 ^ f .depth ≤ 2 ^ 8 = pow-mono (leb-true _ _ e) in let p : 1 ≤ 2 ^ f .depth = pow-pos (f .depth) in rw (pick-true {A = ℕ} (leb (f .depth) 8) 1 2 e) (omega arith))
-    (λ e. let b : 2 ^ f .depth ≤ 2 ^ 16 = pow-mono h in let p : 1 ≤ 2 ^ f .depth = pow-pos (f .depth) in rw (pick-false {A = ℕ} (leb (f .depth) 8) 1 2 e) (omega arith))
-
-pub rescaled-small : (P : Pic) (depth : ℕ) → depth ≤ 16 → (P .form .format .depth ≡ depth → ⊥) → Small (rescaled P depth)
-unfolding rescaled toDepth
-rescaled-small P depth h n = record {
-  small = λ p x y i j. lt-of-le-of-lt (level-le (P .form .format .depth) depth (P .at p x y) n) (top-fits (toDepth (P .form) depth .format) h);
 }

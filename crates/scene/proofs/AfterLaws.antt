@@ -2,18 +2,18 @@
 use mathlib.Core.Bool.{Bool, false, true}
 use mathlib.Core.List.{List, [], append-nil}
 use mathlib.Core.Path.{_∙_, _≡_, ap, ap₂, refl, sym}
-use Prim.Native.Nat.{_^_, ℕ}
+use Prim.Native.Nat.{ℕ}
 use lib.Dec.{lit≤}
 use borrow.Author.Tests.{eqb-true}
 use Rattle.laws.proofs.Order.{and-true, by-test, pick-false, pick-true}
-use Rattle.laws.proofs.Out.{Holds, Same, alike, both, done-holds, holds-done, then-both, then-done, then-holds}
-use Rattle.laws.specs.Out.{Out, andThen, done, refused}
+use Rattle.laws.proofs.Out.{Holds, Same, alike, both, done-holds, then-both, then-done, then-holds}
+use Rattle.laws.specs.Out.{Out, andThen, done}
 use Rattle.laws.specs.Pick.{pick}
 use Rattle.image.proofs.FormLaws.{bytes-cases}
-use Rattle.image.proofs.RoundTrip.{Agree, Small, Tame, agree-sym, agree-tame, agree-trans, decode-encode, encode-agree, encode-back}
+use Rattle.image.proofs.RoundTrip.{Small, Tame, agree-tame, agree-trans, decode-encode, encode-agree, encode-back}
 use Rattle.image.specs.Bytes.{decode, encode, tightAt}
 use Rattle.image.specs.Format.{hasPart}
-use Rattle.image.specs.Picture.{Pic, odd, sized}
+use Rattle.image.specs.Picture.{Agree, Pic, odd, sized}
 use Rattle.image.specs.Record.{recordOf}
 use Rattle.image.specs.Sound.{FormSound}
 use Rattle.image.specs.declared.format.Form.{Form}
@@ -27,9 +27,9 @@ use Rattle.props.specs.declared.entry.Property.{Property}
 use Rattle.props.specs.declared.iscl.Iscl.{Iscl}
 use Rattle.props.specs.declared.size.Size.{Size}
 use Rattle.transform.proofs.Carried.{crop-made, draws-agree, draws-form, draws-tame, mirror-made, turn-agree, turn-form, turn-tame}
-use Rattle.transform.specs.Move.{cropMove, mirrorMove}
+use Rattle.transform.specs.Move.{mirrorMove}
 use Rattle.transform.specs.Run.{turnBytes}
-use Rattle.transform.specs.Turn.{Quarter, crop, mirror, q0, q1, q2, q3, quarterOf, turn}
+use Rattle.transform.specs.Turn.{Quarter, q0, q1, q2, q3, quarterOf, turn}
 use Rattle.resample.proofs.AgreeLaws.{area-agree}
 use Rattle.resample.proofs.RunLaws.{own-sound, sized-sound}
 use Rattle.resample.proofs.SmallLaws.{area-small}

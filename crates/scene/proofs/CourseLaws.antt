@@ -4,15 +4,15 @@ use mathlib.Core.List.{List, [], _∷_}
 use mathlib.Core.Path.{_∙_, _≡_, ap, ap₂, refl, sym}
 use Prim.Native.Nat.{ℕ}
 use Rattle.laws.proofs.Order.{pick-false, pick-true}
-use Rattle.laws.proofs.Out.{Holds, Same, alike, andThen-done, both, done-holds, done-same, holds-done, pick-holds, then-both, then-done, then-holds, then-same}
-use Rattle.laws.specs.Out.{Out, andThen, done, refused}
+use Rattle.laws.proofs.Out.{Holds, Same, alike, andThen-done, both, done-holds, done-same, holds-done, pick-holds, then-holds, then-same}
+use Rattle.laws.specs.Out.{Out, andThen, done}
 use Rattle.laws.specs.Pick.{pick}
 use Rattle.image.proofs.RoundTrip.{Tame, length-encode}
-use Rattle.image.specs.Bytes.{encode, sizeOf}
+use Rattle.image.specs.Bytes.{sizeOf}
 use Rattle.image.specs.Picture.{Pic}
 use Rattle.image.specs.Sound.{FormSound}
 use Rattle.image.specs.declared.format.Form.{Form}
-use Rattle.props.proofs.ChainLaws.{Applied, fold-holds, fold-none, fold-same, fold-step}
+use Rattle.props.proofs.ChainLaws.{Applied, fold-same}
 use Rattle.props.specs.Chain.{applies, entriesAt, foldChain}
 use Rattle.props.specs.declared.entry.Property.{Property}
 use Rattle.props.specs.declared.entry.PropertyEntry.{PropertyEntry}

@@ -1,6 +1,6 @@
 // The chain on a composed record, to and fro between the two lent buffers.
 ghost use mathlib.Core.Path.{_≡_};
-ghost use Prim.Native.Nat.{_+_, _-_, _≤_};
+ghost use Prim.Native.Nat.{_-_, _≤_};
 ghost use mathlib.Core.List.{_++_};
 ghost use lib.ListN.{length, take, replicate};
 ghost use Rattle.laws.specs.Out.{answerOf, written};

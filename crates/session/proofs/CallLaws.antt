@@ -14,10 +14,10 @@ use Rattle.laws.specs.Out.{done}
 use Rattle.laws.specs.Pick.{pick}
 use Rattle.image.proofs.FormLaws.{columns-some, rows-some}
 use Rattle.image.proofs.RecordLaws.{whole-sound}
-use Rattle.image.proofs.RoundTrip.{Agree, plane-agree}
+use Rattle.image.proofs.RoundTrip.{plane-agree}
 use Rattle.image.specs.Bytes.{decode, headBytes, planeBytes, sizeOf, tightAt}
 use Rattle.image.specs.Format.{columnsOf, hasAlpha, hasPart, rowsOf, topOf}
-use Rattle.image.specs.Picture.{Pic}
+use Rattle.image.specs.Picture.{Agree, Pic}
 use Rattle.image.specs.Record.{recordOf}
 use Rattle.image.specs.Sound.{FormSound, Sound}
 use Rattle.image.specs.declared.format.Form.{Form}
@@ -29,11 +29,11 @@ use Rattle.derived.specs.Grid.{gridOf}
 use Rattle.session.specs.declared.state.Canvas.{Canvas}
 use Rattle.derived.specs.declared.grid.GridDescriptor.{GridDescriptor}
 use Rattle.grid.proofs.Composed.{below, canvas-alpha-is, canvas-columns, canvas-depth, columns-same, promotes-colour, rows-same-form}
-use Rattle.grid.proofs.MosaicLaws.{among, pastes, pastes-at, pastes-form}
+use Rattle.grid.proofs.MosaicLaws.{pastes, pastes-at, pastes-form}
 use Rattle.grid.proofs.PasteLaws.{Meets, pasteTile}
 use Rattle.grid.proofs.Suited.{suits-bytes, suits-canvas, tile-alpha, tile-parts, tile-sample, tile-sound, tilePic-form}
 use Rattle.grid.specs.Cell.{Suits, tileForm, tilePic}
-use Rattle.grid.specs.Mosaic.{laid, plainAt, plainPic, tileIndex}
+use Rattle.grid.specs.Mosaic.{among, laid, plainAt, plainPic, tileIndex}
 use Rattle.grid.specs.Ready.{Alike}
 use Rattle.grid.specs.Tiles.{canvasForm, coversOf, promotesOf, sameLayout, sameSize, withAlpha}
 use Rattle.session.proofs.BlankLaws.{blank-suits}

@@ -17,10 +17,10 @@ use Rattle.laws.specs.Out.{Out, andThen, done}
 use Rattle.laws.specs.Pick.{pick}
 use Rattle.image.proofs.FormLaws.{columns-some, rows-some}
 use Rattle.image.proofs.RecordLaws.{whole-sound}
-use Rattle.image.proofs.RoundTrip.{Agree, encode-agree, length-encode}
+use Rattle.image.proofs.RoundTrip.{encode-agree, length-encode}
 use Rattle.image.specs.Bytes.{Bytes, decode, encode, headBytes, planeBytes, planeHead, planeSize, rowBytes, rowsBytes, sizeOf}
 use Rattle.image.specs.Format.{bytesOf, columnsOf, cover, halfX, halfY, halvesX, halvesY, hasAlpha, hasPart, isMono, rowSize, rowsOf, topOf}
-use Rattle.image.specs.Picture.{Pic, as444, needs444, sized}
+use Rattle.image.specs.Picture.{Agree, Pic, as444, needs444, sized}
 use Rattle.image.specs.Record.{recordOf}
 use Rattle.image.specs.Sound.{FormSound}
 use Rattle.image.specs.declared.format.Form.{Form}
@@ -35,13 +35,13 @@ use Rattle.derived.specs.declared.grid.GridDescriptor.{GridDescriptor}
 use Rattle.grid.proofs.CellLaws.{length-storePart}
 use Rattle.grid.proofs.Composed.{canvas-alpha-is, column-in, columns-of, grid-agree, grid-fits, index-in, plain-form, rows-of}
 use Rattle.grid.proofs.GridLaws.{TilesFrom, tiles-from, tiles-taken}
-use Rattle.grid.proofs.MosaicLaws.{among, among-down, down-among, downFrom, pastes, pastes-at, pastes-form}
+use Rattle.grid.proofs.MosaicLaws.{among-down, down-among, downFrom, pastes, pastes-at, pastes-form}
 use Rattle.grid.proofs.PaintLaws.{head-alpha}
 use Rattle.grid.proofs.PasteLaws.{Meets, pasteTile}
 use Rattle.grid.proofs.Suited.{covered-column, covered-row, suits-bytes, suits-canvas, tile-parts, tile-sample, tile-sound, tilePic-form}
 use Rattle.grid.proofs.TilesLaws.{count-some}
 use Rattle.grid.specs.Cell.{Suits, storeTile, tileForm, tilePic}
-use Rattle.grid.specs.Mosaic.{laid, plainAt, plainPic, tileIndex}
+use Rattle.grid.specs.Mosaic.{among, laid, plainAt, plainPic, tileIndex}
 use Rattle.grid.specs.Ready.{Alike, TilesTaken}
 use Rattle.grid.specs.Run.{framesIn, gridOn, gridRun, noFrame, tileIn}
 use Rattle.grid.specs.Tiles.{canvasForm, countOf, coversOf, promotesOf, sameLayout, sameSize, tilesOf, withAlpha}

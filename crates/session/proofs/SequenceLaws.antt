@@ -1,8 +1,8 @@
 -- Laws over calls in turn: the buffer shows a picture behind its header, and each cell that is drawn is pasted on it. Assumes nothing.
-use mathlib.Core.Bool.{Bool, _&&_, false, true}
+use mathlib.Core.Bool.{true}
 use mathlib.Core.List.{List, [], _++_, _∷_, append-assoc}
 use mathlib.Core.Path.{_∙_, _≡_, ap, refl, sym}
-use Prim.Native.Nat.{_%_, _/_, _<_, _≤_, ℕ}
+use Prim.Native.Nat.{_%_, _/_, _≤_, ℕ}
 use native.Mathlib.Omega.{arith}
 use lib.Dec.{T}
 use lib.ListN.{drop, length, length-append}
@@ -13,18 +13,17 @@ use Rattle.laws.specs.Puts.{puts}
 use Rattle.numbers.proofs.Number.{bytes-last}
 use Rattle.numbers.specs.Number.{numberBytes}
 use Rattle.image.specs.Bytes.{headBytes, planeBytes, sizeOf}
-use Rattle.image.specs.Format.{columnsOf, hasAlpha, hasPart, rowsOf}
+use Rattle.image.specs.Format.{hasAlpha}
 use Rattle.image.specs.Picture.{Pic}
 use Rattle.image.specs.declared.format.Form.{Form}
-use Rattle.image.specs.declared.format.Part.{Part}
 use Rattle.image.specs.declared.format.Part.the-variants.{Alpha, Cb, Cr, Luma}
 use Rattle.derived.specs.declared.grid.GridDescriptor.{GridDescriptor}
 use Rattle.grid.proofs.Composed.{canvas-alpha-is}
-use Rattle.grid.proofs.MosaicLaws.{among, pastes, pastes-at, pastes-form, tile-at}
+use Rattle.grid.proofs.MosaicLaws.{pastes, pastes-form}
 use Rattle.grid.proofs.PaintLaws.{head-alpha, length-canvas}
-use Rattle.grid.proofs.PasteLaws.{Meets, pasteAt, pasteTile, shows, tile-pasted}
+use Rattle.grid.proofs.PasteLaws.{Meets, pasteTile, tile-pasted}
 use Rattle.grid.specs.Cell.{storeTile, tilePic}
-use Rattle.grid.specs.Mosaic.{canvasBytes, laid, plainPic, tileIndex}
+use Rattle.grid.specs.Mosaic.{canvasBytes, laid, plainPic}
 use Rattle.grid.specs.Tiles.{promotesOf, withAlpha}
 use Rattle.session.proofs.DrawLaws.{begun-first}
 use Rattle.session.specs.Session.{alphaPlace, alphaTold, begun, drawnOn, reservedForm}
@@ -94,20 +93,6 @@ begun-laid c d e l =
     let n = length-canvas c 0 (omega arith) (rw e (omega arith)) in
     begun-first true c d refl ∙ puts-start d (canvasBytes c 0) (rw n l) ∙ ap (λ (k : ℕ). canvasBytes c 0 ++ drop k d) n ∙ (unfold canvasBytes in refl)
 
--- ---- a tile without alpha leaves the alpha there
-
-pub keeps-alpha : (T P : Pic) (column row x y : ℕ) → hasPart (T .form .format) Alpha ≡ false → pasteTile T column row P .at Alpha x y ≡ P .at Alpha x y
-keeps-alpha T P column row x y h = tile-at T column row P Alpha x y ∙ pick-false _ _ _ h
-
--- ---- a cell drawn again is overwritten in each part that the tile has: what was drawn there before does not show
-
-pub again-shows : (T P Q : Pic) (column row x y : ℕ) (p : Part) → P .form ≡ Q .form → hasPart (T .form .format) p ≡ true → shows (P .form) (T .form) column row p x y ≡ true
-    → pasteTile T column row P .at p x y ≡ pasteTile T column row Q .at p x y
-unfolding pasteAt
-again-shows T P Q column row x y p e h s =
-    tile-at T column row P p x y ∙ pick-true _ _ _ h ∙ pick-true _ _ _ s
-    ∙ sym (tile-at T column row Q p x y ∙ pick-true _ _ _ h ∙ pick-true _ _ _ (ap (λ (m : Form). shows m (T .form) column row p x y) (sym e) ∙ s))
-
 -- ---- cells drawn in turn, the last at the head of the list
 
 unfoldable pub drawnAll : GridDescriptor → Form → (ℕ → Pic) → List ℕ → List ℕ → List ℕ
@@ -132,12 +117,3 @@ all-laid g t T [] a P rest e meets l = refl
 all-laid g t T (j ∷ js) a P rest e meets l =
     ap (drawnOn g t j (T j .form) (T j)) (all-laid g t T js a P rest e meets l)
     ∙ drawn-laid g t (T j .form) j (alphaAfter T js a) (T j) _ rest (pastes-form _ (g .columns) js P ∙ e) (meets j) (alpha-small T js a l)
-
--- ---- in any order: cells drawn once or more, with the same tile each time, show the same at every place
-
-pub any-order : (c : Form) (T : ℕ → Pic) (columns : ℕ) (p : Part) (w h x y : ℕ) → x < columnsOf c p → y < rowsOf c p → 0 < w → 0 < h → x / w < columns → (js ks : List ℕ) (P : Pic) → P .form ≡ c
-    → ((i : ℕ) → (columnsOf (T i .form) p ≡ w) × (rowsOf (T i .form) p ≡ h)) → ((i : ℕ) → among i js ≡ among i ks) → pastes T columns js P .at p x y ≡ pastes T columns ks P .at p x y
-any-order c T columns p w h x y inX inY someX someY column js ks P e sizes same =
-    pastes-at c T columns p w h x y inX inY someX someY column js P e (λ i m. sizes i)
-    ∙ ap (λ (b : Bool). pick (b && hasPart (T (tileIndex columns w h x y) .form .format) p) (T (tileIndex columns w h x y) .at p (x % w) (y % h)) (P .at p x y)) (same (tileIndex columns w h x y))
-    ∙ sym (pastes-at c T columns p w h x y inX inY someX someY column ks P e (λ i m. sizes i))

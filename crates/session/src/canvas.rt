@@ -1,6 +1,5 @@
 // The session's calls. A state is taken and handed back by value; an enum cannot hold it, so an answer stands beside it.
 ghost use mathlib.Core.Path.{_≡_};
-ghost use lib.ListN.{length};
 ghost use Rattle.laws.specs.declared.Answer.the-variants.{Refused};
 ghost use Rattle.session.specs.State.{noCanvas};
 ghost use Rattle.session.specs.Session.{calledOf, drawnCall, drawnBuffer, lengthAnswer, sessionOf, placeOf, blankOf, finishOf};

@@ -1,7 +1,6 @@
 // What place and blank write: the canvas at the first place, the alpha number, a blank cell.
 ghost use mathlib.Core.Path.{_≡_};
-ghost use mathlib.Core.Bool.{true};
-ghost use Prim.Native.Nat.{_+_, _*_, _≤_, _<_, _^_};
+ghost use Prim.Native.Nat.{_+_, _*_, _≤_, _<_};
 ghost use lib.ListN.{length};
 ghost use Rattle.image.specs.Bytes.{sizeOf};
 ghost use Rattle.image.specs.Sound.{FormSound};

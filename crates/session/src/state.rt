@@ -1,7 +1,7 @@
 // A canvas's state, and which states calls can have made.
 ghost use mathlib.Core.Path.{_≡_};
 ghost use mathlib.Core.Bool.{true};
-ghost use Prim.Native.Nat.{_<_, _≤_};
+ghost use Prim.Native.Nat.{_<_};
 ghost use Rattle.session.specs.Marks.{markOf};
 ghost use Rattle.session.specs.State.{sidesOk, gridOk, formOk, openOf, noCanvas, bareOk, tiledOk, stateOk, hasTile, tileOut, acceptOf};
 use crate::marks::any_marked;

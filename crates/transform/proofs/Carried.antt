@@ -7,9 +7,9 @@ use native.Mathlib.Omega.{arith}
 use borrow.Author.Tests.{eq-eqb, ne-eqb}
 use Rattle.laws.proofs.Order.{by-equal}
 use Rattle.laws.specs.Pick.{pick}
-use Rattle.image.proofs.RoundTrip.{Agree, Tame, agree-self, agree-sym, agree-tame, agree-trans}
+use Rattle.image.proofs.RoundTrip.{Tame, agree-self, agree-sym, agree-tame, agree-trans}
 use Rattle.image.specs.Format.{cover, halfX, halfY, hasPart}
-use Rattle.image.specs.Picture.{Pic, full, pixel, promote}
+use Rattle.image.specs.Picture.{Agree, Pic, full, pixel, promote}
 use Rattle.image.specs.Sound.{FormSound}
 use Rattle.image.specs.declared.format.Form.{Form}
 use Rattle.image.specs.declared.format.Part.{Part}

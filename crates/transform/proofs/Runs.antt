@@ -18,7 +18,6 @@ use Rattle.image.specs.Sound.{FormSound}
 use Rattle.image.specs.declared.format.Form.{Form}
 use Rattle.image.specs.declared.record.Frame.{Frame}
 use Rattle.props.proofs.ApertureLaws.{resolve-inside}
-use Rattle.props.proofs.Cases.{across}
 use Rattle.props.specs.Aperture.{resolveOf}
 use Rattle.props.specs.Sound.{Inside}
 use Rattle.props.specs.declared.clap.CropRect.{CropRect}

@@ -5,7 +5,6 @@ ghost use mathlib.Core.Path.{_≡_};
 ghost use Prim.Native.Nat.{_≤_};
 ghost use lib.ListN.{length};
 ghost use Rattle.laws.specs.Out.{answerOf, written, fitted};
-ghost use Rattle.image.specs.Picture.{odd};
 ghost use Rattle.image.specs.Sound.{FormSound, Sound};
 ghost use Rattle.image.specs.Bytes.{decode, encode};
 ghost use Rattle.transform.specs.Move.{moved, MoveFits, formWith, endAxis, cropMove, quarterMove, halfMove, mirrorMove, turnForm};

@@ -4,9 +4,9 @@ use borrow.Author.Needs.{needs}
 use Rattle.numbers.proofs.Decimal.{onto-last, onto-more, length-digits}
 use Rattle.numbers.specs.Decimal.{decimal, digitsOnto}
 use lib.ListN.{length}
-use mathlib.Core.List.{List, [], _∷_}
-use Prim.Native.Nat.{ℕ, _+_, _^_, _≤_, _<_}
-use mathlib.Core.Path.{_≡_, refl, sym, ap, _∙_}
+use mathlib.Core.List.{List, []}
+use Prim.Native.Nat.{ℕ, _+_, _^_, _<_}
+use mathlib.Core.Path.{_≡_, refl, ap, _∙_}
 use Rattle.numbers.proofs.decimal_length.Statement.{statement}
 use Rattle.numbers.proofs.decimal_length.Tie as tie
 use Rattle.numbers.proofs.decimal_length.Reads as reads

@@ -1,9 +1,7 @@
-use mathlib.Core.Path.{_≡_, refl, sym, ap, _∙_}
-use mathlib.Core.List.{List, [], _∷_, _++_}
-use Prim.Native.Nat.{ℕ, _+_, _-_, _*_, _/_, _%_, _^_, _≤_, _<_}
-use lib.ListN.{length, getD, set, length-set}
-use Rattle.laws.proofs.Writing.{Writing, writing-start, writing-put, writing-done}
-use Rattle.numbers.specs.Number.{readFrom, readNumber, lastByte, numberBytes}
+use mathlib.Core.Path.{_≡_, ap}
+use Prim.Native.Nat.{_+_, _^_, _<_}
+use lib.ListN.{length}
+use Rattle.numbers.specs.Number.{numberBytes}
 use Rattle.numbers.proofs.Number.{bytes-last, bytes-more, bytes-short}
 use native.Mathlib.Omega.{arith}
 use borrow.Author.Needs.{needs}

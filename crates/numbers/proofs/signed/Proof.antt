@@ -3,9 +3,8 @@ use Rattle.numbers.specs.declared.Offset.{Offset}
 use Rattle.numbers.specs.Field.{signedOf, offsetOf}
 use Rattle.laws.specs.Pick.{pick}
 use borrow.Author.Tests.{lt-ltb, le-ltb}
-use lib.ListN.{length, getD}
 use Prim.Native.Nat.{ℕ, suc, _-_}
-use mathlib.Core.Path.{_≡_, refl, sym, ap, _∙_}
+use mathlib.Core.Path.{_≡_, ap}
 use borrow.Author.Needs.{needs}
 use Rattle.numbers.proofs.signed.Statement.{statement}
 use Rattle.numbers.proofs.signed.Tie as tie

@@ -4,12 +4,12 @@ use denote.Ref.{now}
 use borrow.Author.Needs.{needs}
 use Rattle.numbers.proofs.Decimal.{onto-last, onto-more, length-digits}
 use Rattle.numbers.specs.Decimal.{decimal, digitsOnto}
-use Rattle.laws.proofs.Puts.{length-puts, set-puts}
+use Rattle.laws.proofs.Puts.{length-puts}
 use Rattle.laws.specs.Puts.{puts}
 use lib.ListN.{length, length-set}
 use Prim.Native.Nat.{ℕ, _+_, _-_, _^_, _≤_, _<_}
-use mathlib.Core.List.{List, [], _∷_}
-use mathlib.Core.Path.{_≡_, refl, sym, ap, _∙_}
+use mathlib.Core.List.{List, []}
+use mathlib.Core.Path.{_≡_, refl, ap, _∙_}
 use Rattle.numbers.proofs.write_decimal.Statement.{statement}
 use Rattle.numbers.proofs.write_decimal.Tie as tie
 use Rattle.numbers.proofs.write_decimal.Reads as reads

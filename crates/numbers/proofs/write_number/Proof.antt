@@ -1,10 +1,9 @@
-use mathlib.Core.Path.{_≡_, refl, sym, ap, _∙_}
-use mathlib.Core.List.{List, [], _∷_, _++_}
-use Prim.Native.Nat.{ℕ, _+_, _-_, _*_, _/_, _%_, _^_, _≤_, _<_}
-use lib.ListN.{length, getD, set, length-set}
-use Rattle.laws.proofs.Writing.{Writing, writing-start, writing-put, writing-done}
-use Rattle.numbers.specs.Number.{readFrom, readNumber, lastByte, numberBytes}
-use Rattle.numbers.proofs.Number.{bytes-last, bytes-more, bytes-short}
+use mathlib.Core.Path.{ap}
+use Prim.Native.Nat.{_^_, _<_}
+use lib.ListN.{length}
+use Rattle.laws.proofs.Writing.{Writing, writing-put, writing-done}
+use Rattle.numbers.specs.Number.{numberBytes}
+use Rattle.numbers.proofs.Number.{bytes-last, bytes-more}
 use native.Mathlib.Omega.{arith}
 use borrow.Author.Needs.{needs}
 use Rattle.numbers.proofs.write_number.Statement.{statement}

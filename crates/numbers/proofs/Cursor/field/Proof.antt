@@ -5,9 +5,9 @@ use Rattle.numbers.specs.Field.{bigEndian, fieldAt}
 use Rattle.laws.specs.Pick.{pick}
 use denote.Ref.{now}
 use borrow.Author.Tests.{lt-ltb, le-ltb}
-use lib.ListN.{length, getD}
+use lib.ListN.{getD}
 use Prim.Native.Nat.{ℕ, _+_, _*_, _^_, _≤_, _<_}
-use mathlib.Core.Path.{_≡_, refl, sym, ap, _∙_}
+use mathlib.Core.Path.{_≡_, sym, ap, _∙_}
 use Rattle.numbers.proofs.Cursor.field.Statement.{statement}
 use Rattle.numbers.proofs.Cursor.field.Tie as tie
 use Rattle.numbers.proofs.Cursor.field.Reads as reads

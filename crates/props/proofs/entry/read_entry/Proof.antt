@@ -1,6 +1,6 @@
 use mathlib.Core.Path.{sym}
 use borrow.Author.Needs.{needs}
-use borrow.Author.Tests.{le-leb, le-ltb, lt-leb, lt-ltb}
+use borrow.Author.Tests.{le-ltb, lt-ltb}
 use Rattle.laws.specs.Out.{andThen, refuse}
 use Rattle.numbers.specs.Number.{onNumber}
 use Rattle.props.specs.Entry.{entryAt}

@@ -2,7 +2,7 @@ use native.Mathlib.Nat.{lt-of-le-of-lt}
 use native.Mathlib.Omega.{arith}
 use lib.Dec.{lit<}
 use borrow.Author.Needs.{needs}
-use borrow.Author.Tests.{le-leb, le-ltb, lt-leb, lt-ltb}
+use borrow.Author.Tests.{le-ltb, lt-ltb}
 use Rattle.laws.proofs.Order.{mul-below}
 use Rattle.laws.specs.Out.{refuse}
 use Rattle.props.specs.Scale.{withinOf}

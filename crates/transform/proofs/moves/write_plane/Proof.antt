@@ -14,7 +14,6 @@ use Rattle.image.specs.Picture.{Pic}
 use Rattle.image.specs.Record.{planeOf}
 use Rattle.image.specs.declared.format.PixelFormat.{PixelFormat}
 use Rattle.image.specs.declared.record.Plane.{Plane}
-use Rattle.props.proofs.Cases.{across}
 use Rattle.transform.proofs.Drawn.{Worked, plane-drawn, walk-inside, worked-bytes, worked-inside, worked-size}
 use Rattle.transform.proofs.Walks.{length-walkBytes}
 use Rattle.transform.specs.Move.{WalkInside, moved, walkBytes, walkOf}
