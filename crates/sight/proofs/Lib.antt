@@ -3,4 +3,4 @@ pub mod Turns
 pub mod Steps
 pub mod Stops
 pub mod Agreement
-pub mod Cases
+pub mod CarryLaws

@@ -1,3 +1,4 @@
 pub mod Sight
 pub mod Chain
 pub mod Seen
+pub mod Carry
