@@ -1,35 +1,42 @@
 -- A chain on a composed picture and the point run on its size: they agree, for any naming of places that the picture reads by.
 -- Assumes nothing.
 use mathlib.Core.Bool.{Bool, true}
-use mathlib.Core.List.{List, [], _∷_}
+use mathlib.Core.List.{List, []}
 use mathlib.Core.Path.{_∙_, _≡_, ap, refl, sym}
 use Prim.Native.Nat.{_<_, _≤_, ℕ}
+use native.Mathlib.Omega.{arith}
 use lib.ListN.{length}
 use borrow.Author.Tests.{le-ltb, leb-false}
-use Rattle.laws.proofs.Out.{Holds, Same, alike, andThen-done, both, done-same, not-done, refuse-done, refuse-no}
+use Rattle.laws.proofs.Out.{Holds, Same, alike, andThen-done, both, done-same, holds-done, refuse-done, refuse-no, then-done}
 use Rattle.laws.specs.Out.{Out, andThen, done, refused}
+use Rattle.laws.specs.Pick.{pick}
 use Rattle.image.proofs.FormLaws.{cover-in}
-use Rattle.image.proofs.RoundTrip.{Agree}
 use Rattle.image.specs.Bytes.{decode, encode, tightAt}
 use Rattle.image.specs.Format.{columnsOf, halfX, halfY, hasPart, rowsOf}
-use Rattle.image.specs.Picture.{Even, Pic, pixel}
+use Rattle.image.specs.Picture.{Agree, Even, Pic, pixel}
 use Rattle.image.specs.Record.{recordOf}
 use Rattle.image.specs.declared.format.Form.{Form}
 use Rattle.image.specs.declared.format.Part.{Part}
 use Rattle.image.specs.declared.format.PixelFormat.{PixelFormat}
 use Rattle.props.proofs.ChainLaws.{Applied, fold-same}
-use Rattle.scene.specs.Chain.{Drawn, begun, chainDrawn, drawnAfter, longer, scaled}
+use Rattle.props.specs.Chain.{foldChain}
+use Rattle.props.specs.Sound.{Inside}
 use Rattle.props.specs.declared.entry.Property.{Property}
 use Rattle.props.specs.declared.entry.PropertyEntry.{PropertyEntry}
-use Rattle.transform.specs.Place.{Place}
+use Rattle.transform.specs.Place.{Place, sideways, swaps, unturn}
+use Rattle.transform.specs.Turn.{quarterOf}
 use Rattle.sight.proofs.Agreement.{chain-sight-plain, seen-place}
-use Rattle.sight.proofs.Turns.{back-in, back-once}
+use Rattle.sight.proofs.CarryLaws.{all-applied, back-carried, sight-carries}
+use Rattle.sight.proofs.Steps.{place-in, sight-inside}
+use Rattle.sight.proofs.Turns.{back-in, back-once, place-path}
+use Rattle.sight.specs.Carry.{carryOf}
 use Rattle.sight.specs.Chain.{NotIscl, chainPic, picAfter}
 use Rattle.sight.specs.Seen.{Covers, PlaceAgrees, Seen}
-use Rattle.sight.specs.Sight.{back, finalHeight, finalWidth, placeOf, sightOf}
+use Rattle.sight.specs.Sight.{back, backFrom, exchange, finalHeight, finalWidth, highOf, placeOf, sightOf, whole, wideOf}
 use Rattle.sight.specs.declared.Sight.{Sight}
+use Rattle.scene.specs.Chain.{Drawn, begun, chainDrawn, drawnAfter, longer, scaled}
 use Rattle.scene.specs.Scene.{roomFor}
-use Rattle.point.specs.Demand.{Agreement, Pictured, Room, Shown, inside, outside}
+use Rattle.point.specs.Agreement.{Agreement, CarriedFrom, CarriedTo, Pictured, Room, Shown, canvasHeight, canvasWidth, inside, outside}
 use Rattle.point.specs.Point.{pointOn}
 use Rattle.point.specs.declared.Named.{Named}
 use Rattle.point.specs.declared.Point.{Point}
@@ -49,11 +56,6 @@ drawn-after : (p : Property) (d : Drawn) (Q : Pic) → Unit {0} → Carries d Q 
 unfolding drawnAfter Carries
 drawn-after p d Q k e = rw (← e) (carried (picAfter scaled p (d .pic)) (d .longest))
 
-all-applied : (flag : Bool) (es : List PropertyEntry) → Applied (λ p. Unit {0}) flag es
-unfolding Applied
-all-applied flag [] = tt
-all-applied flag (e ∷ es) = (λ h. tt, all-applied flag es)
-
 drawn-chain : (es : List PropertyEntry) (flag : Bool) (P : Pic) → Same Carries (chainDrawn es flag P) (chainPic scaled es flag P)
 unfolding chainDrawn chainPic begun Carries
 drawn-chain es flag P = fold-same Carries (λ p. Unit {0}) drawnAfter (picAfter scaled) drawn-after flag es (all-applied flag es) _ P refl
@@ -68,10 +70,6 @@ same-holds : {A B : Type 0} (H : A → Type 0) (R : A → B → Type 0) (o : Out
 unfolding Holds
 same-holds H R o u h alike = alike
 same-holds H R o u h (both {a = a} {b = b} r) = both (h, r)
-
-same-right : {A B : Type 0} (R : A → B → Type 0) (o : Out A) (u : Out B) (b : B) → Same R o u → u ≡ done b → (a : A) × R a b
-same-right R o u b alike e = not-done _ b e
-same-right R o u b (both {a = a} {b = c} r) e = (a, rw (done-same c b e) at r)
 
 -- ---- the record that a run writes
 
@@ -154,12 +152,9 @@ module _ (reads : Named → Part → ℕ) (P : Pic) (names : Place → Named)
   at-sight o u (both {a = d} {b = s} k) output spare m =
       agreement-as (sym (room-is d output spare (m d refl .0) (m d refl .1))) (at-place (d .pic) s (k .0) (k .1) (placeOf s x y) (seen-place P (d .pic) s (k .1) x y))
 
--- ---- whole chains
+-- ---- a picture run and the point runs
 
 module _ (P : Pic) (even : Even (P .form)) (wide : 1 ≤ P .form .width) (tall : 1 ≤ P .form .height) (es : List PropertyEntry) (flag : Bool) (plain : Applied NotIscl flag es) (names : Place → Named) where
-  abbrev pointed : ℕ → ℕ → Out Point
-  pointed x y = pointOn es flag (P .form .width) (P .form .height) x y names
-
   seen : Same (Seen P) (chainPic scaled es flag P) (sightOf es flag (P .form .width) (P .form .height))
   seen = chain-sight-plain P scaled flag es even wide tall plain
 
@@ -171,19 +166,50 @@ module _ (P : Pic) (even : Even (P .form)) (wide : 1 ≤ P .form .width) (tall :
   pub chain-agrees : (reads : Named → Part → ℕ)
       → ((p : Part) → hasPart (P .form .format) p ≡ true → (l : Place) → l .x < P .form .width → l .y < P .form .height → pixel P p (l .x) (l .y) ≡ reads (names l) p)
       → Holds (λ (d : Drawn). ReadsBack (d .pic)) (chainDrawn es flag P) → (x y output spare : ℕ) → Room (chainDrawn es flag P) output spare
-      → Agreement reads x y (andThen (chainDrawn es flag P) (roomFor output spare)) (pointed x y)
+      → Agreement reads x y (andThen (chainDrawn es flag P) (roomFor output spare)) (pointOn es flag (P .form .width) (P .form .height) x y names)
   unfolding pointOn
   chain-agrees reads there kept x y output spare m = at-sight reads P names there x y _ _ (same-holds _ _ _ _ kept drawn-seen) output spare m
 
-  -- a point run that answers: the place that it names
+-- ---- the empty chain
+
+-- the whole picture as it is
+whole-back : (w h u v : ℕ) → back (whole w h) u v ≡ record { x = u; y = v }
+unfolding whole back backFrom exchange quarterOf unturn pick
+whole-back w h u v = place-path (omega arith) (omega arith)
+
+whole-place : (w h u v : ℕ) → u < w → v < h → placeOf (whole w h) u v ≡ done (record { x = u; y = v })
+unfolding whole finalWidth finalHeight wideOf highOf quarterOf sideways swaps pick
+whole-place w h u v l m = place-in (whole w h) u v l m ∙ ap done (whole-back w h u v)
+
+whole-sides : (w h : ℕ) → (finalWidth (whole w h) ≡ w) × (finalHeight (whole w h) ≡ h)
+unfolding whole finalWidth finalHeight wideOf highOf quarterOf sideways swaps pick
+whole-sides w h = (refl, refl)
+
+whole-sight : (flag : Bool) (w h : ℕ) (s : Sight) → sightOf [] flag w h ≡ done s → whole w h ≡ s
+unfolding sightOf foldChain
+whole-sight flag w h s e = done-same _ s e
+
+bare-point : (flag : Bool) (w h u v : ℕ) (names : Place → Named) → u < w → v < h → pointOn [] flag w h u v names ≡ done (record { named = names (record { x = u; y = v }); sight = whole w h })
+unfolding pointOn sightOf foldChain andThen
+bare-point flag w h u v names l m = then-done _ (whole-place w h u v l m)
+
+-- ---- point runs: a chain on a canvas w by h, whose places have names
+
+module _ (w h : ℕ) (wide : 1 ≤ w) (tall : 1 ≤ h) (es : List PropertyEntry) (flag : Bool) (names : Place → Named) where
+  abbrev pointed : ℕ → ℕ → Out Point
+  pointed x y = pointOn es flag w h x y names
+
+  abbrev bare : ℕ → ℕ → Out Point
+  bare u v = pointOn [] flag w h u v names
+
+  -- a point run that answers: the canvas place that it names
   record Answered (x y : ℕ) (a : Point) : Type 0 where
-    sight : Sight
-    sighted : sightOf es flag (P .form .width) (P .form .height) ≡ done sight
-    across : x < finalWidth sight
-    down : y < finalHeight sight
-    column : back sight x y .x < P .form .width
-    row : back sight x y .y < P .form .height
-    named : names (back sight x y) ≡ a .named
+    sighted : sightOf es flag w h ≡ done (a .sight)
+    across : x < finalWidth (a .sight)
+    down : y < finalHeight (a .sight)
+    column : back (a .sight) x y .x < w
+    row : back (a .sight) x y .y < h
+    named : names (back (a .sight) x y) ≡ a .named
 
   answered : (x y : ℕ) (a : Point) → pointed x y ≡ done a → Answered x y a
   unfolding pointOn placeOf
@@ -192,22 +218,75 @@ module _ (P : Pic) (even : Even (P .form)) (wide : 1 ≤ P .form .width) (tall :
       let j = andThen-done _ _ a (i .2) in
       let f = refuse-done _ _ _ _ (j .1) in
       let g = refuse-done _ _ _ _ (f .1) in
-      let k = same-right (Seen P) _ _ (i .0) seen (i .1) in
+      let s : i .0 ≡ a .sight = ap (λ (z : Point). z .sight) (done-same _ a (j .2)) in
+      let n : names (j .0) ≡ a .named = ap (λ (z : Point). z .named) (done-same _ a (j .2)) in
       let across : x < finalWidth (i .0) = leb-false _ _ (f .0) in
       let down : y < finalHeight (i .0) = leb-false _ _ (g .0) in
       let q : back (i .0) x y ≡ j .0 = done-same _ _ (g .1) in
-      let b = back-in (i .0) _ _ (k .1 .inside) x y across down in
-      record { sight = i .0; sighted = i .1; across = across; down = down; column = b .0; row = b .1; named = ap names q ∙ ap (λ (z : Point). z .named) (done-same _ a (j .2)) }
+      let b = back-in (i .0) w h (holds-done (λ (z : Sight). Inside (z .area) w h) _ (i .0) (sight-inside es flag w h wide tall) (i .1)) x y across down in
+      record { sighted = i .1 ∙ ap done s; across = rw s at across; down = rw s at down; column = rw s at (b .0); row = rw s at (b .1); named = ap (λ (z : Sight). names (back z x y)) (sym s) ∙ ap names q ∙ n }
 
-  -- no two places name one spot, if no two places of the composed picture do
-  pub chain-once : ((l m : Place) (k : Spot) → l .x < P .form .width → l .y < P .form .height → m .x < P .form .width → m .y < P .form .height → names l ≡ Named.Spot k → names m ≡ Named.Spot k → l ≡ m)
+  -- no two places name one spot, if no two places of the canvas do
+  pub chain-once : ((l m : Place) (k : Spot) → l .x < w → l .y < h → m .x < w → m .y < h → names l ≡ Named.Spot k → names m ≡ Named.Spot k → l ≡ m)
       → (x y u v : ℕ) (a b : Point) (k : Spot) → pointed x y ≡ done a → pointed u v ≡ done b → a .named ≡ Named.Spot k → b .named ≡ Named.Spot k → (x ≡ u) × (y ≡ v)
-  chain-once apart x y u v a b k p q e f = go (answered x y a p) (answered u v b q)
-    where
-      on : (i : Answered x y a) (j : Answered u v b) → i .sight ≡ j .sight → (x ≡ u) × (y ≡ v)
-      on i j s =
-          back-once (i .sight) x y u v (i .across) (i .down) (rw s (j .across)) (rw s (j .down))
-          (apart (back (i .sight) x y) (back (i .sight) u v) k (i .column) (i .row) (rw s (j .column)) (rw s (j .row)) (i .named ∙ e) (rw s (j .named) ∙ f))
+  chain-once apart x y u v a b k p q e f =
+      let i = answered x y a p in
+      let j = answered u v b q in
+      let s : a .sight ≡ b .sight = done-same _ _ (sym (i .sighted) ∙ j .sighted) in
+      back-once (a .sight) x y u v (i .across) (i .down) (rw s (j .across)) (rw s (j .down))
+      (apart (back (a .sight) x y) (back (a .sight) u v) k (i .column) (i .row) (rw s (j .column)) (rw s (j .row)) (i .named ∙ e) (rw s (j .named) ∙ f))
 
-      go : (i : Answered x y a) (j : Answered u v b) → (x ≡ u) × (y ≡ v)
-      go i j = on i j (done-same _ _ (sym (i .sighted) ∙ j .sighted))
+  -- what holds of the names of all places of the canvas
+  pub chain-names : (M : Named → Type 0) → ((l : Place) → l .x < w → l .y < h → M (names l)) → (x y : ℕ) (a : Point) → pointed x y ≡ done a → M (a .named)
+  chain-names M f x y a e =
+      let i = answered x y a e in
+      rw (i .named) at (f (back (a .sight) x y) (i .column) (i .row))
+
+  -- the run with the empty chain answers for the canvas
+  record Canvas (u v : ℕ) (b : Point) : Type 0 where
+    width : canvasWidth b ≡ w
+    height : canvasHeight b ≡ h
+    column : u < w
+    row : v < h
+
+  canvas : (u v : ℕ) (b : Point) → bare u v ≡ done b → Canvas u v b
+  unfolding pointOn placeOf
+  canvas u v b e =
+      let i = andThen-done _ _ b e in
+      let j = andThen-done _ _ b (i .2) in
+      let f = refuse-done _ _ _ _ (j .1) in
+      let g = refuse-done _ _ _ _ (f .1) in
+      let t = whole-sight flag w h (i .0) (i .1) in
+      let s : i .0 ≡ b .sight = ap (λ (z : Point). z .sight) (done-same _ b (j .2)) in
+      let across : u < finalWidth (i .0) = leb-false _ _ (f .0) in
+      let down : v < finalHeight (i .0) = leb-false _ _ (g .0) in
+      let wide : finalWidth (i .0) ≡ w = sym (ap finalWidth t) ∙ whole-sides w h .0 in
+      let high : finalHeight (i .0) ≡ h = sym (ap finalHeight t) ∙ whole-sides w h .1 in
+      record { width = sym (ap finalWidth s) ∙ wide; height = sym (ap finalHeight s) ∙ high; column = rw wide at across; row = rw high at down }
+
+  -- the rectangle and the turn of an answer are the chain's
+  pub chain-sighted : (x y u v : ℕ) (a b : Point) → pointed x y ≡ done a → bare u v ≡ done b → sightOf es flag (canvasWidth b) (canvasHeight b) ≡ done (a .sight)
+  chain-sighted x y u v a b p q = let c = canvas u v b q in rw (c .width, c .height) (answered x y a p .sighted)
+
+  -- the rectangle is what stays
+  pub chain-stays : (u v : ℕ) (b : Point) (s : Sight) → bare u v ≡ done b → sightOf es flag (canvasWidth b) (canvasHeight b) ≡ done s
+      → CarriedTo (carryOf es flag) (canvasWidth b) (canvasHeight b) (record { x = u; y = v }) s
+  chain-stays u v b s q e =
+      let c = canvas u v b q in
+      let k = sight-carries es flag (canvasWidth b) (canvasHeight b) (record { x = u; y = v }) (rw (c .width) (c .column)) (rw (c .height) (c .row)) s e in
+      record { end = k .0; carried = k .1; follows = k .2 }
+
+  -- a final place names what the canvas place that is carried there names
+  pub chain-through : (x y : ℕ) (a : Point) → pointed x y ≡ done a → CarriedFrom (carryOf es flag) bare a x y
+  chain-through x y a e =
+      let i = answered x y a e in
+      let c = back-carried es flag w h (a .sight) wide tall (i .sighted) x y (i .across) (i .down) in
+      record {
+        place = back (a .sight) x y;
+        answer = record { named = names (back (a .sight) x y); sight = whole w h };
+        answers = bare-point flag w h _ _ names (i .column) (i .row);
+        named = i .named;
+        end = c .0;
+        carried = rw (whole-sides w h .0, whole-sides w h .1) (c .1);
+        arrived = c .2;
+      }

@@ -4,10 +4,10 @@ use mathlib.Core.Bool.{Bool, false, true}
 use mathlib.Core.List.{List, [], _∷_}
 use mathlib.Core.Path.{_∙_, _≡_, ap, ap₂, refl, sym}
 use Prim.Native.Nat.{_%_, _*_, _+_, _-_, _/_, _<_, _^_, ℕ}
-use native.Mathlib.Nat.{div-add-mod, div-div-eq-div-mul}
+use native.Mathlib.Nat.{div-add-mod, div-div-eq-div-mul, mod-lt}
 use native.Mathlib.Omega.{arith}
 use lib.Arith.{digits-div, digits-lt, digits-mod}
-use lib.ListN.{getD}
+use lib.ListN.{getD, length}
 use borrow.Author.Tests.{eqb-true, not-false}
 use Rattle.laws.proofs.Order.{by-test, or-left, or-right, pick-false, pick-true}
 use Rattle.laws.proofs.Out.{andThen-done, done-same, not-done, refuse-done}
@@ -17,7 +17,7 @@ use Rattle.numbers.specs.Number.{readNumber}
 use Rattle.numbers.specs.declared.NumberRead.the-variants.{Number}
 use Rattle.image.proofs.FormLaws.{like-halved}
 use Rattle.image.proofs.PictureLaws.{evenX-of, evenY-of, evenly-part, full-pixel, promote-pixel}
-use Rattle.image.proofs.TrayLaws.{tray-number}
+use Rattle.image.proofs.TrayLaws.{frames-length, tray-number}
 use Rattle.image.specs.Bytes.{decode}
 use Rattle.image.specs.Format.{columnsOf, cover, halfX, halfY, halved, halvesX, halvesY, hasAlpha, hasPart, isMono, middleOf, rowsOf, sideOf, topOf}
 use Rattle.image.specs.Picture.{Even, Evenly, Pic, as444, full, needs444, odd, pixel, sized}
@@ -39,6 +39,7 @@ use Rattle.grid.specs.Ready.{Alike, TilesTaken}
 use Rattle.grid.specs.Run.{framesIn, gridOn, noFrame, takenOf, tileIn}
 use Rattle.grid.specs.Tiles.{canvasForm, countOf, judgeOf, promotesOf, tilesAt, withAlpha}
 use Rattle.grid.specs.declared.tiles.Tiles.{Tiles}
+use Rattle.point.specs.Agreement.{InTray}
 use Rattle.point.specs.Point.{gridNames}
 use Rattle.point.specs.Read.{gridReads, inputIn, readAt, recordsIn}
 use Rattle.point.specs.declared.Named.{Named}
@@ -267,3 +268,18 @@ module _ (tray : List ℕ) (t : Tiles) (ok : TilesTaken tray t) where
       ap₂ (λ (x y : ℕ). record { x = x; y = y })
       (by-digits (t .tile .width) (l .x) (m .x) columns (ap (λ (z : Spot). z .x) q))
       (by-digits (t .tile .height) (l .y) (m .y) rows (ap (λ (z : Spot). z .y) q))
+
+  -- a spot that is named lies in its tile
+  tile-there : framesIn tray t ≡ recordsIn tray → (i x y : ℕ) → i < countOf (t .desc) → x < t .tile .width → y < t .tile .height → InTray tray (record { input = i; x = x; y = y })
+  unfolding inputIn decode
+  tile-there e i x y l lx ly =
+      let k = ok .alike i l in
+      let n : length (framesIn tray t) ≡ countOf (t .desc) = frames-length _ tray (t .first) (framesIn tray t) (ok .taken) in
+      record { input = rw (← e, n) l; across = rw (← e, k .width) lx; down = rw (← e, k .height) ly }
+
+  in-as : (j k : Spot) → j ≡ k → InTray tray j → InTray tray k
+  in-as j k e h = rw e at h
+
+  pub grid-there : framesIn tray t ≡ recordsIn tray → (l : Place) → l .x < t .desc .«output_width» → l .y < t .desc .«output_height» → (k : Spot) → gridNames t l ≡ Named.Spot k → InTray tray k
+  unfolding gridNames
+  grid-there e l lx ly k f = in-as _ k (spot-same _ k f) (tile-there e _ _ _ (index-in (l .x) (l .y) lx ly) (mod-lt (l .x) (ok .tile .wide)) (mod-lt (l .y) (ok .tile .tall)))

@@ -4,4 +4,3 @@ pub mod Chained
 pub mod GridShown
 pub mod OverlayShown
 pub mod Runs
-pub mod DemandLaws

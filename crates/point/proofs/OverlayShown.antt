@@ -3,10 +3,10 @@
 use mathlib.Core.Bool.{Bool, _&&_, _||_, false, not, true}
 use mathlib.Core.List.{List, [], _∷_}
 use mathlib.Core.Path.{_∙_, _≡_, ap, ap₂, refl, sym}
-use Prim.Native.Nat.{_+_, _-_, _<_, _^_, _≤_, min, ℕ}
+use Prim.Native.Nat.{_+_, _-_, _<_, _^_, _≤_, min, suc, ℕ}
 use native.Mathlib.Omega.{arith}
 use lib.Dec.{ltb}
-use lib.ListN.{drop, getD, length}
+use lib.ListN.{drop, getD, length, length-drop}
 use borrow.Author.Tests.{eq-eqb, eqb-true, not-false}
 use Rattle.laws.proofs.Order.{and-true, apart, by-test, or-left, or-right, pick-false, pick-true}
 use Rattle.laws.specs.Out.{Out}
@@ -35,9 +35,10 @@ use Rattle.overlay.specs.Run.{Inputs, alphaAbove, composed, composedForm, fillF
 use Rattle.grid.proofs.Composed.{drop-head}
 use Rattle.grid.specs.Run.{noFrame, takenOf}
 use Rattle.overlay.proofs.FlatLaws.{top-some}
-use Rattle.overlay.proofs.ReachLaws.{covers-facts}
+use Rattle.overlay.proofs.ReachLaws.{covers-facts, spot-inside}
 use Rattle.overlay.proofs.Sentences.{fill-low, settled-pixel}
 use Rattle.overlay.specs.Covered.{AllCut, Found, capped, endsAs, hides, nowhere, topmost}
+use Rattle.point.specs.Agreement.{InTray}
 use Rattle.point.specs.Point.{liesOver, overlayNames, seeThroughFrame, spotUnder, topmostFrom}
 use Rattle.overlay.specs.Overlay.{Layer, alphaOf, covers, coversAt, otherChroma, overlayForm, overlayPic, promotes, sampleOf, seeThrough, some, spotAt}
 use Rattle.point.proofs.GridShown.{spot-same}
@@ -197,41 +198,62 @@ spot-once w z o x u a b e =
     let q = covers-facts z o u b in
     omega (arith, p .0, q .0)
 
--- a place that names a spot: an input that lies there covers it, and the spot is that of the place
-record Told (body : List ℕ) (d : OverlayDescriptor) (l : Place) (k : Spot) : Type 0 where
-  width : ℕ
-  height : ℕ
-  across : covers width (placementAt body d (k .input) .horizontal) (l .x) ≡ true
-  down : covers height (placementAt body d (k .input) .vertical) (l .y) ≡ true
+-- a place that names a spot: the input, one of them all, covers it, and the spot is that of the place
+record Told (body : List ℕ) (d : OverlayDescriptor) (all : List Frame) (l : Place) (k : Spot) : Type 0 where
+  input : k .input < length all
+  across : covers (getD all (k .input) noFrame .form .width) (placementAt body d (k .input) .horizontal) (l .x) ≡ true
+  down : covers (getD all (k .input) noFrame .form .height) (placementAt body d (k .input) .vertical) (l .y) ≡ true
   x : k .x ≡ spotAt (placementAt body d (k .input) .horizontal) (l .x)
   y : k .y ≡ spotAt (placementAt body d (k .input) .vertical) (l .y)
 
-lies-as : (body : List ℕ) (d : OverlayDescriptor) (l : Place) (j k : Spot) → j ≡ k → Told body d l j → Told body d l k
-lies-as body d l j k e h = rw e at h
+lies-as : (body : List ℕ) (d : OverlayDescriptor) (all : List Frame) (l : Place) (j k : Spot) → j ≡ k → Told body d all l j → Told body d all l k
+lies-as body d all l j k e h = rw e at h
 
-spot-lies : (body : List ℕ) (d : OverlayDescriptor) (l : Place) (k : Spot) (i : ℕ) (fr : Frame) → liesOver fr (placementAt body d i) l ≡ true → spotUnder i (placementAt body d i) l ≡ Named.Spot k → Told body d l k
+spot-lies : (body : List ℕ) (d : OverlayDescriptor) (all : List Frame) (l : Place) (k : Spot) (i : ℕ) (fr : Frame) → i < length all → getD all i noFrame ≡ fr → liesOver fr (placementAt body d i) l ≡ true
+    → spotUnder i (placementAt body d i) l ≡ Named.Spot k → Told body d all l k
 unfolding liesOver spotUnder
-spot-lies body d l k i fr t e =
+spot-lies body d all l k i fr n g t e =
     let a = and-true _ _ t in
-    lies-as body d l _ k (spot-same _ k e) (record { width = fr .form .width; height = fr .form .height; across = a .0; down = a .1; x = refl; y = refl })
+    lies-as body d all l _ k (spot-same _ k e) (record { input = n; across = rw g (a .0); down = rw g (a .1); x = refl; y = refl })
 
-named-lies : (body : List ℕ) (d : OverlayDescriptor) (l : Place) (k : Spot) (frs : List Frame) (i : ℕ) (found : Named) → (found ≡ Named.Spot k → Told body d l k) → topmostFrom body d l i found frs ≡ Named.Spot k → Told body d l k
+-- the input that a loop is at is one of them all
+drop-within : (all : List Frame) (i : ℕ) (fr : Frame) (frs : List Frame) → drop i all ≡ fr ∷ frs → i < length all
+drop-within all i fr frs e = let q : length all - i ≡ suc (length frs) = sym (length-drop i all) ∙ ap length e in omega (arith, q)
+
+named-lies : (body : List ℕ) (d : OverlayDescriptor) (all : List Frame) (l : Place) (k : Spot) (frs : List Frame) (i : ℕ) (found : Named) → drop i all ≡ frs → (found ≡ Named.Spot k → Told body d all l k)
+    → topmostFrom body d l i found frs ≡ Named.Spot k → Told body d all l k
 unfolding topmostFrom
-named-lies body d l k [] i found f e = f e
-named-lies body d l k (fr ∷ frs) i found f e =
-    named-lies body d l k frs (i + 1) _
+named-lies body d all l k [] i found r f e = f e
+named-lies body d all l k (fr ∷ frs) i found r f e =
+    let g = drop-head all i fr frs r in
+    named-lies body d all l k frs (i + 1) _ (g .1)
     (λ h. by-test (liesOver fr (placementAt body d i) l)
-    (λ t. spot-lies body d l k i fr t (sym (pick-true _ _ _ t) ∙ h))
+    (λ t. spot-lies body d all l k i fr (drop-within all i fr frs r) (g .0) t (sym (pick-true _ _ _ t) ∙ h))
     (λ t. f (sym (pick-false _ _ _ t) ∙ h))) e
 
-pub overlay-once : (body : List ℕ) (q : Inputs) (l m : Place) (k : Spot) → overlayNames body q l ≡ Named.Spot k → overlayNames body q m ≡ Named.Spot k → l ≡ m
+names-told : (body : List ℕ) (q : Inputs) (l : Place) (k : Spot) → overlayNames body q l ≡ Named.Spot k → Told body (q .descriptor) (q .frames) l k
 unfolding overlayNames
-overlay-once body q l m k e f =
-    let a = named-lies body (q .descriptor) l k (q .frames) 0 Named.Fill not-spot e in
-    let b = named-lies body (q .descriptor) m k (q .frames) 0 Named.Fill not-spot f in
-    ap₂ (λ (x y : ℕ). record { x = x; y = y })
-    (spot-once (a .width) (b .width) _ (l .x) (m .x) (a .across) (b .across) (sym (a .x) ∙ b .x))
-    (spot-once (a .height) (b .height) _ (l .y) (m .y) (a .down) (b .down) (sym (a .y) ∙ b .y))
+names-told body q l k e = named-lies body (q .descriptor) (q .frames) l k (q .frames) 0 Named.Fill refl not-spot e
   where
     not-spot : {X : Type 0} → Named.Fill ≡ Named.Spot k → X
     not-spot h = apart (cc)
+
+pub overlay-once : (body : List ℕ) (q : Inputs) (l m : Place) (k : Spot) → overlayNames body q l ≡ Named.Spot k → overlayNames body q m ≡ Named.Spot k → l ≡ m
+overlay-once body q l m k e f =
+    let a = names-told body q l k e in
+    let b = names-told body q m k f in
+    ap₂ (λ (x y : ℕ). record { x = x; y = y })
+    (spot-once _ _ _ (l .x) (m .x) (a .across) (b .across) (sym (a .x) ∙ b .x))
+    (spot-once _ _ _ (l .y) (m .y) (a .down) (b .down) (sym (a .y) ∙ b .y))
+
+-- ---- a spot that is named lies in its input
+
+pub overlay-there : (body tray : List ℕ) (q : Inputs) → recordsIn tray ≡ q .frames → (l : Place) (k : Spot) → overlayNames body q l ≡ Named.Spot k → InTray tray k
+unfolding inputIn decode
+overlay-there body tray q r l k e =
+    let a = names-told body q l k e in
+    record {
+      input = rw r (a .input);
+      across = rw (r, a .x) (spot-inside _ _ _ (a .across));
+      down = rw (r, a .y) (spot-inside _ _ _ (a .down));
+    }

@@ -1,9 +1,8 @@
 -- Picture runs and point runs that begin alike, step by step: what holds of them after the first steps holds of the whole. Assumes nothing.
 use mathlib.Core.Bool.{Bool}
 use mathlib.Core.List.{List, [], _∷_}
-use mathlib.Core.Path.{_∙_, _≡_, refl, sym}
+use mathlib.Core.Path.{_≡_, ap, refl}
 use Prim.Native.Nat.{ℕ}
-use Rattle.laws.proofs.Out.{not-done}
 use Rattle.laws.specs.Out.{Out, andThen, done, refused}
 use Rattle.numbers.specs.Number.{onNumber}
 use Rattle.numbers.specs.declared.NumberRead.{NumberRead}
@@ -14,15 +13,19 @@ use Rattle.props.specs.declared.entry.PropertyEntry.{PropertyEntry}
 use Rattle.sight.specs.Chain.{NotIscl}
 use Rattle.scene.specs.Chain.{Drawn}
 use Rattle.scene.specs.Scene.{roomFor}
-use Rattle.point.specs.Demand.{Agreement, Room, Unscaled}
+use Rattle.point.specs.Agreement.{Agreement, Room, Unscaled}
 use Rattle.point.specs.declared.Named.{Named}
 use Rattle.point.specs.declared.Point.{Point}
-use Rattle.point.specs.declared.Spot.{Spot}
+
+-- a number that was read, and what goes on with it
+pub on-taken : {A : Type 0} {o : NumberRead} {n at : ℕ} (k : ℕ → ℕ → Out A) → o ≡ Number n at → onNumber o k ≡ k n at
+unfolding onNumber
+on-taken k e = ap (λ (o : NumberRead). onNumber o k) e
 
 -- ---- runs that begin alike
 
 -- what a picture run and a point run have to do with each other at a place
-unfoldable pub Agrees : (Named → Part → ℕ) → ℕ → ℕ → Out Drawn → Out Point → Type 1
+unfoldable pub Agrees : (Named → Part → ℕ) → ℕ → ℕ → Out Drawn → Out Point → Type 0
 Agrees reads x y o u = (output spare : ℕ) → Room o output spare → Agreement reads x y (andThen o (roomFor output spare)) u
 
 pub agrees-as : (reads : Named → Part → ℕ) (x y : ℕ) {o o′ : Out Drawn} {u u′ : Out Point} → o ≡ o′ → u ≡ u′ → Agrees reads x y o u → Agrees reads x y o′ u′
@@ -37,24 +40,6 @@ pub agrees-number : (reads : Named → Part → ℕ) (x y : ℕ) (o : NumberRead
 unfolding Agrees andThen onNumber
 agrees-number reads x y (Number n at) f g k output spare m = k n at refl output spare m
 agrees-number reads x y NumberRead.Malformed f g k output spare m = Agreement.alike
-
--- no two places name one spot
-unfoldable pub Once : (ℕ → ℕ → Out Point) → Type 0
-Once point = (x y u v : ℕ) (a b : Point) (k : Spot) → point x y ≡ done a → point u v ≡ done b → a .named ≡ Named.Spot k → b .named ≡ Named.Spot k → (x ≡ u) × (y ≡ v)
-
-pub once-as : (f g : ℕ → ℕ → Out Point) → ((x y : ℕ) → g x y ≡ f x y) → Once f → Once g
-unfolding Once
-once-as f g e h x y u v a b k p q = h x y u v a b k (sym (e x y) ∙ p) (sym (e u v) ∙ q)
-
-pub once-then : {A : Type 0} (o : Out A) (g : A → ℕ → ℕ → Out Point) → ((a : A) → o ≡ done a → Once (g a)) → Once (λ x y. andThen o (λ a. g a x y))
-unfolding Once andThen
-once-then (refused r) g h x y u v a b k p q = not-done r a p
-once-then (done c) g h x y u v a b k p q = h c refl x y u v a b k p q
-
-pub once-number : (o : NumberRead) (g : ℕ → ℕ → ℕ → ℕ → Out Point) → ((n at : ℕ) → o ≡ Number n at → Once (g n at)) → Once (λ x y. onNumber o (λ n at. g n at x y))
-unfolding Once onNumber
-once-number (Number n at) g h x y u v a b k p q = h n at refl x y u v a b k p q
-once-number NumberRead.Malformed g h x y u v a b k p q = not-done _ a p
 
 -- the applied entries of a chain without scaling
 pub unscaled : (flag : Bool) (es : List PropertyEntry) → Unscaled flag es → Applied NotIscl flag es

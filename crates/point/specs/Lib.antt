@@ -2,4 +2,4 @@ pub mod Point
 pub mod Seen
 pub mod Read
 pub mod Alike
-pub mod Demand
+pub mod Agreement

@@ -1,5 +1,5 @@
 -- What document 01 reads at an input and a spot ("Point call"). Assumes nothing.
-use mathlib.Core.List.{List, []}
+use mathlib.Core.List.{List}
 use Prim.Native.Nat.{min, ℕ}
 use lib.ListN.{getD, length}
 use Rattle.laws.specs.Out.{Out, done, refused}

@@ -1,6 +1,5 @@
 // A final place looked up through a chain: what the chain leaves of the composed picture, and the place of it that is shown.
 ghost use mathlib.Core.Path.{_≡_};
-ghost use Prim.Native.Nat.{_≤_};
 ghost use Rattle.laws.specs.Out.{andThen};
 ghost use Rattle.props.specs.Chain.{Judged, entriesAt};
 ghost use Rattle.point.specs.Seen.{seenOn, seenOut};

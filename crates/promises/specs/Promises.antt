@@ -1,0 +1,218 @@
+-- What is promised beyond the calls' contracts: each theorem that document 01 or the demands ask for, with the sentence that asks for it.
+-- Assumes nothing.
+use mathlib.Core.Bool.{Bool, false, true}
+use mathlib.Core.List.{List, [], _++_, _∷_}
+use mathlib.Core.Path.{_≡_}
+use Prim.Native.Nat.{_*_, _+_, _-_, _<_, _^_, _≤_, ℕ}
+use lib.Dec.{ltb}
+use lib.IntN.{subℕ, ℤ}
+use lib.ListN.{drop, getD, length, take}
+use Rattle.laws.specs.Out.{Out, done, fitted}
+use Rattle.numbers.specs.Field.{offsetOf}
+use Rattle.numbers.specs.Number.{numberBytes, readNumber}
+use Rattle.numbers.specs.declared.NumberRead.the-variants.{Number}
+use Rattle.image.specs.Bytes.{Bytes, decode, sizeOf}
+use Rattle.image.specs.Format.{columnsOf, hasAlpha, hasPart, rowsOf, topOf}
+use Rattle.image.specs.Picture.{Agree, Pic, pixel}
+use Rattle.image.specs.Record.{recordOf}
+use Rattle.image.specs.Sound.{FormSound}
+use Rattle.image.specs.declared.format.Form.{Form}
+use Rattle.image.specs.declared.format.Part.{Part}
+use Rattle.image.specs.declared.format.Part.the-variants.{Alpha}
+use Rattle.image.specs.declared.record.Frame.{Frame}
+use Rattle.fill.specs.Figure.{AllWithin, figuresOf}
+use Rattle.fill.specs.Fill.{fillOf}
+use Rattle.fill.specs.declared.Colour.{Colour}
+use Rattle.fill.specs.declared.Ycbcr.{Ycbcr}
+use Rattle.derived.specs.Grid.{gridOf}
+use Rattle.derived.specs.declared.grid.GridDescriptor.{GridDescriptor}
+use Rattle.props.specs.Aperture.{ExactRect, resolveOf}
+use Rattle.props.specs.Chain.{foldChain}
+use Rattle.props.specs.Scale.{scaled}
+use Rattle.props.specs.Size.{sizeAfter}
+use Rattle.props.specs.Sound.{SizeSound}
+use Rattle.props.specs.declared.clap.Clap.{Clap}
+use Rattle.props.specs.declared.clap.CropRect.{CropRect}
+use Rattle.props.specs.declared.entry.PropertyEntry.{PropertyEntry}
+use Rattle.props.specs.declared.size.Size.{Size}
+use Rattle.transform.specs.Place.{Place}
+use Rattle.sight.specs.Carry.{Tracked}
+use Rattle.sight.specs.Seen.{Covers}
+use Rattle.sight.specs.declared.Sight.{Sight}
+use Rattle.steps_text.specs.Text.{heading, textOf}
+use Rattle.resample.specs.Area.{area, footOf, weighed}
+use Rattle.resample.specs.Depth.{levelOf, rescaled}
+use Rattle.resample.specs.Nearest.{nearest}
+use Rattle.grid.specs.Mosaic.{among}
+use Rattle.grid.specs.Run.{framesIn, gridRun, tileIn}
+use Rattle.grid.specs.Tiles.{countOf, tilesOf}
+use Rattle.grid.specs.declared.tiles.Tiles.{Tiles}
+use Rattle.overlay.specs.Covered.{AllCut, endsAs, hides, topmost}
+use Rattle.overlay.specs.Overlay.{coversAt, some}
+use Rattle.overlay.specs.Run.{Inputs, composed, fillFor, firstFormat, inputsAt, layersOf}
+use Rattle.session.specs.Sequence.{Call, MadeBy, alphaNumber, blank, callsRun, cellAt, cellIn, drawnAt, drawnPic, firstTile, leftAt, leftBytes, pictureOf, place, sessionRun}
+use Rattle.session.specs.Session.{Drawn as SessionDrawn, blankAt, reservedForm}
+use Rattle.session.specs.State.{stateOk}
+use Rattle.session.specs.declared.state.Canvas.{Canvas}
+use Rattle.scene.specs.Chain.{Drawn}
+use Rattle.scene.specs.Scene.{gridDrawn, gridScene, overlayDrawn, overlayScene}
+use Rattle.point.specs.Agreement.{Agreement, CarriedFrom, CarriedTo, InTray, NoAlpha, NoScaling, Room, canvasHeight, canvasWidth, chainCarries, chainSight, noChain}
+use Rattle.point.specs.Alike.{SameTray}
+use Rattle.point.specs.Point.{gridPoint, overlayPoint}
+use Rattle.point.specs.Read.{gridReads, overlayReads}
+use Rattle.point.specs.declared.Named.{Named}
+use Rattle.point.specs.declared.Point.{Point}
+use Rattle.point.specs.declared.Spot.{Spot}
+use Rattle.cases.specs.Table.{Holds, table}
+use Rattle.capi.specs.Canvas.{canvasOf, wordsOf}
+
+-- ---- demand 3, of a picture run and the point runs, which take a tray and a place; bare are those with the empty chain
+
+pub record Demand (covered : Type 0) (drawn : Out Drawn) (scene : ℕ → ℕ → Out (List ℕ)) (tray : List ℕ) (point : List ℕ → ℕ → ℕ → Out Point) (bare : ℕ → ℕ → Out Point)
+    (sights : ℕ → ℕ → Out Sight) (carries : ℕ → ℕ → Place → Out Tracked) (reads : Named → Part → ℕ) : Type 0 where
+  -- where picture runs are covered: the same refusals, the same final size, every sample of every plane at every place that it covers
+  pub agrees : covered → (output spare : ℕ) → Room drawn output spare → (x y : ℕ) → Agreement reads x y (scene output spare) (point tray x y)
+  -- point runs alike in all but the sample values of their trays give the same answers
+  pub blind : (other : List ℕ) → SameTray tray other → (x y : ℕ) → point other x y ≡ point tray x y
+  -- no two places name one spot of one input
+  pub once : (x y u v : ℕ) (a b : Point) (k : Spot) → point tray x y ≡ done a → point tray u v ≡ done b → a .named ≡ Named.Spot k → b .named ≡ Named.Spot k
+      → (x ≡ u) × (y ≡ v)
+  -- a spot that is named lies in its input
+  pub there : (x y : ℕ) (a : Point) (k : Spot) → point tray x y ≡ done a → a .named ≡ Named.Spot k → InTray tray k
+  -- the rectangle and the turn of an answer are those of the chain on the canvas
+  pub sighted : (x y u v : ℕ) (a b : Point) → point tray x y ≡ done a → bare u v ≡ done b → sights (canvasWidth b) (canvasHeight b) ≡ done (a .sight)
+  -- the entries in turn carry each canvas place to a final place or crop it away; the rectangle is what stays
+  pub stays : (u v : ℕ) (b : Point) (s : Sight) → bare u v ≡ done b → sights (canvasWidth b) (canvasHeight b) ≡ done s
+      → CarriedTo carries (canvasWidth b) (canvasHeight b) (record { x = u; y = v }) s
+  -- a final place names what the canvas place that is carried there names
+  pub through : (x y : ℕ) (a : Point) → point tray x y ≡ done a → CarriedFrom carries bare a x y
+
+-- of grids; body and tray are bytes, as what is lent to a call is
+unfoldable pub GridDemand : List ℕ → List ℕ → List ℕ → Bool → Type 0
+GridDemand body tray chain essentialOnly =
+    Bytes body → Bytes tray
+    → Demand (NoScaling chain essentialOnly) (gridDrawn body tray chain essentialOnly) (gridScene body tray chain essentialOnly) tray
+    (λ t. gridPoint body t chain essentialOnly) (gridPoint body tray noChain essentialOnly)
+    (chainSight chain essentialOnly) (chainCarries chain essentialOnly) (gridReads tray)
+
+-- of overlays; picture runs are covered where inputs have no alpha
+unfoldable pub OverlayDemand : List ℕ → List ℕ → List ℕ → Bool → List ℕ → Colour → Type 0
+OverlayDemand body tray chain essentialOnly premultiplied colour =
+    Bytes body → Bytes tray
+    → Demand (NoScaling chain essentialOnly × NoAlpha tray) (overlayDrawn body tray chain essentialOnly premultiplied colour) (overlayScene body tray chain essentialOnly premultiplied colour) tray
+    (λ t. overlayPoint body t chain essentialOnly premultiplied) (overlayPoint body tray noChain essentialOnly premultiplied)
+    (chainSight chain essentialOnly) (chainCarries chain essentialOnly) (overlayReads body tray colour)
+
+-- ---- the promises
+
+pub record Promises : Type 0 where
+  -- ---- "What is handed in"
+
+  -- "A house number is 1 to 5 bytes of seven bits each, lowest group first": what is written for a number is read back as that number,
+  -- whatever stands before and after
+  pub houseNumberReadBack : (before rest : List ℕ) (n : ℕ) → n < 2 ^ 32 → readNumber (before ++ (numberBytes n ++ rest)) (length before) ≡ Number n (length before + length (numberBytes n))
+  -- "It is below 2^32, in shortest form": the bytes that a number is read from are those that are written for it
+  pub houseNumberShortest : (s : List ℕ) (at v next : ℕ) → Bytes s → readNumber s at ≡ Number v next → take (next - at) (drop at s) ≡ numberBytes v
+  -- "32-bit sizes and offsets": an offset that is answered as two numbers, how far ahead and how far behind, is their difference
+  pub offsetSplit : (z : ℤ) → subℕ (offsetOf z .ahead) (offsetOf z .behind) ≡ z
+  -- ---- "clap", "iscl", and sizes along a chain
+
+  -- "Size is n / d; edge is ((input − size) × offset d + 2 × offset n) / (2 × offset d)": a rectangle is taken just where both are exact
+  -- along each axis and it lies in the input
+  pub clapTaken : (c : Clap) (width height : ℕ) (r : CropRect) → resolveOf c width height ≡ done r → ExactRect c width height r
+  pub clapExact : (c : Clap) (width height : ℕ) (r : CropRect) → 0 < c .«width_d» → 0 < c .«horiz_off_d» → 0 < c .«height_d» → 0 < c .«vert_off_d» → ExactRect c width height r
+      → resolveOf c width height ≡ done r
+  -- "size × n / d rounded up": the least whole number that is not below it
+  pub isclCovers : (side num den : ℕ) → 0 < den → side * num ≤ scaled side num den * den
+  pub isclLeast : (side num den m : ℕ) → 0 < den → side * num ≤ m * den → scaled side num den ≤ m
+  -- "Limit L is 2^30 pixels": no chain makes a picture above it, or one without columns or rows
+  pub chainWithin : (essentialOnly : Bool) (es : List PropertyEntry) (z y : Size) → SizeSound z → foldChain sizeAfter essentialOnly es z ≡ done y → SizeSound y
+  -- ---- "Steps program"
+
+  -- "Input 6 4 2 2 1 1 3 0 1 (decimal bytes) gives, whole": the heading, then "0 2 4 6" and "1 3 4 6", a line each
+  pub stepsExample : textOf (6 ∷ 4 ∷ 2 ∷ 2 ∷ 1 ∷ 1 ∷ 3 ∷ 0 ∷ 1 ∷ [])
+      ≡ heading ++ (48 ∷ 32 ∷ 50 ∷ 32 ∷ 52 ∷ 32 ∷ 54 ∷ 10 ∷ 49 ∷ 32 ∷ 51 ∷ 32 ∷ 52 ∷ 32 ∷ 54 ∷ 10 ∷ [])
+  -- "prints the heading below, then for each entry": the program reads at most 16,384 bytes and has room for as many; an input's text is
+  -- that of its first 12,816 bytes, and every text fits
+  pub stepsPrefix : (n : ℕ) (s : List ℕ) → 12816 ≤ n → textOf (take n s) ≡ textOf s
+  pub stepsFit : (s : List ℕ) → fitted 16384 (textOf s) ≡ done (textOf s)
+  -- ---- "iscl", "Other operations"
+
+  -- "then `resize_area`": a sample is a mean. The weights of its footprint sum to the length that the sum is divided by, and a plane of
+  -- one value keeps it
+  pub areaWeights : (from to k : ℕ) → 1 ≤ from → k < to → weighed (footOf from to k) (λ j. 1) ≡ footOf from to k .end - footOf from to k .start
+  pub areaConstant : (P : Pic) (w h c : ℕ) (p : Part) → FormSound (P .form) → ((x y : ℕ) → x < columnsOf (P .form) p → y < rowsOf (P .form) p → P .at p x y ≡ c)
+      → (x y : ℕ) → x < columnsOf (area P w h .form) p → y < rowsOf (area P w h .form) p → area P w h .at p x y ≡ c
+  -- "an unchanged size hands back the record", which shows what the mean would; so of the nearest sample, and of an unchanged depth
+  pub areaUnchanged : (P : Pic) → FormSound (P .form) → Agree (area P (P .form .width) (P .form .height)) P
+  pub nearestUnchanged : (P : Pic) → FormSound (P .form) → Agree (nearest P (P .form .width) (P .form .height)) P
+  pub depthUnchanged : (P : Pic) → Agree (rescaled P (P .form .format .depth)) P
+  -- "`rescale_depth`": 0 stays 0, top becomes top, a lighter sample stays no darker
+  pub depthZero : (old new : ℕ) → 8 ≤ old → old ≤ 16 → levelOf old new 0 ≡ 0
+  pub depthTop : (old new : ℕ) → 8 ≤ old → old ≤ 16 → levelOf old new (2 ^ old - 1) ≡ 2 ^ new - 1
+  pub depthRises : (old new : ℕ) → 8 ≤ old → old ≤ 16 → (v w : ℕ) → v ≤ w → levelOf old new v ≤ levelOf old new w
+  -- ---- "Fill"
+
+  -- "(`fill_to_ycbcr`, H.273)": every sample is less than one step from H.273's exact figure, held to 0 and top
+  pub fillFigures : (red green blue depth : ℕ) (colour : Colour) (s : Ycbcr) → red ≤ 65535 → green ≤ 65535 → blue ≤ 65535 → fillOf red green blue depth colour ≡ done s
+      → AllWithin s (2 ^ depth - 1) (figuresOf red green blue depth colour)
+  -- ---- "Overlay"
+
+  -- "A place that no input covers holds fill and fill alpha exactly"
+  pub overlayUncovered : (body tray list : List ℕ) (colour : Colour) (n at : ℕ) (q : Inputs) → Bytes body → inputsAt body tray list n at ≡ done q → (x y : ℕ)
+      → some (λ l. coversAt l x y) (layersOf body tray list (q .descriptor) 0 (q .frames)) ≡ false → (p : Part)
+      → pixel (composed body tray list colour q) p x y ≡ fillFor (q .descriptor .«canvas_fill») (firstFormat (q .frames) .depth) colour p
+  -- "one whose covering inputs all have alpha top or straight alpha 0 there ends as the topmost at top, capped at top, with alpha top, or
+  -- as the fill where there is none"
+  pub overlaySettled : (body tray list : List ℕ) (colour : Colour) (n at : ℕ) (q : Inputs) → Bytes body → inputsAt body tray list n at ≡ done q → (x y : ℕ)
+      → (let ls = layersOf body tray list (q .descriptor) 0 (q .frames) in
+      let top = topOf (firstFormat (q .frames)) in
+      AllCut top x y ls → (p : Part)
+      → pixel (composed body tray list colour q) p x y
+      ≡ endsAs top (fillFor (q .descriptor .«canvas_fill») (firstFormat (q .frames) .depth) colour) p x y (topmost (hides top x y) ls))
+  -- ---- "Canvas session"
+
+  -- all cells placed, in any order and as often as one likes, each with a record that shows the tile of its index, and finished: what
+  -- `composite_grid` comes to over body and tray
+  pub sessionComposes : (body tray : List ℕ) (t : Tiles) → Bytes body → tilesOf body tray ≡ done t → (R : ℕ → List ℕ) (F : ℕ → Frame)
+      → ((i : ℕ) → i < countOf (t .desc) → recordOf (R i) ≡ done (F i))
+      → ((i : ℕ) → i < countOf (t .desc) → Agree (decode (R i) (F i)) (tileIn tray (framesIn tray t) i))
+      → (js : List ℕ) → ((i : ℕ) → among i js ≡ ltb i (countOf (t .desc))) → (d : List ℕ) → sizeOf (reservedForm (t .desc) (t .tile)) ≤ length d
+      → sessionRun body R js d ≡ gridRun body tray (length d)
+  -- "It lends one buffer holding, from the first accepted place, the tight canvas record with an alpha plane reserved behind it. Its alpha
+  -- number turns 1 at the first tile with alpha; past that plane nothing is written. Unplaced cells are 0": after start and accepted
+  -- calls, of which the last is the head of the list
+  pub sessionLeaves : (body d : List ℕ) (g : GridDescriptor) (c : Call) (cs : List Call) (x : SessionDrawn) → gridOf body ≡ done g → callsRun body (c ∷ cs) d ≡ done x
+      → (x .buffer ≡ leftBytes g (firstTile c cs) (c ∷ cs) ++ drop (sizeOf (reservedForm g (firstTile c cs))) d)
+      × (x .canvas .desc ≡ g) × (x .canvas .tile ≡ firstTile c cs) × (x .canvas .alpha ≡ alphaNumber (c ∷ cs))
+  -- "Placing a cell again overwrites it, but a tile without alpha leaves the alpha there"; a call for another cell leaves it as it was
+  pub sessionPlaces : (g : GridDescriptor) (t : Form) (cs : List Call) (x y i : ℕ) (bytes : List ℕ) (p : Part) → i ≡ cellAt g t p x y
+      → hasPart (drawnPic g t (place i bytes) .form .format) p ≡ true → leftAt g t (place i bytes ∷ cs) p x y ≡ drawnAt g t (place i bytes) p x y
+  pub sessionKeepsAlpha : (g : GridDescriptor) (t : Form) (cs : List Call) (x y i : ℕ) (bytes : List ℕ) → hasAlpha (pictureOf t (place i bytes) .form .format) ≡ false
+      → leftAt g t (place i bytes ∷ cs) Alpha x y ≡ leftAt g t cs Alpha x y
+  pub sessionOtherCell : (g : GridDescriptor) (t : Form) (cs : List Call) (x y : ℕ) (c : Call) (p : Part) → (cellIn c ≡ cellAt g t p x y → ⊥)
+      → leftAt g t (c ∷ cs) p x y ≡ leftAt g t cs p x y
+  -- "A blank cell has the first tile's form: 2^(depth−1) in each colour plane, alpha top if that tile had alpha, else the alpha there is
+  -- left": before any tile with alpha that is top
+  pub sessionBlanks : (g : GridDescriptor) (t : Form) (cs : List Call) (x y i : ℕ) (p : Part) → i ≡ cellAt g t p x y → hasPart (t .format) p ≡ true
+      → leftAt g t (blank i ∷ cs) p x y ≡ blankAt (t .format) p
+  pub sessionBlankAlpha : (g : GridDescriptor) (t : Form) (cs : List Call) (x y i : ℕ) → hasAlpha (t .format) ≡ false → leftAt g t (blank i ∷ cs) Alpha x y ≡ leftAt g t cs Alpha x y
+  pub sessionBlankFirst : (g : GridDescriptor) (c : Call) (cs : List Call) (i x y : ℕ) → alphaNumber (c ∷ cs) ≡ 0
+      → leftAt g (firstTile c cs) (blank i ∷ (c ∷ cs)) Alpha x y ≡ topOf (firstTile c cs .format)
+  -- "A mark for each of 65,536 cells": the states that are taken, of 1,024 words of marks, are those that start and calls come to
+  pub statesTaken : (s : Canvas) → MadeBy s → (stateOk s ≡ true) × (length (s .marks) ≡ 1024) × ((i : ℕ) → getD (s .marks) i 0 < 2 ^ 64)
+  pub statesMade : (s : Canvas) → stateOk s ≡ true → length (s .marks) ≡ 1024 → ((i : ℕ) → getD (s .marks) i 0 < 2 ^ 64) → MadeBy s
+  -- a state is read back from its words, and no word above 32 bits is read as a state that calls can have made
+  pub stateReadBack : (s : Canvas) (rest : List ℕ) → stateOk s ≡ true → length (s .marks) ≡ 1024 → canvasOf (wordsOf s ++ rest) ≡ s
+  pub stateSmall : (ws : List ℕ) → stateOk (canvasOf ws) ≡ true → (i : ℕ) → i < 10 → getD ws i 0 < 2 ^ 32
+  -- ---- "Cases"
+
+  -- "Starred cases make one table with one proved statement"
+  pub cases : Holds table
+  -- ---- "Point call" and demand 3
+
+  pub gridDemand : (body tray chain : List ℕ) (essentialOnly : Bool) → GridDemand body tray chain essentialOnly
+  pub overlayDemand : (body tray chain : List ℕ) (essentialOnly : Bool) (premultiplied : List ℕ) (colour : Colour) → OverlayDemand body tray chain essentialOnly premultiplied colour
+  -- "equals at every place it covers": every sample of a plane covers a place of the picture
+  pub sampleCovers : (m : Form) (p : Part) (cx cy : ℕ) → cx < columnsOf m p → cy < rowsOf m p
+      → (x : ℕ) × (y : ℕ) × (x < m .width) × (y < m .height) × Covers (m .format) p cx cy x y
