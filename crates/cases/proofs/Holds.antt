@@ -37,9 +37,9 @@ use Rattle.overlay.specs.Overlay.{allLaid, alphaOf, base, covers, coversAt, gro
 use Rattle.overlay.specs.Run.{alphaAbove, composed, composedForm, fillFor, fillPart, firstForm, inputsAt, layerOf, layersOf, otherDepth, someBelow}
 use Rattle.scene.specs.Chain.{begun, chainDrawn, drawnAfter, longer}
 use Rattle.scene.specs.Scene.{gridDrawn, gridScene, overlayDrawn, overlayScene, roomFor}
-use Rattle.point.specs.Point.{gridNames, gridPoint, pointOn}
+use Rattle.point.specs.Point.{gridLook, gridNames, gridPoint, lookOn, pointFrom}
 use Rattle.cases.specs.Table.{Holds, areaRow, body, clapEdge, depth8, gives, irot1, isclWidth, joined, mono, noEntry, overBlack, spotIn, spotOf, table, tiles}
 
 pub table-holds : Holds table
-unfolding add div mul ofInt round sub andThen fitted refuse pick run span bigEndian fieldAt offsetOf onField signedOf groups lastByte numberBytes onNumber readFrom readNumber dataOf decode encode headBytes planeBytes planeHead rowBytes rowsBytes sampleAt sampleBytes sampleIn samplesOf bytesOf columnsOf cover formOf formatOf halved halvesX halvesY hasAlpha hasPart isMono middleOf rowSize rowsOf sideOf topOf ensure full needs444 odd pixel sized headAt headOf partAt past planeAt planeOf planesAt recordAt recordOf framesAt fillAlphaOf fullOf lumaOf nclxOf partOf tableOf weightedOf weightsOf ycbcrOf wholeOf canvasAt fieldBytes startOf gridAt gridOf fillAt horizontalAt inputsOf offsetPlace overlayOf placementAt signedAt verticalAt axisOf edgeOf resolveOf applies chainAt countAt entriesAt foldChain byteAt entryAt irotAt propertyAt changed scaleOf scaled withinOf sideways swaps unturn fromBottom fromRight lopsided quarterOf turn turned picAfter back backFrom exchange finalHeight finalWidth highOf placeOf sightAfter sightOf thenTurn whole wideOf area areaMean aroundOf firstOf footOf pastOf shareOf sum weighed weightOf levelOf rescaled toDepth topAt sameSize greatest least rounded areaBytes depthBytes depthRun isclRun tileForm tilePic gridPic mosaicAt opaqueAt tileIndex framesIn gridOn takenOf tileIn alikeFrom canvasForm countOf coversOf judgeOf promotesOf sameLayout gridSameSize tilesAt withAlpha allLaid alphaOf base covers coversAt ground laid laidAt oddAcross oddDown oddOffset otherChroma overlayForm overlayPic paint placeAt promotes sampleOf seeThrough settle settled some spotAt veil alphaAbove composed composedForm fillFor fillPart firstForm inputsAt layerOf layersOf otherDepth someBelow begun chainDrawn drawnAfter longer gridDrawn gridScene overlayDrawn overlayScene roomFor gridNames gridPoint pointOn areaRow body clapEdge depth8 gives irot1 isclWidth joined mono noEntry overBlack spotIn spotOf table tiles
+unfolding add div mul ofInt round sub andThen fitted refuse pick run span bigEndian fieldAt offsetOf onField signedOf groups lastByte numberBytes onNumber readFrom readNumber dataOf decode encode headBytes planeBytes planeHead rowBytes rowsBytes sampleAt sampleBytes sampleIn samplesOf bytesOf columnsOf cover formOf formatOf halved halvesX halvesY hasAlpha hasPart isMono middleOf rowSize rowsOf sideOf topOf ensure full needs444 odd pixel sized headAt headOf partAt past planeAt planeOf planesAt recordAt recordOf framesAt fillAlphaOf fullOf lumaOf nclxOf partOf tableOf weightedOf weightsOf ycbcrOf wholeOf canvasAt fieldBytes startOf gridAt gridOf fillAt horizontalAt inputsOf offsetPlace overlayOf placementAt signedAt verticalAt axisOf edgeOf resolveOf applies chainAt countAt entriesAt foldChain byteAt entryAt irotAt propertyAt changed scaleOf scaled withinOf sideways swaps unturn fromBottom fromRight lopsided quarterOf turn turned picAfter back backFrom exchange finalHeight finalWidth highOf placeOf sightAfter sightOf thenTurn whole wideOf area areaMean aroundOf firstOf footOf pastOf shareOf sum weighed weightOf levelOf rescaled toDepth topAt sameSize greatest least rounded areaBytes depthBytes depthRun isclRun tileForm tilePic gridPic mosaicAt opaqueAt tileIndex framesIn gridOn takenOf tileIn alikeFrom canvasForm countOf coversOf judgeOf promotesOf sameLayout gridSameSize tilesAt withAlpha allLaid alphaOf base covers coversAt ground laid laidAt oddAcross oddDown oddOffset otherChroma overlayForm overlayPic paint placeAt promotes sampleOf seeThrough settle settled some spotAt veil alphaAbove composed composedForm fillFor fillPart firstForm inputsAt layerOf layersOf otherDepth someBelow begun chainDrawn drawnAfter longer gridDrawn gridScene overlayDrawn overlayScene roomFor gridLook gridNames gridPoint lookOn pointFrom areaRow body clapEdge depth8 gives irot1 isclWidth joined mono noEntry overBlack spotIn spotOf table tiles
 table-holds = refl

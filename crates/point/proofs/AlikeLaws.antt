@@ -1,5 +1,4 @@
 -- Trays alike in all but their sample values are read alike, and the point calls answer alike on them: a law for each reader.
--- Assumes nothing.
 use mathlib.Core.Bool.{Bool, not}
 use mathlib.Core.List.{List, [], _∷_}
 use mathlib.Core.Path.{_∙_, _≡_, ap, refl, sym}
@@ -31,7 +30,9 @@ use Rattle.grid.specs.Tiles.{countOf, judgeOf, tilesAt}
 use Rattle.overlay.specs.Overlay.{some}
 use Rattle.overlay.specs.Run.{firstFormat, inputsAt, otherDepth}
 use Rattle.point.specs.Alike.{SameBytes, SameHead, SameNumber, SameParts, SameRecords, SameTray}
-use Rattle.point.specs.Point.{gridNames, gridPoint, overlayNames, overlayPoint, pointOn, seeThroughFrame}
+use Rattle.point.specs.Point.{Look, gridLook, gridNames, gridPoint, lookOn, overlayLook, overlayNames, overlayPoint, pointFrom, seeThroughFrame}
+
+-- Assumes nothing.
 
 -- ---- runs step by step, of two that read the same
 
@@ -260,19 +261,27 @@ same-frames s t h n at e = records-same s t (h .long) n at (same-number s t (h .
 
 -- ---- the point calls
 
-pub grid-blind : (body s t chain : List ℕ) (flag : Bool) (x y : ℕ) → SameTray s t → gridPoint body t chain flag x y ≡ gridPoint body s chain flag x y
-unfolding gridPoint tilesAt
-grid-blind body s t chain flag x y h =
+grid-looks : (body s t chain : List ℕ) (flag : Bool) → SameTray s t → gridLook body t chain flag ≡ gridLook body s chain flag
+unfolding gridLook tilesAt
+grid-looks body s t chain flag h =
     sym (on-same _ _ _ _ (same-count s t h) (λ n at e.
-    ap (λ (o : Out (List Frame)). andThen (chainAt chain 0) (λ es. andThen (andThen (gridOf body) (λ g. refuse (not (eqb n (countOf g))) 11 (andThen o (judgeOf g at)))) (λ k. pointOn es flag (k .desc .«output_width») (k .desc .«output_height») x y (gridNames k))))
+    ap (λ (o : Out (List Frame)). andThen (chainAt chain 0) (λ es. andThen (andThen (gridOf body) (λ g. refuse (not (eqb n (countOf g))) 11 (andThen o (judgeOf g at)))) (λ k. lookOn es flag (k .desc .«output_width») (k .desc .«output_height») (gridNames k))))
     (same-frames s t h n at e)))
 
-pub overlay-blind : (body s t chain : List ℕ) (flag : Bool) (list : List ℕ) (x y : ℕ) → SameTray s t → overlayPoint body t chain flag list x y ≡ overlayPoint body s chain flag list x y
-unfolding overlayPoint inputsAt
-overlay-blind body s t chain flag list x y h =
+pub grid-blind : (body s t chain : List ℕ) (flag : Bool) (x y : ℕ) → SameTray s t → gridPoint body t chain flag x y ≡ gridPoint body s chain flag x y
+unfolding gridPoint
+grid-blind body s t chain flag x y h = ap (λ (o : Out Look). andThen o (λ k. pointFrom k x y)) (grid-looks body s t chain flag h)
+
+overlay-looks : (body s t chain : List ℕ) (flag : Bool) (list : List ℕ) → SameTray s t → overlayLook body t chain flag list ≡ overlayLook body s chain flag list
+unfolding overlayLook inputsAt
+overlay-looks body s t chain flag list h =
     sym (on-same _ _ _ _ (same-count s t h) (λ n at e.
     ap (λ (o : Out (List Frame)).
     andThen (chainAt chain 0) (λ es.
     andThen (andThen (overlayOf body n) (λ d. refuse (eqb n 0) 15 (refuse (not (eqb (length list) n)) 11 (andThen o (λ frs. refuse (some (otherDepth (firstFormat frs)) frs) 14 (done (record { descriptor = d; frames = frs })))))))
-    (λ q. refuse (some seeThroughFrame (q .frames)) 18 (pointOn es flag (q .descriptor .«output_width») (q .descriptor .«output_height») x y (overlayNames body q)))))
+    (λ q. refuse (some seeThroughFrame (q .frames)) 18 (lookOn es flag (q .descriptor .«output_width») (q .descriptor .«output_height») (overlayNames body q)))))
     (same-frames s t h n at e)))
+
+pub overlay-blind : (body s t chain : List ℕ) (flag : Bool) (list : List ℕ) (x y : ℕ) → SameTray s t → overlayPoint body t chain flag list x y ≡ overlayPoint body s chain flag list x y
+unfolding overlayPoint
+overlay-blind body s t chain flag list x y h = ap (λ (o : Out Look). andThen o (λ k. pointFrom k x y)) (overlay-looks body s t chain flag list h)

@@ -36,8 +36,9 @@ use Rattle.sight.specs.Sight.{back, backFrom, exchange, finalHeight, finalWidth
 use Rattle.sight.specs.declared.Sight.{Sight}
 use Rattle.scene.specs.Chain.{Drawn, begun, chainDrawn, drawnAfter, longer, scaled}
 use Rattle.scene.specs.Scene.{roomFor}
+use Rattle.point.proofs.Halves.{pointOn}
 use Rattle.point.specs.Agreement.{Agreement, CarriedFrom, CarriedTo, Pictured, Room, Shown, canvasHeight, canvasWidth, inside, outside}
-use Rattle.point.specs.Point.{pointOn}
+use Rattle.point.specs.Point.{pointFrom}
 use Rattle.point.specs.declared.Named.{Named}
 use Rattle.point.specs.declared.Point.{Point}
 use Rattle.point.specs.declared.Spot.{Spot}
@@ -167,7 +168,7 @@ module _ (P : Pic) (even : Even (P .form)) (wide : 1 ≤ P .form .width) (tall :
       → ((p : Part) → hasPart (P .form .format) p ≡ true → (l : Place) → l .x < P .form .width → l .y < P .form .height → pixel P p (l .x) (l .y) ≡ reads (names l) p)
       → Holds (λ (d : Drawn). ReadsBack (d .pic)) (chainDrawn es flag P) → (x y output spare : ℕ) → Room (chainDrawn es flag P) output spare
       → Agreement reads x y (andThen (chainDrawn es flag P) (roomFor output spare)) (pointOn es flag (P .form .width) (P .form .height) x y names)
-  unfolding pointOn
+  unfolding pointOn pointFrom
   chain-agrees reads there kept x y output spare m = at-sight reads P names there x y _ _ (same-holds _ _ _ _ kept drawn-seen) output spare m
 
 -- ---- the empty chain
@@ -190,7 +191,7 @@ unfolding sightOf foldChain
 whole-sight flag w h s e = done-same _ s e
 
 bare-point : (flag : Bool) (w h u v : ℕ) (names : Place → Named) → u < w → v < h → pointOn [] flag w h u v names ≡ done (record { named = names (record { x = u; y = v }); sight = whole w h })
-unfolding pointOn sightOf foldChain andThen
+unfolding pointOn pointFrom sightOf foldChain andThen
 bare-point flag w h u v names l m = then-done _ (whole-place w h u v l m)
 
 -- ---- point runs: a chain on a canvas w by h, whose places have names
@@ -212,7 +213,7 @@ module _ (w h : ℕ) (wide : 1 ≤ w) (tall : 1 ≤ h) (es : List PropertyEntry)
     named : names (back (a .sight) x y) ≡ a .named
 
   answered : (x y : ℕ) (a : Point) → pointed x y ≡ done a → Answered x y a
-  unfolding pointOn placeOf
+  unfolding pointOn pointFrom placeOf
   answered x y a e =
       let i = andThen-done _ _ a e in
       let j = andThen-done _ _ a (i .2) in
@@ -250,7 +251,7 @@ module _ (w h : ℕ) (wide : 1 ≤ w) (tall : 1 ≤ h) (es : List PropertyEntry)
     row : v < h
 
   canvas : (u v : ℕ) (b : Point) → bare u v ≡ done b → Canvas u v b
-  unfolding pointOn placeOf
+  unfolding pointOn pointFrom placeOf
   canvas u v b e =
       let i = andThen-done _ _ b e in
       let j = andThen-done _ _ b (i .2) in

@@ -1,4 +1,5 @@
 pub mod PointLaws
+pub mod Halves
 pub mod AlikeLaws
 pub mod Chained
 pub mod GridShown

@@ -1,4 +1,4 @@
--- Laws of the point calls: a run step by step, and what holds of a place that was found. Assumes nothing.
+-- Laws of the point calls: everything before the place step by step, and what holds of a place that was found. Assumes nothing.
 use mathlib.Core.Bool.{Bool, _&&_, _||_, false, not, true}
 use mathlib.Core.List.{List, [], _∷_}
 use mathlib.Core.Path.{_∙_, _≡_, ap, ap₂, refl, sym}
@@ -28,9 +28,9 @@ use Rattle.props.specs.Sound.{Inside}
 use Rattle.props.specs.declared.chain.Chain.{Chain}
 use Rattle.props.specs.declared.entry.PropertyEntry.{PropertyEntry}
 use Rattle.transform.specs.Place.{Place}
-use Rattle.sight.proofs.Steps.{sight-bounded, sight-inside}
+use Rattle.sight.proofs.Steps.{bounded-place, sight-bounded, sight-inside}
 use Rattle.sight.proofs.Turns.{back-in}
-use Rattle.sight.specs.Sight.{Bounded, back, placeOf, sightOf}
+use Rattle.sight.specs.Sight.{Bounded, back, boundedPlaceOf, placeOf, sightOf}
 use Rattle.sight.specs.declared.CanvasPlace.{CanvasPlace}
 use Rattle.sight.specs.declared.Sight.{Sight}
 use Rattle.grid.proofs.GridLaws.{tiles-taken}
@@ -43,78 +43,50 @@ use Rattle.overlay.specs.Plan.{planAt, planOf}
 use Rattle.overlay.specs.Run.{Inputs, inputsAt, layerOf, layersOf}
 use Rattle.overlay.specs.declared.inputs.Plan.{Plan}
 use Rattle.point.proofs.GridShown.{canvas-sides}
-use Rattle.point.specs.Point.{gridNames, gridPoint, liesOver, overlayNames, overlayPoint, pointOn, seeThroughFrame, spotUnder, topmostFrom}
-use Rattle.point.specs.Seen.{Tiled, placeIn, seenOn}
+use Rattle.point.specs.Look.{GridHeld, Tiled, gridHeld, gridLooked, overlayHeld, overlayLooked, placeIn}
+use Rattle.point.specs.Point.{Look, gridLook, gridNames, liesOver, lookOn, overlayLook, overlayNames, pointFrom, seeThroughFrame, spotUnder, topmostFrom}
 use Rattle.point.specs.declared.Named.{Named}
-use Rattle.point.specs.declared.Point.{Point}
-use Rattle.point.specs.declared.look.Seen.{Seen}
+use Rattle.point.specs.declared.look.GridLook.{GridLook}
+use Rattle.point.specs.declared.look.GridLookRead.{GridLookRead}
+use Rattle.point.specs.declared.look.OverlayLook.{OverlayLook}
+use Rattle.point.specs.declared.look.OverlayLookRead.{OverlayLookRead}
 
--- ---- a place through a chain
+-- ---- the place
 
-abbrev pub namedAs : (Place → Named) → Sight → Place → Point
-namedAs names s l = record { named = names l; sight = s }
+module _ (k : Look) (x y : ℕ) (b : Bounded (k .sight .area)) where
+  pub point-refused : (r : Refusal) → boundedPlaceOf (k .sight) x y ≡ refused r → refused r ≡ pointFrom k x y
+  unfolding pointFrom
+  point-refused r e = sym (then-refused _ (sym (bounded-place (k .sight) x y b) ∙ e))
 
-abbrev pub seenAs : Sight → Place → Seen
-seenAs s l = record { sight = s; place = record { x = l .x; y = l .y } }
+  pub point-done : (l : CanvasPlace) (m : Named) → boundedPlaceOf (k .sight) x y ≡ done (placeIn l) → m ≡ k .names (placeIn l) → done (record { named = m; sight = k .sight }) ≡ pointFrom k x y
+  unfolding pointFrom
+  point-done l m e p = ap (λ (u : Named). done (record { named = u; sight = k .sight })) p ∙ sym (then-done _ (sym (bounded-place (k .sight) x y b) ∙ e))
 
-abbrev pub answered : (Place → Named) → Seen → Point
-answered names k = record { named = names (placeIn (k .place)); sight = k .sight }
+-- the tiles cover it
+pub held-tiled : (k : GridLook) (x y : ℕ) (l : CanvasPlace) → GridHeld k → boundedPlaceOf (k .sight) x y ≡ done (placeIn l) → Tiled (k .tiles) l
+unfolding placeOf
+held-tiled k x y l h e =
+    let c = refuse-done _ _ _ (placeIn l) (sym (bounded-place (k .sight) x y (h .bounded)) ∙ e) in
+    let d = refuse-done _ _ _ (placeIn l) (c .1) in
+    let u = back-in (k .sight) _ _ (h .inside) x y (leb-false _ _ (c .0)) (leb-false _ _ (d .0)) in
+    let p : back (k .sight) x y ≡ placeIn l = done-same _ _ (d .1) in
+    record {
+      wide = h .wide;
+      tall = h .tall;
+      columns = h .columns;
+      rows = h .rows;
+      across = omega (arith, u .0, h .coverX, ap (λ (v : Place). v .x) p);
+      down = omega (arith, u .1, h .coverY, ap (λ (v : Place). v .y) p);
+    }
 
-pub point-seen : (es : List PropertyEntry) (flag : Bool) (w h x y : ℕ) (names : Place → Named) → pointOn es flag w h x y names ≡ andThen (seenOn es flag w h x y) (λ k. done (answered names k))
-unfolding pointOn seenOn andThen
-point-seen es flag w h x y names = go (sightOf es flag w h)
-  where
-    at : (s : Sight) (o : Out Place) → andThen o (λ l. done (namedAs names s l)) ≡ andThen (andThen o (λ l. done (seenAs s l))) (λ k. done (answered names k))
-    at s (refused r) = refl
-    at s (done l) = refl
+-- what holds of a look that was answered
+pub grid-held : (r : GridLookRead) (k : GridLook) → r ≡ GridLookRead.Look k → gridHeld r → GridHeld k
+unfolding gridHeld
+grid-held r k e h = rw e at h
 
-    go : (o : Out Sight) → andThen o (λ s. andThen (placeOf s x y) (λ l. done (namedAs names s l))) ≡ andThen (andThen o (λ s. andThen (placeOf s x y) (λ l. done (seenAs s l)))) (λ k. done (answered names k))
-    go (refused r) = refl
-    go (done s) = at s (placeOf s x y)
-
--- it lies in the composed picture
-pub seen-in : (es : List PropertyEntry) (flag : Bool) (w h x y : ℕ) (k : Seen) → 1 ≤ w → 1 ≤ h → seenOn es flag w h x y ≡ done k → (k .place .x < w) × (k .place .y < h)
-unfolding seenOn placeOf
-seen-in es flag w h x y k i j e =
-    let a = andThen-done _ _ k e in
-    let b = andThen-done _ _ k (a .2) in
-    let c = refuse-done _ _ _ (b .0) (b .1) in
-    let d = refuse-done _ _ _ (b .0) (c .1) in
-    let s = holds-done (λ z. Inside (z .area) w h) _ (a .0) (sight-inside es flag w h i j) (a .1) in
-    let l = back-in (a .0) w h s x y (leb-false _ _ (c .0)) (leb-false _ _ (d .0)) in
-    let p : back (a .0) x y ≡ b .0 = done-same _ _ (d .1) in
-    let q = done-same _ k (b .2) in
-    (omega (arith, l .0, ap (λ (u : Place). u .x) p, ap (λ (u : Seen). u .place .x) q), omega (arith, l .1, ap (λ (u : Place). u .y) p, ap (λ (u : Seen). u .place .y) q))
-
--- the steps of looking it up
-module _ (s : List ℕ) (c : Chain) (k : Judged s c) (flag : Bool) (w h x y : ℕ) where
-  abbrev seen : Out Seen
-  seen = andThen (entriesAt (c .count) s (c .first)) (λ es. seenOn es flag w h x y)
-
-  abbrev sights : Out Sight
-  sights = andThen (entriesAt (c .count) s (c .first)) (λ es. sightOf es flag w h)
-
-  seen-entries : seen ≡ seenOn (k .entries) flag w h x y
-  seen-entries = then-done _ (k .read)
-
-  sight-entries : sightOf (k .entries) flag w h ≡ sights
-  sight-entries = sym (then-done _ (k .read))
-
-  pub look-refused : (r : Refusal) → sights ≡ refused r → refused r ≡ seen
-  unfolding seenOn
-  look-refused r e = sym (seen-entries ∙ then-refused _ (sight-entries ∙ e))
-
-  module _ (z : Sight) (e : sights ≡ done z) where
-    pub look-bounded : w < 2 ^ 32 → h < 2 ^ 32 → Bounded (z .area)
-    look-bounded i j = holds-done (λ u. Bounded (u .area)) _ z (sight-bounded (k .entries) flag w h i j) (sight-entries ∙ e)
-
-    pub look-outside : (r : Refusal) → placeOf z x y ≡ refused r → refused r ≡ seen
-    unfolding seenOn
-    look-outside r p = sym (seen-entries ∙ then-done _ (sight-entries ∙ e) ∙ then-refused _ p)
-
-    pub look-done : (l : CanvasPlace) → placeOf z x y ≡ done (placeIn l) → done (record { sight = z; place = l }) ≡ seen
-    unfolding seenOn
-    look-done l p = sym (seen-entries ∙ then-done _ (sight-entries ∙ e) ∙ then-done _ p)
+pub overlay-held : (body : List ℕ) (r : OverlayLookRead) (k : OverlayLook) → r ≡ OverlayLookRead.Look k → overlayHeld body r → OverlaySound body (k .descriptor) × Bounded (k .sight .area)
+unfolding overlayHeld
+overlay-held body r k e h = rw e at h
 
 -- ---- the tile that covers a place
 
@@ -178,58 +150,82 @@ module _ (body tray : List ℕ) (d : OverlayDescriptor) (l : Place) (i at : ℕ)
   unfolding topmostFrom framesFrom
   top-none h = let z : d .count - i ≡ 0 = omega arith in rw z
 
--- ---- the grid's point, step by step
+-- ---- the grid's look, step by step
 
-module _ (body tray chain : List ℕ) (flag : Bool) (x y : ℕ) where
-  pub grid-malformed : readNumber tray 0 ≡ Malformed → refused (reason 5) ≡ gridPoint body tray chain flag x y
-  unfolding gridPoint onNumber
-  grid-malformed e = rw e
+-- what a chain that was judged leaves of a picture of that size
+abbrev pub sights : List ℕ → Chain → Bool → ℕ → ℕ → Out Sight
+sights chain c flag w h = andThen (entriesAt (c .count) chain (c .first)) (λ es. sightOf es flag w h)
+
+look-on : (chain : List ℕ) (c : Chain) (j : Judged chain c) (flag : Bool) (w h : ℕ) (names : Place → Named) → lookOn (j .entries) flag w h names ≡ andThen (sights chain c flag w h) (λ s. done (record { sight = s; names = names }))
+unfolding lookOn
+look-on chain c j flag w h names = ap (λ (o : Out Sight). andThen o (λ s. done (record { sight = s; names = names }))) (sym (then-done _ (j .read)))
+
+sights-bounded : (chain : List ℕ) (c : Chain) (j : Judged chain c) (flag : Bool) (w h : ℕ) (s : Sight) → sights chain c flag w h ≡ done s → w < 2 ^ 32 → h < 2 ^ 32 → Bounded (s .area)
+sights-bounded chain c j flag w h s e i k = holds-done (λ u. Bounded (u .area)) _ s (sight-bounded (j .entries) flag w h i k) (sym (then-done _ (j .read)) ∙ e)
+
+sights-inside : (chain : List ℕ) (c : Chain) (j : Judged chain c) (flag : Bool) (w h : ℕ) (s : Sight) → sights chain c flag w h ≡ done s → 1 ≤ w → 1 ≤ h → Inside (s .area) w h
+sights-inside chain c j flag w h s e i k = holds-done (λ u. Inside (u .area) w h) _ s (sight-inside (j .entries) flag w h i k) (sym (then-done _ (j .read)) ∙ e)
+
+sides-low : (w h : ℕ) → 1 ≤ w → 1 ≤ h → w * h ≤ 2 ^ 30 → (w < 2 ^ 32) × (h < 2 ^ 32)
+sides-low w h i j a = (omega (arith, mul-below w h w 1 (omega arith) j, a), omega (arith, mul-below w h 1 h i (omega arith), a))
+
+module _ (body tray chain : List ℕ) (flag : Bool) where
+  abbrev GridRefused : Refusal → Type 0
+  GridRefused r = (refused r ≡ gridLook body tray chain flag) × gridHeld (GridLookRead.Refused r)
+
+  grid-no : (r : Refusal) → gridLook body tray chain flag ≡ refused r → GridRefused r
+  unfolding gridHeld
+  grid-no r e = (sym e, tt)
+
+  pub grid-malformed : readNumber tray 0 ≡ Malformed → GridRefused (reason 5)
+  unfolding gridLook onNumber
+  grid-malformed e = grid-no _ (rw e)
 
   module _ (n at : ℕ) (counted : readNumber tray 0 ≡ Number n at) where
-    grid-counted : gridPoint body tray chain flag x y
-        ≡ andThen (chainAt chain 0) (λ es. andThen (tilesOf body tray) (λ t. pointOn es flag (t .desc .«output_width») (t .desc .«output_height») x y (gridNames t)))
-    unfolding gridPoint onNumber tilesOf
+    grid-counted : gridLook body tray chain flag
+        ≡ andThen (chainAt chain 0) (λ es. andThen (tilesOf body tray) (λ t. lookOn es flag (t .desc .«output_width») (t .desc .«output_height») (gridNames t)))
+    unfolding gridLook onNumber tilesOf
     grid-counted = rw counted
 
-    pub grid-chain : (r : Refusal) → judgedAt chain 0 ≡ refused r → refused r ≡ gridPoint body tray chain flag x y
-    grid-chain r e = sym (grid-counted ∙ then-refused _ (judged-refused _ _ _ e))
+    pub grid-chain : (r : Refusal) → judgedAt chain 0 ≡ refused r → GridRefused r
+    grid-chain r e = grid-no _ (grid-counted ∙ then-refused _ (judged-refused _ _ _ e))
 
     module _ (c : Chain) (judged : judgedAt chain 0 ≡ done c) where
-      pub grid-tiles : (r : Refusal) → tilesOf body tray ≡ refused r → refused r ≡ gridPoint body tray chain flag x y
-      grid-tiles r e = sym (grid-counted ∙ then-done _ (judged-chain chain 0 c judged .1) ∙ then-refused _ e)
+      pub grid-tiles : (r : Refusal) → tilesOf body tray ≡ refused r → GridRefused r
+      grid-tiles r e = grid-no _ (grid-counted ∙ then-done _ (judged-chain chain 0 c judged .1) ∙ then-refused _ e)
 
       module _ (t : Tiles) (taken : tilesOf body tray ≡ done t) where
-        abbrev gridSeen : Out Seen
-        gridSeen = andThen (entriesAt (c .count) chain (c .first)) (λ es. seenOn es flag (t .desc .«output_width») (t .desc .«output_height») x y)
+        abbrev gridSights : Out Sight
+        gridSights = sights chain c flag (t .desc .«output_width») (t .desc .«output_height»)
 
-        grid-on : gridPoint body tray chain flag x y ≡ andThen gridSeen (λ k. done (answered (gridNames t) k))
-        grid-on =
-            let j = judged-chain chain 0 c judged in
-            grid-counted ∙ then-done _ (j .1) ∙ then-done _ taken ∙ point-seen (j .0 .entries) flag _ _ x y (gridNames t)
-            ∙ ap (λ (o : Out Seen). andThen o (λ k. done (answered (gridNames t) k))) (sym (then-done _ (j .0 .read)))
+        grid-on : gridLook body tray chain flag ≡ andThen gridSights (λ s. done (record { sight = s; names = gridNames t }))
+        grid-on = let j = judged-chain chain 0 c judged in grid-counted ∙ then-done _ (j .1) ∙ then-done _ taken ∙ look-on chain c (j .0) flag _ _ (gridNames t)
 
-        pub grid-seen : (r : Refusal) → gridSeen ≡ refused r → refused r ≡ gridPoint body tray chain flag x y
-        grid-seen r e = sym (grid-on ∙ then-refused _ e)
+        pub grid-sight : (r : Refusal) → gridSights ≡ refused r → GridRefused r
+        grid-sight r e = grid-no _ (grid-on ∙ then-refused _ e)
 
-        pub grid-done : (k : Seen) (m : Named) → gridSeen ≡ done k → m ≡ gridNames t (placeIn (k .place)) → done (record { named = m; sight = k .sight }) ≡ gridPoint body tray chain flag x y
-        grid-done k m e p = ap (λ (u : Named). done (record { named = u; sight = k .sight })) p ∙ sym (grid-on ∙ then-done _ e)
-
-        pub grid-tiled : Bytes body → (k : Seen) → gridSeen ≡ done k → Tiled t (k .place)
-        grid-tiled b k e =
-            let j = judged-chain chain 0 c judged in
+        pub grid-done : (s : Sight) → gridSights ≡ done s → Bytes body
+            → (done (gridLooked (record { sight = s; tiles = t })) ≡ gridLook body tray chain flag) × gridHeld (GridLookRead.Look (record { sight = s; tiles = t }))
+        unfolding gridHeld
+        grid-done s e b =
+            let j = judged-chain chain 0 c judged .0 in
             let g = tiles-taken body tray t b taken in
             let z = canvas-sides (t .desc) (t .tile) (t .alpha) in
-            let u = seen-in (j .0 .entries) flag _ _ x y k (omega (arith, z .0, g .canvas .wide)) (omega (arith, z .1, g .canvas .tall)) (sym (then-done _ (j .0 .read)) ∙ e) in
-            record {
-              wide = g .tile .wide;
-              tall = g .tile .tall;
-              columns = g .columns .1;
-              rows = g .rows .1;
-              across = omega (arith, u .0, g .coverX);
-              down = omega (arith, u .1, g .coverY);
-            }
+            let q = sides-low _ _ (g .canvas .wide) (g .canvas .tall) (g .canvas .area) in (
+              sym (grid-on ∙ then-done _ e),
+              record {
+                wide = g .tile .wide;
+                tall = g .tile .tall;
+                columns = g .columns .1;
+                rows = g .rows .1;
+                coverX = g .coverX;
+                coverY = g .coverY;
+                inside = sights-inside chain c j flag _ _ s e (omega (arith, z .0, g .canvas .wide)) (omega (arith, z .1, g .canvas .tall));
+                bounded = sights-bounded chain c j flag _ _ s e (omega (arith, z .0, q .0)) (omega (arith, z .1, q .1));
+              },
+            )
 
--- ---- the overlay's point, step by step
+-- ---- the overlay's look, step by step
 
 some-see : (body tray list : List ℕ) (d : OverlayDescriptor) (i : ℕ) (frs : List Frame) → some seeThrough (layersOf body tray list d i frs) ≡ some seeThroughFrame frs
 unfolding some layersOf layerOf seeThrough seeThroughFrame decode
@@ -254,43 +250,50 @@ module _ (body tray list : List ℕ) (n at : ℕ) where
       let o = overlay-taken body n (a .0) (a .1) in
       taken-as _ q (done-same _ q (f .1)) (o .0, frames-from n tray at (d .0) (d .1) ∙ ap (λ (m : ℕ). framesFrom m tray at) (sym (o .1)))
 
-module _ (body tray chain : List ℕ) (flag : Bool) (list : List ℕ) (x y : ℕ) where
-  pub overlay-malformed : readNumber tray 0 ≡ Malformed → refused (reason 5) ≡ overlayPoint body tray chain flag list x y
-  unfolding overlayPoint onNumber
-  overlay-malformed e = rw e
+module _ (body tray chain : List ℕ) (flag : Bool) (list : List ℕ) where
+  abbrev OverlayRefused : Refusal → Type 0
+  OverlayRefused r = (refused r ≡ overlayLook body tray chain flag list) × overlayHeld body (OverlayLookRead.Refused r)
+
+  overlay-no : (r : Refusal) → overlayLook body tray chain flag list ≡ refused r → OverlayRefused r
+  unfolding overlayHeld
+  overlay-no r e = (sym e, tt)
+
+  pub overlay-malformed : readNumber tray 0 ≡ Malformed → OverlayRefused (reason 5)
+  unfolding overlayLook onNumber
+  overlay-malformed e = overlay-no _ (rw e)
 
   module _ (n at : ℕ) (counted : readNumber tray 0 ≡ Number n at) where
-    abbrev goes : List PropertyEntry → Inputs → Out Point
-    goes es q = refuse (some seeThroughFrame (q .frames)) 18 (pointOn es flag (q .descriptor .«output_width») (q .descriptor .«output_height») x y (overlayNames body q))
+    abbrev goes : List PropertyEntry → Inputs → Out Look
+    goes es q = refuse (some seeThroughFrame (q .frames)) 18 (lookOn es flag (q .descriptor .«output_width») (q .descriptor .«output_height») (overlayNames body q))
 
-    overlay-counted : overlayPoint body tray chain flag list x y ≡ andThen (chainAt chain 0) (λ es. andThen (inputsAt body tray list n at) (goes es))
-    unfolding overlayPoint onNumber
+    overlay-counted : overlayLook body tray chain flag list ≡ andThen (chainAt chain 0) (λ es. andThen (inputsAt body tray list n at) (goes es))
+    unfolding overlayLook onNumber
     overlay-counted = rw counted
 
-    pub overlay-chain : (r : Refusal) → judgedAt chain 0 ≡ refused r → refused r ≡ overlayPoint body tray chain flag list x y
-    overlay-chain r e = sym (overlay-counted ∙ then-refused _ (judged-refused _ _ _ e))
+    pub overlay-chain : (r : Refusal) → judgedAt chain 0 ≡ refused r → OverlayRefused r
+    overlay-chain r e = overlay-no _ (overlay-counted ∙ then-refused _ (judged-refused _ _ _ e))
 
     module _ (c : Chain) (judged : judgedAt chain 0 ≡ done c) where
-      pub overlay-inputs : (r : Refusal) → planAt body tray list n at ≡ refused r → refused r ≡ overlayPoint body tray chain flag list x y
+      pub overlay-inputs : (r : Refusal) → planAt body tray list n at ≡ refused r → OverlayRefused r
       unfolding planAt
-      overlay-inputs r e = sym (overlay-counted ∙ then-done _ (judged-chain chain 0 c judged .1) ∙ then-refused _ (refused-back _ (planOf body tray list at) r e))
+      overlay-inputs r e = overlay-no _ (overlay-counted ∙ then-done _ (judged-chain chain 0 c judged .1) ∙ then-refused _ (refused-back _ (planOf body tray list at) r e))
 
       -- what a plan leaves to answer
-      abbrev topmost : Plan → Place → Named
-      topmost q l = topmostFrom body (q .descriptor) l 0 Named.Fill (framesFrom (q .descriptor .count) tray at)
+      abbrev planLooked : Plan → Sight → OverlayLook
+      planLooked q s = record { sight = s; descriptor = q .descriptor; first = at }
 
-      abbrev planSeen : Plan → Out Seen
-      planSeen q = andThen (entriesAt (c .count) chain (c .first)) (λ es. seenOn es flag (q .descriptor .«output_width») (q .descriptor .«output_height») x y)
+      abbrev planSights : Plan → Out Sight
+      planSights q = sights chain c flag (q .descriptor .«output_width») (q .descriptor .«output_height»)
 
       record Planned (q : Plan) : Type 0 where
         sound : OverlaySound body (q .descriptor)
-        left : overlayPoint body tray chain flag list x y ≡ refuse (q .alpha) 18 (andThen (planSeen q) (λ k. done (answered (topmost q) k)))
+        left : overlayLook body tray chain flag list ≡ refuse (q .alpha) 18 (andThen (planSights q) (λ s. done (overlayLooked body tray (planLooked q s))))
 
       planned-as : (q u : Plan) → q ≡ u → Planned q → Planned u
       planned-as q u e k = rw e at k
 
       planned : (q : Inputs) → inputsAt body tray list n at ≡ done q → Planned (planOf body tray list at q)
-      unfolding planOf overlayNames
+      unfolding planOf
       planned q e =
           let j = judged-chain chain 0 c judged in
           let k = inputs-taken body tray list n at q e in
@@ -298,9 +301,9 @@ module _ (body tray chain : List ℕ) (flag : Bool) (list : List ℕ) (x y : ℕ
             sound = k .0;
             left =
                 overlay-counted ∙ then-done _ (j .1) ∙ then-done _ e
-                ∙ ap₂ (λ (b : Bool) (o : Out Point). refuse b 18 o) (sym (some-see body tray list (q .descriptor) 0 (q .frames)))
-                (point-seen (j .0 .entries) flag _ _ x y (overlayNames body q)
-                ∙ ap₂ (λ (o : Out Seen) (frs : List Frame). andThen o (λ u. done (answered (λ l. topmostFrom body (q .descriptor) l 0 Named.Fill frs) u))) (sym (then-done _ (j .0 .read))) (k .1));
+                ∙ ap₂ (λ (b : Bool) (o : Out Look). refuse b 18 o) (sym (some-see body tray list (q .descriptor) 0 (q .frames)))
+                (look-on chain c (j .0) flag _ _ (overlayNames body q)
+                ∙ ap (λ (frs : List Frame). andThen (sights chain c flag (q .descriptor .«output_width») (q .descriptor .«output_height»)) (λ s. done (record { sight = s; names = overlayNames body (record { descriptor = q .descriptor; frames = frs }) }))) (k .1));
           }
 
       module _ (q : Plan) (taken : planAt body tray list n at ≡ done q) where
@@ -308,15 +311,17 @@ module _ (body tray chain : List ℕ) (flag : Bool) (list : List ℕ) (x y : ℕ
         unfolding planAt
         plan-planned = let a = andThen-done _ _ q taken in planned-as _ q (done-same _ q (a .2)) (planned (a .0) (a .1))
 
-        pub overlay-sound : OverlaySound body (q .descriptor)
-        overlay-sound = plan-planned .sound
-
-        pub overlay-alpha : q .alpha ≡ true → refused (reason 18) ≡ overlayPoint body tray chain flag list x y
-        overlay-alpha e = sym (plan-planned .left ∙ refuse-yes _ _ e)
+        pub overlay-alpha : q .alpha ≡ true → OverlayRefused (reason 18)
+        overlay-alpha e = overlay-no _ (plan-planned .left ∙ refuse-yes _ _ e)
 
         module _ (opaque : q .alpha ≡ false) where
-          pub overlay-seen : (r : Refusal) → planSeen q ≡ refused r → refused r ≡ overlayPoint body tray chain flag list x y
-          overlay-seen r e = sym (plan-planned .left ∙ refuse-no _ _ opaque ∙ then-refused _ e)
+          pub overlay-sight : (r : Refusal) → planSights q ≡ refused r → OverlayRefused r
+          overlay-sight r e = overlay-no _ (plan-planned .left ∙ refuse-no _ _ opaque ∙ then-refused _ e)
 
-          pub overlay-done : (k : Seen) (m : Named) → planSeen q ≡ done k → m ≡ topmost q (placeIn (k .place)) → done (record { named = m; sight = k .sight }) ≡ overlayPoint body tray chain flag list x y
-          overlay-done k m e p = ap (λ (u : Named). done (record { named = u; sight = k .sight })) p ∙ sym (plan-planned .left ∙ refuse-no _ _ opaque ∙ then-done _ e)
+          pub overlay-done : (s : Sight) → planSights q ≡ done s
+              → (done (overlayLooked body tray (planLooked q s)) ≡ overlayLook body tray chain flag list) × overlayHeld body (OverlayLookRead.Look (planLooked q s))
+          unfolding overlayHeld
+          overlay-done s e =
+              let z = plan-planned .sound .canvas in
+              let u = sides-low _ _ (z .wide) (z .tall) (z .area) in
+              (sym (plan-planned .left ∙ refuse-no _ _ opaque ∙ then-done _ e), (plan-planned .sound, sights-bounded chain c (judged-chain chain 0 c judged .0) flag _ _ s e (u .0) (u .1)))

@@ -14,6 +14,7 @@ use Rattle.props.specs.Chain.{chainAt}
 use Rattle.props.specs.declared.entry.PropertyEntry.{PropertyEntry}
 use Rattle.transform.specs.Place.{Place}
 use Rattle.sight.specs.Sight.{placeOf, sightOf}
+use Rattle.sight.specs.declared.Sight.{Sight}
 use Rattle.grid.specs.Tiles.{tilesAt}
 use Rattle.grid.specs.declared.tiles.Tiles.{Tiles}
 use Rattle.overlay.specs.Overlay.{covers, some, spotAt}
@@ -51,34 +52,47 @@ topmostFrom body d l i found (fr ∷ frs) =
 unfoldable pub overlayNames : List ℕ → Inputs → Place → Named
 overlayNames body q l = topmostFrom body (q .descriptor) l 0 Named.Fill (q .frames)
 
--- ---- the calls
+-- ---- the calls, in two halves
 
--- a chain on a composed picture of that size, and a final place: the entries' refusals, 18 an applied iscl, 18 last a place outside
-unfoldable pub pointOn : List PropertyEntry → Bool → ℕ → ℕ → ℕ → ℕ → (Place → Named) → Out Point
-pointOn es essentialOnly width height column row names =
-    andThen (sightOf es essentialOnly width height) (λ s.
-    andThen (placeOf s column row) (λ l. done (record { named = names l; sight = s })))
+-- everything before the place: the chain's rectangle and turn, and what a place of the canvas names
+pub record Look : Type 0 where
+  pub sight : Sight
+  pub names : Place → Named
+
+-- a chain on a composed picture of that size: the entries' refusals, 18 an applied iscl
+unfoldable pub lookOn : List PropertyEntry → Bool → ℕ → ℕ → (Place → Named) → Out Look
+lookOn es essentialOnly width height names = andThen (sightOf es essentialOnly width height) (λ s. done (record { sight = s; names = names }))
 
 -- as the grid scene, without 17
-unfoldable pub gridPoint : List ℕ → List ℕ → List ℕ → Bool → ℕ → ℕ → Out Point
-gridPoint body tray chain essentialOnly column row =
+unfoldable pub gridLook : List ℕ → List ℕ → List ℕ → Bool → Out Look
+gridLook body tray chain essentialOnly =
     onNumber (readNumber tray 0) (λ n at.
     andThen (chainAt chain 0) (λ es.
     andThen (tilesAt body tray n at) (λ t.
-    pointOn es essentialOnly (t .desc .«output_width») (t .desc .«output_height») column row (gridNames t))))
+    lookOn es essentialOnly (t .desc .«output_width») (t .desc .«output_height») (gridNames t))))
 
 -- as the overlay scene, without 16 and 17; 18 an input with alpha, after 14. The colour description names no spot, and is judged by
 -- no refusal
 unfoldable pub seeThroughFrame : Frame → Bool
 seeThroughFrame fr = hasAlpha (fr .form .format)
 
-unfoldable pub overlayPoint : List ℕ → List ℕ → List ℕ → Bool → List ℕ → ℕ → ℕ → Out Point
-overlayPoint body tray chain essentialOnly premultiplied column row =
+unfoldable pub overlayLook : List ℕ → List ℕ → List ℕ → Bool → List ℕ → Out Look
+overlayLook body tray chain essentialOnly premultiplied =
     onNumber (readNumber tray 0) (λ n at.
     andThen (chainAt chain 0) (λ es.
     andThen (inputsAt body tray premultiplied n at) (λ q.
     refuse (some seeThroughFrame (q .frames)) 18
-    (pointOn es essentialOnly (q .descriptor .«output_width») (q .descriptor .«output_height») column row (overlayNames body q)))))
+    (lookOn es essentialOnly (q .descriptor .«output_width») (q .descriptor .«output_height») (overlayNames body q)))))
+
+-- the place: 18 last, a place outside
+unfoldable pub pointFrom : Look → ℕ → ℕ → Out Point
+pointFrom k column row = andThen (placeOf (k .sight) column row) (λ l. done (record { named = k .names l; sight = k .sight }))
+
+unfoldable pub gridPoint : List ℕ → List ℕ → List ℕ → Bool → ℕ → ℕ → Out Point
+gridPoint body tray chain essentialOnly column row = andThen (gridLook body tray chain essentialOnly) (λ k. pointFrom k column row)
+
+unfoldable pub overlayPoint : List ℕ → List ℕ → List ℕ → Bool → List ℕ → ℕ → ℕ → Out Point
+overlayPoint body tray chain essentialOnly premultiplied column row = andThen (overlayLook body tray chain essentialOnly premultiplied) (λ k. pointFrom k column row)
 
 -- what a point call answers
 abbrev pub pointOut : PointRead → Out Point

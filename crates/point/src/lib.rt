@@ -4,15 +4,13 @@ mod names;
 
 ghost use mathlib.Core.Path.{_≡_};
 ghost use Rattle.point.specs.Point.{gridPoint, overlayPoint, pointOut};
-use crate::look::SeenRead;
-use crate::look::look;
-use crate::names::name_tile;
-use crate::names::name_topmost;
-use grid::TilesRead;
+pub use crate::look::GridLook;
+pub use crate::look::GridLookRead;
+pub use crate::look::OverlayLook;
+pub use crate::look::OverlayLookRead;
+pub use crate::look::look_grid;
+pub use crate::look::look_overlay;
 use laws::Refusal;
-use numbers::NumberRead;
-use overlay::PlanRead;
-use props::ChainRead;
 use sight::Sight;
 
 // A spot of an input: its number, a column and a row, from 0.
@@ -51,33 +49,9 @@ pub fn grid_point(
 ) -> PointRead
     ensures { λ r. ⌜ pointOut r ≡ gridPoint (now (body .entry)) (now (tray .entry)) (now (chain .entry)) «essential_only» column row ⌝ }
 {
-    let NumberRead::Number { value: _, next: _ } = numbers::read_number(tray, 0) else {
-        return PointRead::Refused(Refusal::MALFORMED);
-    };
-    match props::check_chain(chain, 0) {
-        ChainRead::Refused(e) => PointRead::Refused(e),
-        ChainRead::Read(c) => match grid::read_tiles(body, tray) {
-            TilesRead::Refused(e) => PointRead::Refused(e),
-            TilesRead::Read(t) => {
-                let g = t.desc;
-                match look(
-                    chain,
-                    c,
-                    essential_only,
-                    g.output_width,
-                    g.output_height,
-                    column,
-                    row,
-                ) {
-                    SeenRead::Refused(e) => PointRead::Refused(e),
-                    SeenRead::Seen(k) => {
-                        let sight = k.sight;
-                        let named = name_tile(t, k.place);
-                        PointRead::Point(Point { named, sight })
-                    }
-                }
-            }
-        },
+    match look_grid(body, tray, chain, essential_only) {
+        GridLookRead::Refused(e) => PointRead::Refused(e),
+        GridLookRead::Look(k) => k.point(column, row),
     }
 }
 
@@ -94,39 +68,8 @@ pub fn overlay_point(
 ) -> PointRead
     ensures { λ r. ⌜ pointOut r ≡ overlayPoint (now (body .entry)) (now (tray .entry)) (now (chain .entry)) «essential_only» (now (premultiplied .entry)) column row ⌝ }
 {
-    let NumberRead::Number {
-        value: count,
-        next: first,
-    } = numbers::read_number(tray, 0)
-    else {
-        return PointRead::Refused(Refusal::MALFORMED);
-    };
-    match props::check_chain(chain, 0) {
-        ChainRead::Refused(e) => PointRead::Refused(e),
-        ChainRead::Read(c) => match overlay::read_inputs(body, tray, premultiplied, count, first) {
-            PlanRead::Refused(e) => PointRead::Refused(e),
-            PlanRead::Read(q) => {
-                if q.alpha {
-                    return PointRead::Refused(Refusal::POINT);
-                }
-                let d = q.descriptor;
-                match look(
-                    chain,
-                    c,
-                    essential_only,
-                    d.output_width,
-                    d.output_height,
-                    column,
-                    row,
-                ) {
-                    SeenRead::Refused(e) => PointRead::Refused(e),
-                    SeenRead::Seen(k) => {
-                        let sight = k.sight;
-                        let named = name_topmost(body, tray, d, first, k.place);
-                        PointRead::Point(Point { named, sight })
-                    }
-                }
-            }
-        },
+    match look_overlay(body, tray, chain, essential_only, premultiplied) {
+        OverlayLookRead::Refused(e) => PointRead::Refused(e),
+        OverlayLookRead::Look(k) => k.point(body, tray, column, row),
     }
 }

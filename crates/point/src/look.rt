@@ -1,44 +1,153 @@
-// A final place looked up through a chain: what the chain leaves of the composed picture, and the place of it that is shown.
+// Point calls up to the place: what the chain leaves of the composed picture, and what the place is looked up in.
 ghost use mathlib.Core.Path.{_≡_};
-ghost use Rattle.laws.specs.Out.{andThen};
-ghost use Rattle.props.specs.Chain.{Judged, entriesAt};
-ghost use Rattle.point.specs.Seen.{seenOn, seenOut};
+ghost use Rattle.derived.specs.Sound.{OverlaySound};
+ghost use Rattle.sight.specs.Sight.{Bounded};
+ghost use Rattle.point.specs.Look.{GridHeld, gridHeld, gridLookOut, gridLooked, overlayHeld, overlayLookOut, overlayLooked};
+ghost use Rattle.point.specs.Point.{gridLook, overlayLook, pointFrom, pointOut};
+use crate::Point;
+use crate::PointRead;
+use crate::names::name_tile;
+use crate::names::name_topmost;
+use derived::OverlayDescriptor;
+use grid::Tiles;
+use grid::TilesRead;
 use laws::Refusal;
-use props::Chain;
-use sight::CanvasPlace;
+use numbers::NumberRead;
+use overlay::PlanRead;
+use props::ChainRead;
 use sight::PlaceRead;
 use sight::Sight;
 use sight::SightRead;
 
-// The chain's rectangle and turn, and a place of the composed picture.
-pub(crate) struct Seen {
+// Everything before the place of a grid: the chain's rectangle and turn, and the tiles.
+pub struct GridLook {
     pub sight: Sight,
-    pub place: CanvasPlace,
+    pub tiles: Tiles,
 }
 
-pub(crate) enum SeenRead {
-    Seen(Seen),
+pub enum GridLookRead {
+    Look(GridLook),
     Refused(Refusal),
 }
 
-// The place of a composed picture of that size that a final place shows. Refusals: the entries' in turn; 18 a place outside.
-pub(crate) fn look(
-    chain: &[u8],
-    c: Chain,
-    essential_only: bool,
-    width: u32,
-    height: u32,
-    column: u32,
-    row: u32,
-) -> SeenRead
-    requires { ⌜ Judged (now chain) c ⌝ }
-    ensures { λ r. ⌜ seenOut r ≡ andThen (entriesAt (c .count) (now (chain .entry)) (c .first)) (λ es. seenOn es «essential_only» width height column row) ⌝ }
+// Everything before the place of an overlay: the chain's rectangle and turn, the descriptor, and where the first record stands.
+pub struct OverlayLook {
+    pub sight: Sight,
+    pub descriptor: OverlayDescriptor,
+    pub first: usize,
+}
+
+pub enum OverlayLookRead {
+    Look(OverlayLook),
+    Refused(Refusal),
+}
+
+impl GridLook {
+    // What a final place names. Refusal: 18 a place outside.
+    pub(crate) fn point(self, column: u32, row: u32) -> PointRead
+        requires { ⌜ GridHeld self ⌝ }
+        ensures { λ r. ⌜ pointOut r ≡ pointFrom (gridLooked self) column row ⌝ }
+    {
+        let sight = self.sight;
+        match sight.place(column, row) {
+            PlaceRead::Refused(e) => PointRead::Refused(e),
+            PlaceRead::Place(l) => {
+                let named = name_tile(self.tiles, l);
+                PointRead::Point(Point { named, sight })
+            }
+        }
+    }
+}
+
+impl OverlayLook {
+    // The same of the overlay of a body and a tray.
+    pub(crate) fn point(self, body: &[u8], tray: &[u8], column: u32, row: u32) -> PointRead
+        requires { ⌜ OverlaySound (now body) (self .descriptor) × Bounded (self .sight .area) ⌝ }
+        ensures { λ r. ⌜ pointOut r ≡ pointFrom (overlayLooked (now (body .entry)) (now (tray .entry)) self) column row ⌝ }
+    {
+        let sight = self.sight;
+        match sight.place(column, row) {
+            PlaceRead::Refused(e) => PointRead::Refused(e),
+            PlaceRead::Place(l) => {
+                let named = name_topmost(body, tray, self.descriptor, self.first, l);
+                PointRead::Point(Point { named, sight })
+            }
+        }
+    }
+}
+
+// A grid's point call up to the place. Refusals: 5 tray count unreadable; the chain's form; the body's and the tiles'; the entries' in
+// turn, 18 an applied iscl.
+pub fn look_grid(body: &[u8], tray: &[u8], chain: &[u8], essential_only: bool) -> GridLookRead
+    ensures { λ r. ⌜ (gridLookOut r ≡ gridLook (now (body .entry)) (now (tray .entry)) (now (chain .entry)) «essential_only») × gridHeld r ⌝ }
 {
-    match sight::reduce_judged(chain, c, essential_only, width, height) {
-        SightRead::Refused(e) => SeenRead::Refused(e),
-        SightRead::Sight(sight) => match sight.place(column, row) {
-            PlaceRead::Refused(e) => SeenRead::Refused(e),
-            PlaceRead::Place(place) => SeenRead::Seen(Seen { sight, place }),
+    let NumberRead::Number { value: _, next: _ } = numbers::read_number(tray, 0) else {
+        return GridLookRead::Refused(Refusal::MALFORMED);
+    };
+    match props::check_chain(chain, 0) {
+        ChainRead::Refused(e) => GridLookRead::Refused(e),
+        ChainRead::Read(c) => match grid::read_tiles(body, tray) {
+            TilesRead::Refused(e) => GridLookRead::Refused(e),
+            TilesRead::Read(tiles) => {
+                let g = tiles.desc;
+                match sight::reduce_judged(
+                    chain,
+                    c,
+                    essential_only,
+                    g.output_width,
+                    g.output_height,
+                ) {
+                    SightRead::Refused(e) => GridLookRead::Refused(e),
+                    SightRead::Sight(sight) => GridLookRead::Look(GridLook { sight, tiles }),
+                }
+            }
+        },
+    }
+}
+
+// An overlay's point call up to the place. Refusals: 5 tray count unreadable; the chain's form; the body's and the inputs'; 18 an input
+// with alpha; the entries' in turn, 18 an applied iscl.
+pub fn look_overlay(
+    body: &[u8],
+    tray: &[u8],
+    chain: &[u8],
+    essential_only: bool,
+    premultiplied: &[u8],
+) -> OverlayLookRead
+    ensures { λ r. ⌜ (overlayLookOut (now (body .entry)) (now (tray .entry)) r ≡ overlayLook (now (body .entry)) (now (tray .entry)) (now (chain .entry)) «essential_only» (now (premultiplied .entry)))
+        × overlayHeld (now (body .entry)) r ⌝ }
+{
+    let NumberRead::Number {
+        value: count,
+        next: first,
+    } = numbers::read_number(tray, 0)
+    else {
+        return OverlayLookRead::Refused(Refusal::MALFORMED);
+    };
+    match props::check_chain(chain, 0) {
+        ChainRead::Refused(e) => OverlayLookRead::Refused(e),
+        ChainRead::Read(c) => match overlay::read_inputs(body, tray, premultiplied, count, first) {
+            PlanRead::Refused(e) => OverlayLookRead::Refused(e),
+            PlanRead::Read(q) => {
+                if q.alpha {
+                    return OverlayLookRead::Refused(Refusal::POINT);
+                }
+                let descriptor = q.descriptor;
+                match sight::reduce_judged(
+                    chain,
+                    c,
+                    essential_only,
+                    descriptor.output_width,
+                    descriptor.output_height,
+                ) {
+                    SightRead::Refused(e) => OverlayLookRead::Refused(e),
+                    SightRead::Sight(sight) => OverlayLookRead::Look(OverlayLook {
+                        sight,
+                        descriptor,
+                        first,
+                    }),
+                }
+            }
         },
     }
 }

@@ -6,7 +6,7 @@ ghost use Rattle.derived.specs.Sound.{OverlaySound};
 ghost use Rattle.overlay.specs.Block.{framesFrom};
 ghost use Rattle.overlay.specs.Overlay.{covers, spotAt};
 ghost use Rattle.point.specs.Point.{gridNames, liesOver, spotUnder, topmostFrom};
-ghost use Rattle.point.specs.Seen.{Tiled, placeIn};
+ghost use Rattle.point.specs.Look.{Tiled, placeIn};
 ghost use Rattle.point.specs.declared.Named.{Named};
 use crate::Named;
 use crate::Spot;

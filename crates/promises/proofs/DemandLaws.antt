@@ -39,10 +39,11 @@ use Rattle.scene.specs.Scene.{gridDrawn, gridScene, overlayDrawn, overlayScene}
 use Rattle.point.proofs.AlikeLaws.{grid-blind, overlay-blind}
 use Rattle.point.proofs.Chained.{ReadsBack, chain-agrees, chain-names, chain-once, chain-sighted, chain-stays, chain-through}
 use Rattle.point.proofs.GridShown.{grid-even, grid-form, grid-once, grid-reads, grid-sides, grid-there, tiles-records}
+use Rattle.point.proofs.Halves.{grid-steps, overlay-steps, pointOn}
 use Rattle.point.proofs.OverlayShown.{inputs-records, none-above, overlay-even, overlay-once, overlay-reads, overlay-sides, overlay-there}
 use Rattle.point.proofs.Runs.{Agrees, agrees-as, agrees-number, agrees-then, on-taken, unscaled}
 use Rattle.point.specs.Agreement.{CarriedFrom, CarriedTo, InTray, NoAlpha, NoScaling, canvasHeight, canvasWidth, chainCarries, chainSight, noChain}
-use Rattle.point.specs.Point.{gridNames, gridPoint, overlayNames, overlayPoint, pointOn, seeThroughFrame}
+use Rattle.point.specs.Point.{gridNames, gridPoint, overlayNames, overlayPoint, seeThroughFrame}
 use Rattle.point.specs.Read.{gridReads, overlayReads, recordsIn}
 use Rattle.point.specs.declared.Named.{Named}
 use Rattle.point.specs.declared.Point.{Point}
@@ -205,17 +206,15 @@ record GridTaken (body tray chain : List ℕ) : Type 0 where
   taken : tilesAt body tray n at ≡ done t
 
 grid-read : (body tray chain : List ℕ) (flag : Bool) (x y : ℕ) (a : Point) → gridPoint body tray chain flag x y ≡ done a → GridTaken body tray chain
-unfolding gridPoint
 grid-read body tray chain flag x y a e =
-    let i = on-number _ _ a e in
+    let i = on-number _ _ a (sym (grid-steps body tray chain flag x y) ∙ e) in
     let j = andThen-done _ _ a (i .3) in
     let k = andThen-done _ _ a (j .2) in
     record { n = i .0; at = i .1; number = i .2; es = j .0; chained = j .1; t = k .0; taken = k .1 }
 
 module _ (body tray chain : List ℕ) (flag : Bool) (bytes : Bytes body) where
   grid-points : (c : List ℕ) (r : GridTaken body tray c) (x y : ℕ) → gridPoint body tray c flag x y ≡ pointOn (r .es) flag (r .t .desc .«output_width») (r .t .desc .«output_height») x y (gridNames (r .t))
-  unfolding gridPoint
-  grid-points c r x y = on-taken _ (r .number) ∙ then-done _ (r .chained) ∙ then-done _ (r .taken)
+  grid-points c r x y = grid-steps body tray c flag x y ∙ on-taken _ (r .number) ∙ then-done _ (r .chained) ∙ then-done _ (r .taken)
 
   grid-places : (r : GridTaken body tray chain) → Places tray chain flag (gridPoint body tray chain flag) (gridPoint body tray noChain flag) (r .es)
   grid-places r =
@@ -238,14 +237,15 @@ module _ (body tray chain : List ℕ) (flag : Bool) (bytes : Bytes body) where
 
 -- DEMAND 3, of grids
 pub grid-demand : (body tray chain : List ℕ) (flag : Bool) → GridDemand body tray chain flag
-unfolding GridDemand NoScaling gridDrawn gridScene gridPoint chainSight Agrees
+unfolding GridDemand NoScaling gridDrawn gridScene chainSight Agrees
 grid-demand body tray chain flag bytes small =
     record {
       agrees = λ plain output spare m x y.
-          agrees-number (gridReads tray) x y (readNumber tray 0) _ _
+          agrees-as (gridReads tray) x y refl (sym (grid-steps body tray chain flag x y))
+          (agrees-number (gridReads tray) x y (readNumber tray 0) _ _
           (λ n at c. agrees-then (gridReads tray) x y (chainAt chain 0) _ _
           (λ es k. agrees-then (gridReads tray) x y (tilesAt body tray n at) _ _
-          (λ t e. tiles-agree body tray bytes flag n at c es (unscaled flag es (plain es k)) t e (chain-back es flag (gridOn tray t) (grid-tame body tray n at t bytes small c e)) x y)))
+          (λ t e. tiles-agree body tray bytes flag n at c es (unscaled flag es (plain es k)) t e (chain-back es flag (gridOn tray t) (grid-tame body tray n at t bytes small c e)) x y))))
           output spare m;
       blind = λ other a x y. grid-blind body tray other chain flag x y a;
       once = λ x y u v a b k p. places-once tray chain flag _ _ _ (grid-places body tray chain flag bytes (grid-read body tray chain flag x y a p)) x y u v a b k p;
@@ -271,9 +271,8 @@ record OverlayTaken (body tray chain list : List ℕ) : Type 0 where
   opaque : some seeThroughFrame (q .frames) ≡ false
 
 overlay-read : (body tray chain : List ℕ) (flag : Bool) (list : List ℕ) (x y : ℕ) (a : Point) → overlayPoint body tray chain flag list x y ≡ done a → OverlayTaken body tray chain list
-unfolding overlayPoint
 overlay-read body tray chain flag list x y a e =
-    let i = on-number _ _ a e in
+    let i = on-number _ _ a (sym (overlay-steps body tray chain flag list x y) ∙ e) in
     let j = andThen-done _ _ a (i .3) in
     let k = andThen-done _ _ a (j .2) in
     record { n = i .0; at = i .1; number = i .2; es = j .0; chained = j .1; q = k .0; taken = k .1; opaque = refuse-done _ _ _ a (k .2) .0 }
@@ -281,8 +280,7 @@ overlay-read body tray chain flag list x y a e =
 module _ (body tray chain : List ℕ) (flag : Bool) (list : List ℕ) where
   overlay-points : (c : List ℕ) (r : OverlayTaken body tray c list) (x y : ℕ)
       → overlayPoint body tray c flag list x y ≡ pointOn (r .es) flag (r .q .descriptor .«output_width») (r .q .descriptor .«output_height») x y (overlayNames body (r .q))
-  unfolding overlayPoint
-  overlay-points c r x y = on-taken _ (r .number) ∙ then-done _ (r .chained) ∙ then-done _ (r .taken) ∙ refuse-no _ _ (r .opaque)
+  overlay-points c r x y = overlay-steps body tray c flag list x y ∙ on-taken _ (r .number) ∙ then-done _ (r .chained) ∙ then-done _ (r .taken) ∙ refuse-no _ _ (r .opaque)
 
   overlay-places : (r : OverlayTaken body tray chain list) → Places tray chain flag (overlayPoint body tray chain flag list) (overlayPoint body tray noChain flag list) (r .es)
   overlay-places r =
@@ -303,14 +301,15 @@ module _ (body tray chain : List ℕ) (flag : Bool) (list : List ℕ) where
 
 -- DEMAND 3, of overlays; picture runs whose inputs have no alpha
 pub overlay-demand : (body tray chain : List ℕ) (flag : Bool) (premultiplied : List ℕ) (colour : Colour) → OverlayDemand body tray chain flag premultiplied colour
-unfolding OverlayDemand NoScaling NoAlpha overlayDrawn overlayScene overlayPoint chainSight Agrees
+unfolding OverlayDemand NoScaling NoAlpha overlayDrawn overlayScene chainSight Agrees
 overlay-demand body tray chain flag list colour bytes small =
     record {
       agrees = λ plain output spare m x y.
-          agrees-number (overlayReads body tray colour) x y (readNumber tray 0) _ _
+          agrees-as (overlayReads body tray colour) x y refl (sym (overlay-steps body tray chain flag list x y))
+          (agrees-number (overlayReads body tray colour) x y (readNumber tray 0) _ _
           (λ n at c. agrees-then (overlayReads body tray colour) x y (chainAt chain 0) _ _
           (λ es k. agrees-then (overlayReads body tray colour) x y (inputsAt body tray list n at) _ _
-          (λ q e. inputs-agree body tray list colour bytes flag n at c es (unscaled flag es (plain .0 es k)) q e (plain .1) (chain-back es flag (composed body tray list colour q) (overlay-tame body tray list colour n at q bytes c e)) x y)))
+          (λ q e. inputs-agree body tray list colour bytes flag n at c es (unscaled flag es (plain .0 es k)) q e (plain .1) (chain-back es flag (composed body tray list colour q) (overlay-tame body tray list colour n at q bytes c e)) x y))))
           output spare m;
       blind = λ other a x y. overlay-blind body tray other chain flag list x y a;
       once = λ x y u v a b k p. places-once tray chain flag _ _ _ (overlay-places body tray chain flag list (overlay-read body tray chain flag list x y a p)) x y u v a b k p;

@@ -23,7 +23,7 @@ use Rattle.transform.specs.Place.{Place, sideways, swaps, unturn}
 use Rattle.transform.specs.Turn.{Quarter, quarterOf}
 use Rattle.sight.proofs.Quarters.{by-quarter, mirror-below, quarter-3}
 use Rattle.sight.proofs.Turns.{crop-inside, exchange-inside, exchange-row, place-path, unturn-in, unturn-inside}
-use Rattle.sight.specs.Sight.{Bounded, Lies, back, backFrom, cropFrom, exchange, exchangeRect, finalHeight, finalWidth, highOf, mirrorTurns, placeOf, sightAfter, sightOf, thenCrop, thenMirror, thenTurn, unturnRect, whole, wideOf, within}
+use Rattle.sight.specs.Sight.{Bounded, Lies, back, backFrom, boundedPlaceOf, cropFrom, exchange, exchangeRect, finalHeight, finalWidth, highOf, mirrorTurns, placeOf, sightAfter, sightOf, thenCrop, thenMirror, thenTurn, unturnRect, whole, wideOf, within}
 use Rattle.sight.specs.declared.CanvasPlace.{CanvasPlace}
 use Rattle.sight.specs.declared.Sight.{Sight}
 
@@ -147,6 +147,19 @@ place-found s x y k r i j l e =
     let p : k ≡ exchange (s .exchanged) (s .area .width) u .x = e ∙ ap (λ (n : ℕ). pick (s .exchanged) (s .area .width - n - 1) n) (l .x) ∙ exchange-column (s .exchanged) (s .area .width) u in
     let q : r .y ≡ exchange (s .exchanged) (s .area .width) u .y = l .y ∙ sym (exchange-row (s .exchanged) (s .area .width) u) in
     ap done (place-path (ap (λ (n : ℕ). s .area .x + n) p) (ap (λ (n : ℕ). s .area .y + n) q)) ∙ sym (place-in s x y i j)
+
+-- 18 a far edge that is no 32-bit number
+pub far-across : (s : Sight) (x y : ℕ) → 2 ^ 32 ≤ s .area .x + s .area .width → refused (reason 18) ≡ boundedPlaceOf s x y
+unfolding boundedPlaceOf
+far-across s x y h = sym (refuse-yes _ _ (le-leb (2 ^ 32) _ h))
+
+pub far-down : (s : Sight) (x y : ℕ) → s .area .x + s .area .width < 2 ^ 32 → 2 ^ 32 ≤ s .area .y + s .area .height → refused (reason 18) ≡ boundedPlaceOf s x y
+unfolding boundedPlaceOf
+far-down s x y h i = sym (refuse-no _ _ (lt-leb (2 ^ 32) _ h) ∙ refuse-yes _ _ (le-leb (2 ^ 32) _ i))
+
+pub bounded-place : (s : Sight) (x y : ℕ) → Bounded (s .area) → boundedPlaceOf s x y ≡ placeOf s x y
+unfolding boundedPlaceOf
+bounded-place s x y b = refuse-no _ _ (lt-leb (2 ^ 32) _ (b .across)) ∙ refuse-no _ _ (lt-leb (2 ^ 32) _ (b .down))
 
 -- ---- a sight's numbers stay 32-bit, and its rectangle inside
 

@@ -56,6 +56,13 @@ back s x y = backFrom (s .area) (s .exchanged) (quarterOf (s .turns)) x y
 unfoldable pub placeOf : Sight → ℕ → ℕ → Out Place
 placeOf s x y = refuse (leb (finalWidth s) x) 18 (refuse (leb (finalHeight s) y) 18 (done (back s x y)))
 
+-- the same for any numbers: before it, 18 a far edge of the rectangle that is no 32-bit number, which no chain leaves
+unfoldable pub boundedPlaceOf : Sight → ℕ → ℕ → Out Place
+boundedPlaceOf s x y =
+    refuse (leb (2 ^ 32) (s .area .x + s .area .width)) 18
+    (refuse (leb (2 ^ 32) (s .area .y + s .area .height)) 18
+    (placeOf s x y))
+
 -- ---- what an entry makes of a sight
 
 -- where a rectangle of the final picture lies before the turns of a picture w by h, and before the exchange

@@ -7,7 +7,7 @@ ghost use Rattle.props.specs.Chain.{Judged, applies, chainAt, entriesAt};
 ghost use Rattle.props.specs.Sound.{Inside};
 ghost use Rattle.transform.specs.Place.{unturn};
 ghost use Rattle.transform.specs.Turn.{quarterOf};
-ghost use Rattle.sight.specs.Sight.{whole, finalWidth, finalHeight, unturnRect, thenCrop, thenTurn, thenMirror, sightAfter, sightOf, placeOf, sightOut, placeOut, Bounded, Lies};
+ghost use Rattle.sight.specs.Sight.{whole, finalWidth, finalHeight, unturnRect, thenCrop, thenTurn, thenMirror, sightAfter, sightOf, placeOf, boundedPlaceOf, sightOut, placeOut, Bounded, Lies};
 use laws::Refusal;
 use props::Chain;
 use props::ChainRead;
@@ -239,8 +239,8 @@ impl Sight {
         }
     }
 
-    // The place of the picture that a final place shows. Refusal: 18 a place outside.
-    pub fn place(self, column: u32, row: u32) -> PlaceRead
+    // The same in the picture, of a rectangle whose far edges are 32-bit numbers. Refusal: 18 a place outside.
+    fn bounded_place(self, column: u32, row: u32) -> PlaceRead
         requires { ⌜ Bounded (self .area) ⌝ }
         ensures { λ r. ⌜ placeOut r ≡ placeOf self column row ⌝ }
     {
@@ -257,6 +257,21 @@ impl Sight {
             x: area.x + x,
             y: area.y + l.y,
         })
+    }
+
+    // The place of the picture that a final place shows. Refusals: 18 a far edge that is no 32-bit number, which no chain leaves; 18 a
+    // place outside.
+    pub fn place(self, column: u32, row: u32) -> PlaceRead
+        ensures { λ r. ⌜ placeOut r ≡ boundedPlaceOf self column row ⌝ }
+    {
+        let area = self.area;
+        if area.x as u64 + area.width as u64 > 4294967295 {
+            return PlaceRead::Refused(Refusal::POINT);
+        }
+        if area.y as u64 + area.height as u64 > 4294967295 {
+            return PlaceRead::Refused(Refusal::POINT);
+        }
+        self.bounded_place(column, row)
     }
 }
 

@@ -1,52 +1,54 @@
+use mathlib.Core.Path.{_∙_, sym}
 use native.Mathlib.Omega.{arith}
 use borrow.Author.Needs.{needs}
 use Rattle.sight.proofs.Sight.place.Statement.{statement}
-use Rattle.sight.proofs.Steps.{place-across, place-down, place-found, unexchanged-in, unturned-below}
+use Rattle.sight.proofs.Steps.{bounded-place, far-across, far-down}
 use Rattle.sight.proofs.Sight.place.Tie as tie
 use Rattle.sight.proofs.Sight.place.Reads as reads
 use Rattle.sight.proofs.Sight.place.Lts as lts
-use Rattle.sight.proofs.Sight.height.Reads as height-reads
-use Rattle.sight.proofs.Sight.unexchanged.Reads as unexchanged-reads
-use Rattle.sight.proofs.Sight.unturned_place.Reads as unturned-place-reads
-use Rattle.sight.proofs.Sight.width.Reads as width-reads
+use Rattle.sight.proofs.Sight.bounded_place.Reads as bounded-place-reads
 
-width-requires : tie.Need-width-requires
-width-requires c κs = search needs
+cast-if1 : tie.Need-cast-if1
+cast-if1 c = search needs
+
+cast-if1-2 : tie.Need-cast-if1-2
+cast-if1-2 c = search needs
+
+add-if1 : tie.Need-add-if1
+add-if1 c = search needs
 
 returns : tie.Need-returns
-returns c = place-across (c .before .before .args .self) _ _ _ (c .before .width .ensures) (c .if1 .taken)
+returns c = far-across (c .before .before .before .before .args .self) _ _ (omega (arith, c .if1 .taken))
 
-height-requires : tie.Need-height-requires
-height-requires c κs = search needs
+cast-if2 : tie.Need-cast-if2
+cast-if2 c = search needs
+
+cast-if2-2 : tie.Need-cast-if2-2
+cast-if2-2 c = search needs
+
+add-if2 : tie.Need-add-if2
+add-if2 c = search needs
 
 returns-2 : tie.Need-returns-2
-returns-2 c = place-down (c .before .before .before .before .args .self) _ _ _ _ (c .before .before .before .width .ensures) (c .before .before .if1 .left) (c .before .height .ensures) (c .if2 .taken)
+returns-2 c = far-down (c .before .before .before .before .before .before .before .args .self) _ _ (omega (arith, c .before .before .before .if1 .left)) (omega (arith, c .if2 .taken))
 
-unturned-place-requires : tie.Need-unturned-place-requires
-unturned-place-requires c κs = (omega (arith, c .before .before .before .before .width .ensures, c .before .before .before .if1 .left), omega (arith, c .before .before .height .ensures, c .before .if2 .left))
-
-unexchanged-requires : tie.Need-unexchanged-requires
-unexchanged-requires c κs = unturned-below (c .before .before .before .before .before .before .args .self) (c .before .before .before .before .before .before .args .column) (c .before .before .before .before .before .before .args .row) _ (c .unturned-place .ensures) (omega (arith, c .before .before .before .before .before .width .ensures, c .before .before .before .before .if1 .left)) (omega (arith, c .before .before .before .height .ensures, c .before .before .if2 .left)) .0
-
-add-t7 : tie.Need-add-t7
-add-t7 c = omega (arith, c .before .before .before .before .before .before .before .before .pre .across, unexchanged-in (c .before .before .before .before .before .before .before .before .args .self .exchanged) (c .before .before .before .before .before .before .before .before .args .self .area .width) (c .before .before .unturned-place .result .x) 1 (c .before .unexchanged .result) (unturned-below (c .before .before .before .before .before .before .before .before .args .self) (c .before .before .before .before .before .before .before .before .args .column) (c .before .before .before .before .before .before .before .before .args .row) _ (c .before .before .unturned-place .ensures) (omega (arith, c .before .before .before .before .before .before .before .width .ensures, c .before .before .before .before .before .before .if1 .left)) (omega (arith, c .before .before .before .before .before .height .ensures, c .before .before .before .before .if2 .left)) .0) (c .before .unexchanged .ensures))
-
-add-t11 : tie.Need-add-t11
-add-t11 c = omega (arith, c .before .before .before .before .before .before .before .before .before .before .pre .down, unturned-below (c .before .before .before .before .before .before .before .before .before .before .args .self) (c .before .before .before .before .before .before .before .before .before .before .args .column) (c .before .before .before .before .before .before .before .before .before .before .args .row) _ (c .before .before .before .before .unturned-place .ensures) (omega (arith, c .before .before .before .before .before .before .before .before .before .width .ensures, c .before .before .before .before .before .before .before .before .if1 .left)) (omega (arith, c .before .before .before .before .before .before .before .height .ensures, c .before .before .before .before .before .before .if2 .left)) .1)
+bounded-place-requires : tie.Need-bounded-place-requires
+bounded-place-requires c κs = search needs
 
 returns-3 : tie.Need-returns-3
-returns-3 c = place-found (c .before .before .before .before .before .before .before .before .before .before .args .self) (c .before .before .before .before .before .before .before .before .before .before .args .column) (c .before .before .before .before .before .before .before .before .before .before .args .row) (c .before .before .before .unexchanged .result) (c .before .before .before .before .unturned-place .result) (omega (arith, c .before .before .before .before .before .before .before .before .before .width .ensures, c .before .before .before .before .before .before .before .before .if1 .left)) (omega (arith, c .before .before .before .before .before .before .before .height .ensures, c .before .before .before .before .before .before .if2 .left)) (c .before .before .before .before .unturned-place .ensures) (c .before .before .before .unexchanged .ensures)
+returns-3 c = c .bounded-place .ensures ∙ sym (bounded-place (c .before .before .before .before .before .before .before .before .args .self) _ _ (record { across = omega (arith, c .before .before .before .before .if1 .left); down = omega (arith, c .before .if2 .left) }))
 
 pub place-spec : {M : Type 1} → statement M
 place-spec =
     tie.close
     (tie.spec
-    width-requires
+    cast-if1
+    cast-if1-2
+    add-if1
     returns
-    height-requires
+    cast-if2
+    cast-if2-2
+    add-if2
     returns-2
-    unturned-place-requires
-    unexchanged-requires
-    add-t7
-    add-t11
+    bounded-place-requires
     returns-3)

@@ -1,0 +1,92 @@
+use mathlib.Core.Path.{_∙_, ap, sym}
+use borrow.Author.Needs.{needs}
+use Rattle.props.proofs.ChainLaws.{judged-chain}
+use Rattle.props.specs.Chain.{chainOut}
+use Rattle.sight.specs.Sight.{sightOut}
+use Rattle.overlay.specs.Block.{planOut}
+use Rattle.point.proofs.PointLaws.{overlay-alpha, overlay-chain, overlay-done, overlay-inputs, overlay-malformed, overlay-sight}
+use Rattle.point.proofs.look.look_overlay.Statement.{statement}
+use Rattle.point.proofs.look.look_overlay.Tie as tie
+use Rattle.point.proofs.look.look_overlay.Reads as reads
+use Rattle.point.proofs.look.look_overlay.Lts as lts
+use Rattle.numbers.proofs.read_number.Reads as read-number-reads
+use Rattle.overlay.proofs.read_inputs.Reads as read-inputs-reads
+use Rattle.props.proofs.check_chain.Reads as check-chain-reads
+use Rattle.sight.proofs.reduce_judged.Reads as reduce-judged-reads
+
+read-number-requires : tie.Need-read-number-requires
+read-number-requires c κs = search needs
+
+enum-known-count : tie.Need-enum-known-count
+enum-known-count c = search needs
+
+enum-told : tie.Need-enum-told
+enum-told c = search needs
+
+returns : tie.Need-returns
+returns c = overlay-malformed _ _ _ _ _ (sym (c .before .before .read-number .ensures) ∙ c .enum-told .given .1)
+
+check-chain-requires : tie.Need-check-chain-requires
+check-chain-requires c κs = search needs
+
+enum-known-e : tie.Need-enum-known-e
+enum-known-e c = search needs
+
+enum-known-c : tie.Need-enum-known-c
+enum-known-c c = search needs
+
+read-inputs-requires : tie.Need-read-inputs-requires
+read-inputs-requires c κs = search needs
+
+enum-known-e-2 : tie.Need-enum-known-e-2
+enum-known-e-2 c = search needs
+
+enum-known-q : tie.Need-enum-known-q
+enum-known-q c = search needs
+
+returns-2 : tie.Need-returns-2
+returns-2 c = overlay-alpha _ _ _ _ _ _ _ (sym (c .before .before .before .before .before .before .before .before .before .before .before .before .read-number .ensures) ∙ c .before .before .before .before .before .before .before .before .before .before .count .given .1) _ (sym (c .before .before .before .before .before .before .before .before .check-chain .ensures) ∙ ap chainOut (c .before .before .before .before .before .before .c .given .1)) _ (sym (c .before .before .before .before .read-inputs .ensures) ∙ ap planOut (c .before .before .q .given .1)) (c .if1 .taken)
+
+reduce-judged-requires : tie.Need-reduce-judged-requires
+reduce-judged-requires c κs = judged-chain _ _ _ (sym (c .before .before .before .before .before .before .before .before .before .check-chain .ensures) ∙ ap chainOut (c .before .before .before .before .before .before .before .c .given .1)) .0
+
+enum-known-e-3 : tie.Need-enum-known-e-3
+enum-known-e-3 c = search needs
+
+enum-known-sight : tie.Need-enum-known-sight
+enum-known-sight c = search needs
+
+returns-3 : tie.Need-returns-3
+returns-3 c = overlay-chain _ _ _ _ _ _ _ (sym (c .before .before .before .before .before .before .before .read-number .ensures) ∙ c .before .before .before .before .before .count .given .1) _ (sym (c .before .before .before .check-chain .ensures) ∙ ap chainOut (c .before .e .given .1))
+
+returns-4 : tie.Need-returns-4
+returns-4 c = overlay-inputs _ _ _ _ _ _ _ (sym (c .before .before .before .before .before .before .before .before .before .before .before .read-number .ensures) ∙ c .before .before .before .before .before .before .before .before .before .count .given .1) _ (sym (c .before .before .before .before .before .before .before .check-chain .ensures) ∙ ap chainOut (c .before .before .before .before .before .c .given .1)) _ (sym (c .before .before .before .read-inputs .ensures) ∙ ap planOut (c .before .e2 .given .1))
+
+returns-5 : tie.Need-returns-5
+returns-5 c = overlay-sight _ _ _ _ _ _ _ (sym (c .before .before .before .before .before .before .before .before .before .before .before .before .before .before .before .before .before .read-number .ensures) ∙ c .before .before .before .before .before .before .before .before .before .before .before .before .before .before .before .count .given .1) _ (sym (c .before .before .before .before .before .before .before .before .before .before .before .before .before .check-chain .ensures) ∙ ap chainOut (c .before .before .before .before .before .before .before .before .before .before .before .c .given .1)) _ (sym (c .before .before .before .before .before .before .before .before .before .read-inputs .ensures) ∙ ap planOut (c .before .before .before .before .before .before .before .q .given .1)) (c .before .before .before .before .before .if1 .left) _ (sym (c .before .before .before .reduce-judged .ensures) ∙ ap sightOut (c .before .e3 .given .1))
+
+returns-6 : tie.Need-returns-6
+returns-6 c = overlay-done _ _ _ _ _ _ _ (sym (c .before .before .before .before .before .before .before .before .before .before .before .before .before .before .before .before .before .read-number .ensures) ∙ c .before .before .before .before .before .before .before .before .before .before .before .before .before .before .before .count .given .1) _ (sym (c .before .before .before .before .before .before .before .before .before .before .before .before .before .check-chain .ensures) ∙ ap chainOut (c .before .before .before .before .before .before .before .before .before .before .before .c .given .1)) _ (sym (c .before .before .before .before .before .before .before .before .before .read-inputs .ensures) ∙ ap planOut (c .before .before .before .before .before .before .before .q .given .1)) (c .before .before .before .before .before .if1 .left) _ (sym (c .before .before .before .reduce-judged .ensures) ∙ ap sightOut (c .before .sight .given .1))
+
+pub look-overlay-spec : {M : Type 1} → statement M
+look-overlay-spec =
+    tie.close
+    (tie.spec
+    read-number-requires
+    enum-known-count
+    enum-told
+    returns
+    check-chain-requires
+    enum-known-e
+    enum-known-c
+    read-inputs-requires
+    enum-known-e-2
+    enum-known-q
+    returns-2
+    reduce-judged-requires
+    enum-known-e-3
+    enum-known-sight
+    returns-3
+    returns-4
+    returns-5
+    returns-6)

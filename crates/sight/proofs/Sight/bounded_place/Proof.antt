@@ -1,0 +1,52 @@
+use native.Mathlib.Omega.{arith}
+use borrow.Author.Needs.{needs}
+use Rattle.sight.proofs.Sight.bounded_place.Statement.{statement}
+use Rattle.sight.proofs.Steps.{place-across, place-down, place-found, unexchanged-in, unturned-below}
+use Rattle.sight.proofs.Sight.bounded_place.Tie as tie
+use Rattle.sight.proofs.Sight.bounded_place.Reads as reads
+use Rattle.sight.proofs.Sight.bounded_place.Lts as lts
+use Rattle.sight.proofs.Sight.height.Reads as height-reads
+use Rattle.sight.proofs.Sight.unexchanged.Reads as unexchanged-reads
+use Rattle.sight.proofs.Sight.unturned_place.Reads as unturned-place-reads
+use Rattle.sight.proofs.Sight.width.Reads as width-reads
+
+width-requires : tie.Need-width-requires
+width-requires c κs = search needs
+
+returns : tie.Need-returns
+returns c = place-across (c .before .before .args .self) _ _ _ (c .before .width .ensures) (c .if1 .taken)
+
+height-requires : tie.Need-height-requires
+height-requires c κs = search needs
+
+returns-2 : tie.Need-returns-2
+returns-2 c = place-down (c .before .before .before .before .args .self) _ _ _ _ (c .before .before .before .width .ensures) (c .before .before .if1 .left) (c .before .height .ensures) (c .if2 .taken)
+
+unturned-place-requires : tie.Need-unturned-place-requires
+unturned-place-requires c κs = (omega (arith, c .before .before .before .before .width .ensures, c .before .before .before .if1 .left), omega (arith, c .before .before .height .ensures, c .before .if2 .left))
+
+unexchanged-requires : tie.Need-unexchanged-requires
+unexchanged-requires c κs = unturned-below (c .before .before .before .before .before .before .args .self) (c .before .before .before .before .before .before .args .column) (c .before .before .before .before .before .before .args .row) _ (c .unturned-place .ensures) (omega (arith, c .before .before .before .before .before .width .ensures, c .before .before .before .before .if1 .left)) (omega (arith, c .before .before .before .height .ensures, c .before .before .if2 .left)) .0
+
+add-t7 : tie.Need-add-t7
+add-t7 c = omega (arith, c .before .before .before .before .before .before .before .before .pre .across, unexchanged-in (c .before .before .before .before .before .before .before .before .args .self .exchanged) (c .before .before .before .before .before .before .before .before .args .self .area .width) (c .before .before .unturned-place .result .x) 1 (c .before .unexchanged .result) (unturned-below (c .before .before .before .before .before .before .before .before .args .self) (c .before .before .before .before .before .before .before .before .args .column) (c .before .before .before .before .before .before .before .before .args .row) _ (c .before .before .unturned-place .ensures) (omega (arith, c .before .before .before .before .before .before .before .width .ensures, c .before .before .before .before .before .before .if1 .left)) (omega (arith, c .before .before .before .before .before .height .ensures, c .before .before .before .before .if2 .left)) .0) (c .before .unexchanged .ensures))
+
+add-t11 : tie.Need-add-t11
+add-t11 c = omega (arith, c .before .before .before .before .before .before .before .before .before .before .pre .down, unturned-below (c .before .before .before .before .before .before .before .before .before .before .args .self) (c .before .before .before .before .before .before .before .before .before .before .args .column) (c .before .before .before .before .before .before .before .before .before .before .args .row) _ (c .before .before .before .before .unturned-place .ensures) (omega (arith, c .before .before .before .before .before .before .before .before .before .width .ensures, c .before .before .before .before .before .before .before .before .if1 .left)) (omega (arith, c .before .before .before .before .before .before .before .height .ensures, c .before .before .before .before .before .before .if2 .left)) .1)
+
+returns-3 : tie.Need-returns-3
+returns-3 c = place-found (c .before .before .before .before .before .before .before .before .before .before .args .self) (c .before .before .before .before .before .before .before .before .before .before .args .column) (c .before .before .before .before .before .before .before .before .before .before .args .row) (c .before .before .before .unexchanged .result) (c .before .before .before .before .unturned-place .result) (omega (arith, c .before .before .before .before .before .before .before .before .before .width .ensures, c .before .before .before .before .before .before .before .before .if1 .left)) (omega (arith, c .before .before .before .before .before .before .before .height .ensures, c .before .before .before .before .before .before .if2 .left)) (c .before .before .before .before .unturned-place .ensures) (c .before .before .before .unexchanged .ensures)
+
+pub bounded-place-spec : {M : Type 1} → statement M
+bounded-place-spec =
+    tie.close
+    (tie.spec
+    width-requires
+    returns
+    height-requires
+    returns-2
+    unturned-place-requires
+    unexchanged-requires
+    add-t7
+    add-t11
+    returns-3)
