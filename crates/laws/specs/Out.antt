@@ -8,9 +8,9 @@ use Rattle.laws.specs.declared.Refusal.{Refusal}
 use Rattle.laws.specs.declared.Answer.{Answer}
 use Rattle.laws.specs.declared.Answer.the-variants.{Wrote, Refused}
 
--- the refusal of document 01's number
+-- the refusal of document 01's number, of no item
 abbrev pub reason : ℕ → Refusal
-reason n = record { number = n }
+reason n = record { number = n; sort = 0; index = 0 }
 
 pub data Out (A : Type 0) : Type 0 where
   refused : Refusal → Out A
