@@ -1,5 +1,6 @@
 pub mod Order
 pub mod Out
+pub mod Ascii
 pub mod Span
 pub mod Puts
 pub mod Writing

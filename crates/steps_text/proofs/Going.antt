@@ -5,7 +5,9 @@ use Prim.Native.Nat.{_+_, _-_, _<_, _≤_, ℕ}
 use native.Mathlib.Omega.{arith}
 use lib.ListN.{length, length-append}
 use Rattle.laws.proofs.Puts.{puts-append}
+use Rattle.laws.specs.Ascii.{ascii, characterBytes}
 use Rattle.laws.specs.Out.{done, refused}
+use Rattle.laws.specs.Pick.{pick}
 use Rattle.laws.specs.Puts.{puts}
 use Rattle.laws.specs.declared.Refusal.{Refusal}
 use Rattle.props.specs.Chain.{entriesAt}
@@ -34,7 +36,7 @@ going-start s i e =
     (record { few = k .0 .few; within = omega arith; rest = k .0 .entries; left = ap (λ n. entriesAt n s (i .chain .first)) z ∙ k .0 .read }, k .1)
 
 pub heading-lines : (s lines : List ℕ) → textOf s ≡ heading ++ lines → 23 + length lines ≡ length (textOf s)
-unfolding heading
+unfolding heading ascii characterBytes pick
 heading-lines s lines e = sym (ap length e ∙ length-append heading lines)
 
 -- an entry that is left stands there

@@ -7,7 +7,9 @@ use lib.ListN.{length, length-append, set, take}
 use Rattle.laws.proofs.Order.{apart, by-order}
 use Rattle.laws.proofs.Out.{andThen-done, done-answers, done-same, fitted-room, fitted-short, not-done, then-done, then-refused}
 use Rattle.laws.proofs.Puts.{puts-append}
+use Rattle.laws.specs.Ascii.{ascii, characterBytes}
 use Rattle.laws.specs.Out.{Out, andThen, answerOf, done, fitted, reason, refused, written}
+use Rattle.laws.specs.Pick.{pick}
 use Rattle.laws.specs.Puts.{puts}
 use Rattle.laws.specs.declared.Answer.the-variants.{Wrote}
 use Rattle.laws.specs.declared.Refusal.{Refusal}
@@ -68,7 +70,7 @@ length-line i kind z =
     omega (arith, length-field i 32, length-field kind 32, length-field (z .width) 32, length-field (z .height) 10)
 
 pub length-refusal : (e : Refusal) → length (refusalText e) ≡ length (decimal (e .number)) + 9
-unfolding refusalText refusedWord
+unfolding refusalText refusedWord ascii characterBytes pick
 length-refusal e = omega (arith, length-append refusedWord (fieldText (e .number) 10), length-field (e .number) 10)
 
 pub length-refused : (i kind : ℕ) (e : Refusal) → length (refusedLine i kind e) ≡ length (decimal i) + length (decimal kind) + 2 + length (refusalText e)
@@ -187,7 +189,7 @@ steps-few s t e =
     omega (arith, chain-few s (b .1) (c .0) (c .1), ap (λ x. length (x .entries)) (done-same _ t (d .2)))
 
 pub text-short : (s : List ℕ) → length (textOf s) ≤ 11287
-unfolding textOf outText heading
+unfolding textOf outText heading ascii characterBytes pick
 text-short s = go (stepsOf s) refl
   where
     go : (o : Out Steps) → stepsOf s ≡ o → length (outText o) ≤ 11287

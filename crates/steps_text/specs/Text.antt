@@ -1,6 +1,8 @@
 -- The text that `steps` prints, in ASCII (document 01, "Steps program"). Assumes nothing.
 use mathlib.Core.List.{List, [], _++_, _∷_}
+use Prim.Native.Char.{code}
 use Prim.Native.Nat.{_+_, ℕ}
+use Rattle.laws.specs.Ascii.{ascii}
 use Rattle.laws.specs.Out.{Out, done, refused}
 use Rattle.laws.specs.declared.Refusal.{Refusal}
 use Rattle.numbers.specs.Decimal.{decimal}
@@ -10,30 +12,26 @@ use Rattle.props.specs.declared.entry.PropertyEntry.{PropertyEntry}
 use Rattle.props.specs.declared.size.Size.{Size}
 use Rattle.steps_text.specs.Input.{Steps, stepsOf}
 
--- "step kind width height" and the end of the line
 unfoldable pub heading : List ℕ
-heading =
-    115 ∷ 116 ∷ 101 ∷ 112 ∷ 32 ∷ 107 ∷ 105 ∷ 110 ∷ 100 ∷ 32 ∷ 119 ∷ 105 ∷ 100 ∷ 116 ∷ 104 ∷ 32
-    ∷ 104 ∷ 101 ∷ 105 ∷ 103 ∷ 104 ∷ 116 ∷ 10 ∷ []
+heading = ascii "step kind width height\n"
 
--- "refused "
 unfoldable pub refusedWord : List ℕ
-refusedWord = 114 ∷ 101 ∷ 102 ∷ 117 ∷ 115 ∷ 101 ∷ 100 ∷ 32 ∷ []
+refusedWord = ascii "refused "
 
--- a number in decimal and what stands after it: a space, 32, or the end of the line, 10
+-- a number in decimal and what stands after it: a space or the end of the line
 unfoldable pub fieldText : ℕ → ℕ → List ℕ
 fieldText n after = decimal n ++ (after ∷ [])
 
 -- an entry's index and kind and the size after it
 unfoldable pub lineText : ℕ → ℕ → Size → List ℕ
-lineText i kind z = fieldText i 32 ++ (fieldText kind 32 ++ (fieldText (z .width) 32 ++ fieldText (z .height) 10))
+lineText i kind z = fieldText i (code " ") ++ (fieldText kind (code " ") ++ (fieldText (z .width) (code " ") ++ fieldText (z .height) (code "\n")))
 
 -- `refused` and its number
 unfoldable pub refusalText : Refusal → List ℕ
-refusalText e = refusedWord ++ fieldText (e .number) 10
+refusalText e = refusedWord ++ fieldText (e .number) (code "\n")
 
 unfoldable pub refusedLine : ℕ → ℕ → Refusal → List ℕ
-refusedLine i kind e = fieldText i 32 ++ (fieldText kind 32 ++ refusalText e)
+refusedLine i kind e = fieldText i (code " ") ++ (fieldText kind (code " ") ++ refusalText e)
 
 -- the line of an entry, and what follows it: a refused entry ends the text
 unfoldable pub lineThen : ℕ → ℕ → Out Size → (Size → List ℕ) → List ℕ

@@ -2,6 +2,8 @@ use native.Mathlib.Omega.{arith}
 use denote.Ref.{now}
 use borrow.Author.Needs.{needs}
 use Rattle.laws.proofs.Writing.{Writing, writing-last, writing-run, writing-start}
+use Rattle.laws.specs.Ascii.{ascii, characterBytes}
+use Rattle.laws.specs.Pick.{pick}
 use Rattle.steps_text.proofs.TextLaws.{length-refusal}
 use Rattle.steps_text.specs.Text.{fieldText, refusalText, refusedWord}
 use Rattle.steps_text.proofs.line.put_refusal.Statement.{statement}
@@ -12,7 +14,7 @@ use Rattle.image.proofs.copy_row.Reads as copy-row-reads
 use Rattle.steps_text.proofs.line.put_field.Reads as put-field-reads
 
 w1 : (c : tie.After-copy-row) → Writing (now (c .before .before .before .before .args .out)) (c .before .before .before .before .args .at) (refusalText (c .before .before .before .before .args .e)) (c .copy-row .last .0) (c .copy-row .result) (fieldText (c .before .before .before .before .args .e .number) 10)
-unfolding refusalText refusedWord
+unfolding refusalText refusedWord ascii characterBytes pick
 w1 c = writing-run refusedWord (writing-start _ _ _ (c .before .before .before .before .pre)) (c .copy-row .ensures .0) (c .copy-row .ensures .1)
 
 slice-aggregate-copy-row : tie.Need-slice-aggregate-copy-row

@@ -5,6 +5,8 @@ use native.Mathlib.Omega.{arith}
 use denote.Ref.{now}
 use borrow.Author.Needs.{needs}
 use Rattle.laws.proofs.Writing.{Writing, writing-as, writing-done, writing-fits, writing-last, writing-run, writing-start}
+use Rattle.laws.specs.Ascii.{ascii, characterBytes}
+use Rattle.laws.specs.Pick.{pick}
 use Rattle.props.specs.Size.{sizeOut}
 use Rattle.steps_text.proofs.Going.{Going, going-end, going-next, going-refused, going-stands, going-start, heading-lines, text-stored}
 use Rattle.steps_text.specs.Text.{heading, lineText, linesFrom, refusedLine, textOf}
@@ -53,7 +55,7 @@ same-length : tie.Need-same-length Inv-loop μ-loop
 same-length c = c .before .before .put-refused-line .kept .0 ∙ c .before .before .before .before .before .before .before .before .before .loop .inv .3 .long ∙ c .before .before .before .before .before .before .before .before .before .before .before .before .copy-row .kept .0
 
 returns : tie.Need-returns Inv-loop μ-loop
-unfolding heading
+unfolding heading ascii characterBytes pick
 returns c = text-stored _ _ _ _ _ _ _ (c .before .before .before .before .before .before .before .before .before .loop .inv .1) (c .before .before .before .before .before .before .before .before .before .before .before .before .copy-row .ensures .0) (c .before .before .before .before .before .before .before .before .before .before .before .before .copy-row .ensures .1) (writing-last (last-line (c .before .before .before)) (c .before .before .put-refused-line .ensures .0) (c .before .before .put-refused-line .ensures .1))
 
 enum-known-after-2 : tie.Need-enum-known-after-2 Inv-loop μ-loop
@@ -75,7 +77,7 @@ same-length-2 : tie.Need-same-length-2 Inv-loop μ-loop
 same-length-2 c = c .before .loop .inv .3 .long ∙ c .before .before .before .before .copy-row .kept .0
 
 returns-2 : tie.Need-returns-2 Inv-loop μ-loop
-unfolding heading
+unfolding heading ascii characterBytes pick
 returns-2 c = text-stored _ _ _ _ _ _ _ (c .before .loop .inv .1) (c .before .before .before .before .copy-row .ensures .0) (c .before .before .before .before .copy-row .ensures .1) (writing-done (writing-as (c .before .loop .inv .3) (going-end _ _ _ _ (c .before .loop .size) (c .before .loop .inv .2) (c .loop-test .left))))
 
 pub write-text-spec : {M : Type 1} → statement M
