@@ -7,7 +7,7 @@ use Rattle.image.specs.declared.format.Form.{Form}
 use Rattle.image.specs.declared.record.Plane.{Plane}
 use Rattle.image.specs.declared.record.Frame.{Frame}
 
--- a record's form and planes as 17 words
+-- a record as 17 words: five of its form, then three of each plane
 unfoldable pub formWords : Form → List ℕ
 formWords m = m .width ∷ m .height ∷ m .format .chroma ∷ m .format .depth ∷ m .format .alpha ∷ []
 

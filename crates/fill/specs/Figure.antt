@@ -28,18 +28,19 @@ greenOf m = 10000 - (redOf m + blueOf m)
 abbrev pub primary : ℕ → Fraction
 primary v = record { plus = v; minus = 0; over = 65535 }
 
--- E'Y = KR E'R + KG E'G + KB E'B: the numerator over 10000 * 65535
+-- H.273, 8.3, equation 38, E'Y = KR E'R + KG E'G + KB E'B: the numerator over 10000 * 65535
 abbrev pub lumaN : ℕ → ℕ → ℕ → ℕ → ℕ
 lumaN m r g b = redOf m * r + greenOf m * g + blueOf m * b
 
 abbrev pub luma : ℕ → ℕ → ℕ → ℕ → Fraction
 luma m r g b = record { plus = lumaN m r g b; minus = 0; over = 655350000 }
 
--- E'PB = (E'B - E'Y) / (2 (1 - KB)), and E'PR by red and its weight
+-- equations 39 and 40, E'PB = (E'B - E'Y) / (2 (1 - KB)), and E'PR by red and its weight
 abbrev pub difference : ℕ → ℕ → ℕ → Fraction
 difference k c l = record { plus = c * 10000; minus = l; over = 65535 * (2 * (10000 - k)) }
 
--- full range: (2 ^ d - 1) E'Y, and (2 ^ d - 1) E'PB + 2 ^ (d - 1); studio range: 2 ^ (d - 8) (219 E'Y + 16), and 2 ^ (d - 8) (224 E'PB + 128)
+-- full range: (2 ^ d - 1) E'Y, and (2 ^ d - 1) E'PB + 2 ^ (d - 1); studio range (equations 20 to 22): 2 ^ (d - 8) (219 E'Y + 16), and
+-- 2 ^ (d - 8) (224 E'PB + 128)
 abbrev pub fullLuma : ℕ → Fraction → Fraction
 fullLuma d x = times (topAt d) x
 

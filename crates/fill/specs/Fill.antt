@@ -19,7 +19,7 @@ nclxOf (Colour.Nclx n) = n
 
 -- ---- weights
 
--- the weights of red and blue in ten-thousandths: matrix 1, 4, 7, 9 and 10; 6 and any other
+-- the weights of red and blue in ten-thousandths (H.273, Table 4): matrix 1, 4, 7, 9 and 10; 6 and any other
 unfoldable pub tableOf : ℕ → ℕ × ℕ
 tableOf m =
     pick (eqb m 1) (2126, 722)
@@ -41,7 +41,7 @@ weightsFrom kr kb = record { kr = kr; kb = kb; kg = sub (sub (lit 1 1) kr) kb }
 unfoldable pub weightsOf : ℕ → Weights
 weightsOf m = weightsFrom (lit (redOf m) 10000) (lit (blueOf m) 10000)
 
--- ---- H.273's formulas
+-- ---- H.273's formulas (8.3, equations 38 to 40)
 
 -- a colour of 16 bits as a part of 1
 unfoldable pub partOf : ℕ → Float

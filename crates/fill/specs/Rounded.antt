@@ -26,7 +26,7 @@ abbrev pub num : ℕ → Float
 num n = Ieee.ofInt binary64 (pos n)
 
 -- to a whole number, a half away from zero, held to 0 and top. `fin negative m e` is m * up e / down e with its sign; of a number that is
--- not negative it is the whole part of the number and 1/2. A NaN gives 0.
+-- not negative it is the whole part of its sum with 1/2. A NaN gives 0.
 unfoldable pub wholeOf : Float → ℕ → ℕ
 wholeOf nan top = 0
 wholeOf (inf negative) top = cond negative 0 top

@@ -29,7 +29,7 @@ opaqueAt T p x y = pick (hasPart (T .form .format) p) (T .at p x y) (topOf (T .f
 unfoldable pub mosaicAt : (ℕ → Pic) → ℕ → Form → Part → ℕ → ℕ → ℕ
 mosaicAt T columns t p x y = opaqueAt (T (tileIndex columns (columnsOf t p) (rowsOf t p) x y)) p (x % columnsOf t p) (y % rowsOf t p)
 
--- tiles, promoted or as they are, joined on the canvas
+-- tiles, promoted or as they are, joined on the canvas (ISO/IEC 23008-12, 6.6.2.3)
 unfoldable pub gridPic : (ℕ → Pic) → Tiles → Pic
 gridPic T t =
     let b = promotesOf (t .desc) (t .tile) in

@@ -36,7 +36,7 @@ sampleAt d bytes i = pick (eqb bytes 1) (getD d i 0) (getD d i 0 + 256 * getD d 
 unfoldable pub sampleIn : List ℕ → ℕ → ℕ → ℕ → ℕ → ℕ
 sampleIn d bytes stride x y = sampleAt d bytes (y * stride + x * bytes)
 
--- the sample that promotion puts at a place of the picture
+-- the sample that promotion puts at a place of the picture; 2 ^ (depth − 1) where the picture has not the plane
 unfoldable pub promotedIn : List ℕ → PixelFormat → ℕ → Part → ℕ → ℕ → ℕ
 promotedIn d f stride p x y = pick (hasPart f p) (sampleIn d (bytesOf f) stride (cover (halfX f p) x) (cover (halfY f p) y)) (middleOf f)
 

@@ -18,7 +18,7 @@ pub record Pic : Type 0 where
 unfoldable pub sized : Form → ℕ → ℕ → Form
 sized m w h = record { width = w; height = h; format = m .format }
 
--- the form with another chroma
+-- the form at 4:4:4
 unfoldable pub as444 : Form → Form
 as444 m = record { width = m .width; height = m .height; format = record { chroma = 3; depth = m .format .depth; alpha = m .format .alpha } }
 
@@ -26,7 +26,7 @@ as444 m = record { width = m .width; height = m .height; format = record { chrom
 unfoldable pub pixel : Pic → Part → ℕ → ℕ → ℕ
 pixel P p x y = P .at p (cover (halfX (P .form .format) p) x) (cover (halfY (P .form .format) p) y)
 
--- as pixel, with 2 ^ (depth − 1) for the chroma that mono has not
+-- as pixel; 2 ^ (depth − 1) of a plane that the picture has not: the chroma of mono, and a missing alpha, which no picture shows
 unfoldable pub full : Pic → Part → ℕ → ℕ → ℕ
 full P p x y = pick (hasPart (P .form .format) p) (pixel P p x y) (middleOf (P .form .format))
 
@@ -44,7 +44,7 @@ needs444 f oddX oddY = halvesX f && oddX || halvesY f && oddY
 unfoldable pub ensure : Pic → Bool → Bool → Pic
 ensure P oddX oddY = pick (needs444 (P .form .format) oddX oddY) (promote P) P
 
--- an even side where it is halved: what turns and mirrors ask of a picture so that its chroma moves with its places
+-- a side or an offset along an axis: even where the axis is halved, so that no chroma sample reaches across it
 unfoldable pub Evenly : Bool → ℕ → Type 0
 Evenly true n = n % 2 ≡ 0
 Evenly false n = Unit {0}

@@ -15,7 +15,7 @@ pub enum Part {
     Alpha,
 }
 
-// Chroma 0 mono, 1 4:2:0, 2 4:2:2, 3 4:4:4; bits a sample; alpha 0 none, 1 straight.
+// Chroma 0 mono, 1 4:2:0, 2 4:2:2, 3 4:4:4; bits a sample; alpha 0 where there is no alpha plane, 1 where there is one.
 pub struct PixelFormat {
     pub chroma: u32,
     pub depth: u32,

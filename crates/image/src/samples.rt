@@ -53,7 +53,8 @@ pub fn covering(half: bool, x: usize) -> usize
     x
 }
 
-// The sample that promotion to 4:4:4 puts at a place of the picture: the one that covered it, or no colour for mono.
+// The sample that promotion to 4:4:4 puts at a place of the picture: the one that covered it, or 2^(depth - 1) where the picture has
+// not the plane.
 pub fn promoted(
     plane: &[u8],
     format: PixelFormat,

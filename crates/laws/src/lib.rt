@@ -69,7 +69,7 @@ impl Refusal {
         sort: 0,
         index: 0,
     };
-    // A count or an index that differs.
+    // A tray's count or a list's length that differs, or an index outside.
     pub const COUNT: Refusal = Refusal {
         number: 11,
         sort: 0,

@@ -1,4 +1,4 @@
-// The body and the tray of an overlay, read with every refusal but 16 and 17.
+// The body and the records of an overlay whose tray count was read, with every refusal from the body's to 14.
 ghost use mathlib.Core.Path.{_≡_};
 ghost use Prim.Native.Nat.{_≤_};
 ghost use Rattle.laws.specs.Pick.{pick};

@@ -21,7 +21,7 @@ judgedSize width height =
 unfoldable pub swapped : Size → Size
 swapped z = record { width = z .height; height = z .width }
 
--- irot: angle mod 4 quarter turns, of which an odd number exchanges the sides; imir keeps them
+-- irot (ISO/IEC 23008-12, 6.5.10): angle mod 4 quarter turns, of which an odd number exchanges the sides; imir (6.5.12) keeps them
 unfoldable pub sizeAfter : Property → Size → Out Size
 sizeAfter Property.Other z = done z
 sizeAfter (Property.Clap c) z = andThen (resolveOf c (z .width) (z .height)) (λ r. done (record { width = r .width; height = r .height }))

@@ -6,12 +6,12 @@ use crate::iscl::Iscl;
 use laws::Refusal;
 use numbers::NumberRead;
 
-// angle quarter turns anticlockwise
+// Image rotation (ISO/IEC 23008-12, 6.5.10): angle mod 4 quarter turns anticlockwise.
 pub struct Irot {
     pub angle: u8,
 }
 
-// axis 0 exchanges top and bottom, 1 left and right
+// Image mirroring (ISO/IEC 23008-12, 6.5.12): axis mod 2, of which 0 exchanges top and bottom, 1 left and right.
 pub struct Imir {
     pub axis: u8,
 }

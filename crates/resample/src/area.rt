@@ -42,7 +42,7 @@ fn greatest(a: usize, b: usize) -> usize
     a
 }
 
-// a - b, or 0 where that is less.
+// a - b, or 0 where b is larger.
 fn above(a: usize, b: usize) -> usize
     ensures { λ r. ⌜ r ≡ a - b ⌝ }
 {

@@ -88,7 +88,7 @@ fn kept_size(s: &[u8], q: Plane) -> usize
     numbers::number_length(q.stride as u32) + numbers::number_length(len as u32) + len
 }
 
-// The same of a colour plane that a picture has.
+// Writes a colour plane as it stands, if the picture has it, and returns the place past it.
 fn keep_part(out: &mut [u8], at: usize, s: &[u8], fr: Frame, part: Part) -> usize
     requires { ⌜ Whole (now s) fr × (at + length (keptPart (now s) fr part) ≤ length (now out)) ⌝ }
     ensures { λ r. ⌜ (r ≡ at + length (keptPart (now (s .entry)) fr part)) × (now (out .exit) ≡ puts (now (out .entry)) at (keptPart (now (s .entry)) fr part)) ⌝ }

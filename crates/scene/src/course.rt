@@ -1,4 +1,5 @@
-// Where a chain leads, by forms alone: the form it ends with, the longest record on the way, and how often it draws.
+// Where a chain leads, by forms alone: the form it ends with, the longest record on the way, and whether it draws an
+// even number of times.
 ghost use mathlib.Core.Path.{_≡_};
 ghost use mathlib.Core.Bool.{not};
 ghost use Rattle.laws.specs.Out.{done, andThen};

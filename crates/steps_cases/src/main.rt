@@ -15,7 +15,8 @@ fn show(name: &[u8], input: &[u8]) {
     }
 }
 
-// Chains that are taken: the empty one, one of each kind in turn, angles and axes above a turn, an unchanged size above every limit.
+// Chains that are taken: the empty one, one of each kind in turn, angles and axes above a turn, the most pixels, an unchanged size with
+// a side above 2^26.
 fn forms() {
     show(b"empty chain", b"\x06\x04\x00");
     show(

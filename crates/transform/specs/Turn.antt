@@ -16,7 +16,7 @@ cut P r = record {
   at = λ p x y. P .at p (cover (halfX (P .form .format) p) (r .x) + x) (cover (halfY (P .form .format) p) (r .y) + y);
 }
 
--- crop: promotes when x or width (y or height) is odd on a halved axis
+-- crop, and clap with its rectangle (ISO/IEC 14496-12, 12.1.4): promotes when x or width (y or height) is odd on a halved axis
 unfoldable pub crop : Pic → CropRect → Pic
 crop P r = cut (ensure P (odd (r .x) || odd (r .width)) (odd (r .y) || odd (r .height))) r
 
@@ -49,14 +49,14 @@ turned P q3 = record { form = sized (P .form) (P .form .height) (P .form .width)
 unfoldable pub lopsided : PixelFormat → Bool
 lopsided f = eqb (f .chroma) 2
 
--- irot: a halved side that is odd promotes, and a quarter turn of 4:2:2 always does
+-- irot (ISO/IEC 23008-12, 6.5.10): a halved side that is odd promotes, and a quarter turn of 4:2:2 always does
 unfoldable pub turn : Pic → Quarter → Pic
 turn P q0 = P
 turn P q1 = turned (ensure P (lopsided (P .form .format) || odd (P .form .width)) (lopsided (P .form .format) || odd (P .form .height))) q1
 turn P q2 = turned (ensure P (odd (P .form .width)) (odd (P .form .height))) q2
 turn P q3 = turned (ensure P (lopsided (P .form .format) || odd (P .form .width)) (lopsided (P .form .format) || odd (P .form .height))) q3
 
--- imir: true exchanges left and right, false top and bottom; never promotes
+-- imir (ISO/IEC 23008-12, 6.5.12): true exchanges left and right, false top and bottom; never promotes
 unfoldable pub mirror : Pic → Bool → Pic
 mirror P true = record { form = P .form; at = λ p x y. P .at p (fromRight P p x) y }
 mirror P false = record { form = P .form; at = λ p x y. P .at p x (fromBottom P p y) }
