@@ -8,27 +8,21 @@ use Rattle.fill.proofs.fill_alpha.Reads as reads
 use Rattle.fill.proofs.fill_alpha.Lts as lts
 use Rattle.fill.proofs.samples.top.Reads as top-reads
 
--- src/lib.rt:80:15
 top-requires : tie.Need-top-requires
 top-requires c κs = search needs
 
--- src/lib.rt:80:15
 cast-top : tie.Need-cast-top
 cast-top c = search needs
 
--- src/lib.rt:81:7
 mul-result : tie.Need-mul-result
 mul-result c = omega (arith, product-small (c .before .args .alpha) (c .top .result) (search needs) (search needs))
 
--- src/lib.rt:81:7
 add-result : tie.Need-add-result
 add-result c = omega (arith, product-small (c .before .args .alpha) (c .top .result) (search needs) (search needs))
 
--- src/lib.rt:81:5
 cast-result : tie.Need-cast-result
 cast-result c = omega (arith, product-small (c .before .args .alpha) (c .top .result) (search needs) (search needs))
 
--- src/lib.rt:76:1
 returns : tie.Need-returns
 unfolding fillAlphaOf
 returns c = simp (c .top .ensures)

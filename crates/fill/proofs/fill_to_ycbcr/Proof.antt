@@ -14,37 +14,29 @@ use Rattle.fill.proofs.part.Reads as part-reads
 use Rattle.fill.proofs.weighted.Reads as weighted-reads
 use Rattle.fill.proofs.weights.Weights.of.Reads as of-reads
 
--- src/lib.rt:59:9
 returns : tie.Need-returns
 unfolding fillOf refuse
 returns c = simp (lt-ltb _ _ (c .if1 .taken))
 
--- src/lib.rt:62:9
 returns-2 : tie.Need-returns-2
 unfolding fillOf refuse
 returns-2 c = simp (le-ltb _ _ (c .before .if1 .left), lt-ltb _ _ (c .if2 .taken))
 
--- src/lib.rt:64:9
 nclx-requires : tie.Need-nclx-requires
 nclx-requires c κs = search needs
 
--- src/lib.rt:67:9
 part-requires : tie.Need-part-requires
 part-requires c κs = search needs
 
--- src/lib.rt:68:9
 part-requires-2 : tie.Need-part-requires-2
 part-requires-2 c κs = search needs
 
--- src/lib.rt:69:9
 part-requires-3 : tie.Need-part-requires-3
 part-requires-3 c κs = search needs
 
--- src/lib.rt:71:32
 identity-requires : tie.Need-identity-requires
 identity-requires c κs = search needs
 
--- src/lib.rt:71:9
 returns-3 : tie.Need-returns-3
 unfolding fillOf refuse ycbcrOf pick
 returns-3 c =
@@ -59,15 +51,12 @@ returns-3 c =
       eq-eqb _ _ (c .before .if3 .taken),
     )
 
--- src/lib.rt:73:9
 of-requires : tie.Need-of-requires
 of-requires c κs = search needs
 
--- src/lib.rt:74:21
 weighted-requires : tie.Need-weighted-requires
 weighted-requires c κs = search needs
 
--- src/lib.rt:55:1
 returns-4 : tie.Need-returns-4
 unfolding fillOf refuse ycbcrOf pick
 returns-4 c =

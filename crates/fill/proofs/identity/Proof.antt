@@ -6,19 +6,15 @@ use Rattle.fill.proofs.identity.Reads as reads
 use Rattle.fill.proofs.identity.Lts as lts
 use Rattle.fill.proofs.samples.full.Reads as full-reads
 
--- src/lib.rt:97:12
 full-requires : tie.Need-full-requires
 full-requires c κs = search needs
 
--- src/lib.rt:98:13
 full-requires-2 : tie.Need-full-requires-2
 full-requires-2 c κs = search needs
 
--- src/lib.rt:99:13
 full-requires-3 : tie.Need-full-requires-3
 full-requires-3 c κs = search needs
 
--- src/lib.rt:92:1
 returns : tie.Need-returns
 unfolding identityOf
 returns c = simp (c .before .before .full .ensures, c .before .full2 .ensures, c .full3 .ensures)

@@ -7,11 +7,9 @@ use Rattle.fill.proofs.part.Tie as tie
 use Rattle.fill.proofs.part.Reads as reads
 use Rattle.fill.proofs.part.Lts as lts
 
--- src/lib.rt:88:5
 int-to-float-result : tie.Need-int-to-float-result
 int-to-float-result c = search needs
 
--- src/lib.rt:85:1
 returns : tie.Need-returns
 unfolding partOf ofBits round
 returns c = refl

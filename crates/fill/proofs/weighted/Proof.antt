@@ -13,31 +13,24 @@ use Rattle.fill.proofs.weights.Weights.cb.Reads as cb-reads
 use Rattle.fill.proofs.weights.Weights.cr.Reads as cr-reads
 use Rattle.fill.proofs.weights.Weights.luma.Reads as luma-reads
 
--- src/lib.rt:108:9
 luma-requires : tie.Need-luma-requires
 luma-requires c κs = search needs
 
--- src/lib.rt:109:9
 cb-requires : tie.Need-cb-requires
 cb-requires c κs = search needs
 
--- src/lib.rt:110:9
 cr-requires : tie.Need-cr-requires
 cr-requires c κs = search needs
 
--- src/lib.rt:113:16
 full-requires : tie.Need-full-requires
 full-requires c κs = search needs
 
--- src/lib.rt:114:17
 full-chroma-requires : tie.Need-full-chroma-requires
 full-chroma-requires c κs = search needs
 
--- src/lib.rt:115:17
 full-chroma-requires-2 : tie.Need-full-chroma-requires-2
 full-chroma-requires-2 c κs = search needs
 
--- src/lib.rt:112:9
 returns : tie.Need-returns
 unfolding weightedOf pick
 returns c =
@@ -51,19 +44,15 @@ returns c =
       c .before .before .before .before .before .before .luma .ensures,
     )
 
--- src/lib.rt:119:12
 studio-requires : tie.Need-studio-requires
 studio-requires c κs = search needs
 
--- src/lib.rt:120:13
 studio-requires-2 : tie.Need-studio-requires-2
 studio-requires-2 c κs = search needs
 
--- src/lib.rt:121:13
 studio-requires-3 : tie.Need-studio-requires-3
 studio-requires-3 c κs = search needs
 
--- src/lib.rt:104:1
 returns-2 : tie.Need-returns-2
 unfolding weightedOf pick ofBits round
 returns-2 c =

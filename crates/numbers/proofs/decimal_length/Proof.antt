@@ -18,24 +18,19 @@ Inv-loop n rest₀ count₀ rest count = (after : List ℕ) × (rest < 2 ^ 32) �
 abbrev μ-loop : tie.MeasureT-loop
 μ-loop n rest₀ count₀ rest count = rest
 
--- src/lib.rt:149:5
 loop-holds : tie.Need-loop-holds Inv-loop μ-loop
 unfolding decimal
 loop-holds c = ([], omega arith, refl, omega arith)
 
--- src/lib.rt:151:9
 add-count : tie.Need-add-count Inv-loop μ-loop
 add-count c = let r = c .before .loop in omega (arith, length-digits 9 (r .rest) (r .inv .0), ap length (r .inv .2), decimal-short (c .before .before .args .n))
 
--- src/lib.rt:149:5
 loop-less : tie.Need-loop-less Inv-loop μ-loop
 loop-less c = search needs
 
--- src/lib.rt:149:5
 loop-again : tie.Need-loop-again Inv-loop μ-loop
 loop-again c = let r = c .before .loop in (_, omega arith, r .inv .2 ∙ onto-more (r .rest) (r .inv .0) (c .loop-test .taken) (r .inv .1), omega arith)
 
--- src/lib.rt:144:1
 returns : tie.Need-returns Inv-loop μ-loop
 returns c = let r = c .before .loop in let e = ap length (r .inv .2 ∙ onto-last (r .rest) (r .inv .0) (c .loop-test .left)) in omega (arith, decimal-short (c .before .before .args .n))
 

@@ -16,23 +16,18 @@ Inv-loop n rest₀ count₀ rest count = (rest < 2 ^ 32) × (length (numberBytes
 abbrev μ-loop : tie.MeasureT-loop
 μ-loop n rest₀ count₀ rest count = rest
 
--- src/lib.rt:62:5
 loop-holds : tie.Need-loop-holds Inv-loop μ-loop
 loop-holds c = search needs
 
--- src/lib.rt:64:9
 add-count : tie.Need-add-count Inv-loop μ-loop
 add-count c = omega (arith, bytes-short (c .before .before .args .n))
 
--- src/lib.rt:62:5
 loop-less : tie.Need-loop-less Inv-loop μ-loop
 loop-less c = search needs
 
--- src/lib.rt:62:5
 loop-again : tie.Need-loop-again Inv-loop μ-loop
 loop-again c = let r = c .before .loop in omega (arith, ap length (bytes-more (r .rest) (c .loop-test .taken) (r .inv .0)))
 
--- src/lib.rt:56:1
 returns : tie.Need-returns Inv-loop μ-loop
 returns c = let r = c .before .loop in omega (arith, ap length (bytes-last (r .rest) (c .loop-test .left)), bytes-short (c .before .before .args .n))
 

@@ -34,75 +34,58 @@ module _ (c : tie.After-shared-slice-known Inv-loop μ-loop) where
   product : (x : ℕ) → x ≤ 127 → x * H .loop .weight ≤ 127 * H .loop .weight
   product x h = mul-le-mul-right (H .loop .weight) h
 
--- src/lib.rt:22:5
 loop-holds : tie.Need-loop-holds Inv-loop μ-loop
 unfolding readNumber
 loop-holds c = search needs
 
--- src/lib.rt:24:13
 returns : tie.Need-returns Inv-loop μ-loop
 returns c = let r = c .before .before .loop in sym (r .inv .3 ∙ read-end _ _ _ _ _ _ (c .before .loop-test .taken) (c .if1 .taken))
 
--- src/lib.rt:26:17
 shared-slice-read-b : tie.Need-shared-slice-read-b Inv-loop μ-loop
 shared-slice-read-b c = search needs
 
--- src/lib.rt:26:17
 cast-b : tie.Need-cast-b Inv-loop μ-loop
 cast-b c = omega (arith, small c)
 
--- src/lib.rt:29:17
 returns-2 : tie.Need-returns-2 Inv-loop μ-loop
 returns-2 c = let k = c .before .before in sym (H k .loop .inv .3 ∙ read-low _ _ _ _ _ _ (k .before .before .loop-test .taken) (k .before .if1 .left) (c .before .if2 .taken) (c .if3 .taken))
 
--- src/lib.rt:31:29
 mul-v : tie.Need-mul-v Inv-loop μ-loop
 mul-v c = let k = c .before .before in omega (arith, small k, product k (b k) (omega arith))
 
--- src/lib.rt:31:21
 add-v : tie.Need-add-v Inv-loop μ-loop
 add-v c = let k = c .before .before in omega (arith, small k, product k (b k) (omega arith))
 
--- src/lib.rt:33:17
 returns-3 : tie.Need-returns-3 Inv-loop μ-loop
 returns-3 c = let k = c .before .before .before in sym (H k .loop .inv .3 ∙ read-large _ _ _ _ _ _ (k .before .before .loop-test .taken) (k .before .if1 .left) (c .before .before .if2 .taken) (c .before .if3 .left) (c .if4 .taken))
 
 cast-t16 : tie.Need-cast-t16 Inv-loop μ-loop
 cast-t16 c = search needs
 
--- src/lib.rt:37:23
 add-t15 : tie.Need-add-t15 Inv-loop μ-loop
 add-t15 c = search needs
 
--- src/lib.rt:35:13
 returns-4 : tie.Need-returns-4 Inv-loop μ-loop
 returns-4 c = let k = c .before .before .before in sym (H k .loop .inv .3 ∙ read-last _ _ _ _ _ _ (k .before .before .loop-test .taken) (k .before .if1 .left) (c .before .before .if2 .taken) (c .before .if3 .left) (c .if4 .left))
 
--- src/lib.rt:40:25
 mul-value : tie.Need-mul-value Inv-loop μ-loop
 mul-value c = let k = c .before in omega (arith, small k, product k (b k - 128) (omega (arith, small k)))
 
--- src/lib.rt:40:17
 add-value : tie.Need-add-value Inv-loop μ-loop
 add-value c = let k = c .before in omega (arith, small k, product k (b k - 128) (omega (arith, small k)))
 
--- src/lib.rt:41:18
 mul-weight : tie.Need-mul-weight Inv-loop μ-loop
 mul-weight c = let k = c .before in omega (arith, small k)
 
--- src/lib.rt:43:13
 add-i : tie.Need-add-i Inv-loop μ-loop
 add-i c = search needs
 
--- src/lib.rt:44:16
 sub-left : tie.Need-sub-left Inv-loop μ-loop
 sub-left c = search needs
 
--- src/lib.rt:22:5
 loop-less : tie.Need-loop-less Inv-loop μ-loop
 loop-less c = search needs
 
--- src/lib.rt:22:5
 loop-again : tie.Need-loop-again Inv-loop μ-loop
 loop-again c = let k = c .before in let o = k .before .before in let r = o .before .loop in (
   omega arith,
@@ -111,7 +94,6 @@ loop-again c = let k = c .before in let o = k .before .before in let r = o .befo
   r .inv .3 ∙ read-more _ _ _ _ _ _ (o .loop-test .taken) (k .before .if1 .left) (c .if2 .left),
 )
 
--- src/lib.rt:14:1
 returns-5 : tie.Need-returns-5 Inv-loop μ-loop
 returns-5 c = let r = c .before .loop in let e : r .left ≡ 0 = omega arith in sym (r .inv .3 ∙ rw e (read-none _ _ _ _ _))
 

@@ -11,20 +11,16 @@ use Rattle.numbers.proofs.signed.Tie as tie
 use Rattle.numbers.proofs.signed.Reads as reads
 use Rattle.numbers.proofs.signed.Lts as lts
 
--- src/lib.rt:132:9
 returns : tie.Need-returns
 unfolding signedOf offsetOf pick
 returns c = simp (lt-ltb _ _ (c .if1 .taken))
 
--- src/lib.rt:139:18
 sub-t4 : tie.Need-sub-t4
 sub-t4 c = search needs
 
--- src/lib.rt:139:17
 cast-t6 : tie.Need-cast-t6
 cast-t6 c = search needs
 
--- src/lib.rt:126:1
 returns-2 : tie.Need-returns-2
 unfolding signedOf offsetOf pick
 returns-2 c = let a = c .before .args in let e : a .range - a .pattern ≡ suc (a .range - suc (a .pattern)) = omega arith in simp (le-ltb _ _ (c .if1 .left)) (ap {B = Offset} (λ (n : ℕ). record { ahead = 0; behind = n }) e)

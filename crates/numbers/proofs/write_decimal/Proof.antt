@@ -33,64 +33,49 @@ module _ (c : tie.At-loop Inv-loop μ-loop) where
       let p : c .before .before .before .args .at + length (decimal (c .before .before .before .args .n)) ≤ length (now (c .before .before .before .args .out)) = c .before .before .before .pre in
       (omega arith, omega arith, k)
 
--- src/lib.rt:161:20
 decimal-length-requires : tie.Need-decimal-length-requires Inv-loop μ-loop
 decimal-length-requires c κs = search needs
 
--- src/lib.rt:161:15
 add-end : tie.Need-add-end Inv-loop μ-loop
 add-end c = search needs
 
--- src/lib.rt:164:5
 loop-holds : tie.Need-loop-holds Inv-loop μ-loop
 unfolding decimal puts
 loop-holds c = let a = c .before .before .args in ([], omega arith, refl, omega (arith, c .decimal-length .ensures .0), refl)
 
--- src/lib.rt:165:9
 sub-i : tie.Need-sub-i Inv-loop μ-loop
 sub-i c = omega (arith, inside (c .before))
 
--- src/lib.rt:166:19
 add-out : tie.Need-add-out Inv-loop μ-loop
 add-out c = search needs
 
--- src/lib.rt:166:18
 cast-out : tie.Need-cast-out Inv-loop μ-loop
 cast-out c = search needs
 
--- src/lib.rt:166:9
 slice-write-out : tie.Need-slice-write-out Inv-loop μ-loop
 slice-write-out c = omega (arith, inside (c .before))
 
--- src/lib.rt:164:5
 loop-less : tie.Need-loop-less Inv-loop μ-loop
 loop-less c = search needs
 
--- src/lib.rt:164:5
 loop-again : tie.Need-loop-again Inv-loop μ-loop
 loop-again c = let r = c .before .loop in (_, omega arith, r .inv .2 ∙ onto-more (r .rest) (r .inv .0) (c .loop-test .taken) (r .inv .1), omega (arith, inside (c .before)), puts-front _ _ _ _ _ (inside (c .before) .0) (r .inv .4))
 
--- src/lib.rt:169:5
 sub-i-2 : tie.Need-sub-i-2 Inv-loop μ-loop
 sub-i-2 c = omega (arith, inside (c .before))
 
--- src/lib.rt:170:15
 add-out-2 : tie.Need-add-out-2 Inv-loop μ-loop
 add-out-2 c = search needs
 
--- src/lib.rt:170:14
 cast-out-2 : tie.Need-cast-out-2 Inv-loop μ-loop
 cast-out-2 c = search needs
 
--- src/lib.rt:170:5
 slice-write-out-2 : tie.Need-slice-write-out-2 Inv-loop μ-loop
 slice-write-out-2 c = omega (arith, inside (c .before))
 
--- src/lib.rt:157:1
 same-length : tie.Need-same-length Inv-loop μ-loop
 same-length c = simp length-set (inside (c .before) .2)
 
--- src/lib.rt:157:1
 returns : tie.Need-returns Inv-loop μ-loop
 returns c = let r = c .before .loop in let a = c .before .before .before .before .args in let e : decimal (a .n) ≡ _ = r .inv .2 ∙ onto-last (r .rest) (r .inv .0) (c .loop-test .left) in let l = ap length e in let p : r .i - 1 ≡ a .at = omega arith in (omega (arith, c .before .before .decimal-length .ensures .0), puts-front _ _ _ _ _ (inside (c .before) .0) (r .inv .4) ∙ rw (e, p))
 

@@ -17,51 +17,39 @@ Inv-loop out₀ at n i₀ rest₀ out i rest = (rest < 2 ^ 32) × Writing out₀
 abbrev μ-loop : tie.MeasureT-loop
 μ-loop out₀ at n i₀ rest₀ out i rest = rest
 
--- src/lib.rt:76:5
 loop-holds : tie.Need-loop-holds Inv-loop μ-loop
 loop-holds c = search needs
 
--- src/lib.rt:77:19
 add-out : tie.Need-add-out Inv-loop μ-loop
 add-out c = search needs
 
--- src/lib.rt:77:18
 cast-out : tie.Need-cast-out Inv-loop μ-loop
 cast-out c = search needs
 
--- src/lib.rt:77:9
 slice-write-out : tie.Need-slice-write-out Inv-loop μ-loop
 slice-write-out c = let r = c .before .loop in let h : r .i < length (r .out) = omega (arith, ap length (bytes-more (r .rest) (c .loop-test .taken) (r .inv .0))) in h
 
--- src/lib.rt:79:9
 add-i : tie.Need-add-i Inv-loop μ-loop
 add-i c = search needs
 
--- src/lib.rt:76:5
 loop-less : tie.Need-loop-less Inv-loop μ-loop
 loop-less c = search needs
 
--- src/lib.rt:76:5
 loop-again : tie.Need-loop-again Inv-loop μ-loop
 loop-again c = let r = c .before .loop in (omega arith, writing-put (rw (bytes-more (r .rest) (c .loop-test .taken) (r .inv .0)) at (r .inv .1)))
 
--- src/lib.rt:81:14
 cast-out-2 : tie.Need-cast-out-2 Inv-loop μ-loop
 cast-out-2 c = search needs
 
--- src/lib.rt:81:5
 slice-write-out-2 : tie.Need-slice-write-out-2 Inv-loop μ-loop
 slice-write-out-2 c = let r = c .before .loop in let h : r .i < length (r .out) = omega (arith, ap length (bytes-last (r .rest) (c .loop-test .left))) in h
 
--- src/lib.rt:82:5
 add-result : tie.Need-add-result Inv-loop μ-loop
 add-result c = search needs
 
--- src/lib.rt:70:1
 same-length : tie.Need-same-length Inv-loop μ-loop
 same-length c = search needs
 
--- src/lib.rt:70:1
 returns : tie.Need-returns Inv-loop μ-loop
 returns c = let r = c .before .loop in writing-done (writing-put (rw (bytes-last (r .rest) (c .loop-test .left)) at (r .inv .1)))
 

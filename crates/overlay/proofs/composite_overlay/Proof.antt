@@ -10,67 +10,51 @@ use Rattle.overlay.proofs.composite_overlay.Tie as tie
 use Rattle.overlay.proofs.composite_overlay.Reads as reads
 use Rattle.overlay.proofs.composite_overlay.Lts as lts
 
--- src/x
 read-number-requires : tie.Need-read-number-requires
 read-number-requires c κs = search needs
 
--- src/x
 enum-known-count : tie.Need-enum-known-count
 enum-known-count c = search needs
 
--- src/x
 enum-told : tie.Need-enum-told
 enum-told c = search needs
 
--- src/x
 returns : tie.Need-returns
 returns c = refused-answers _ _ _ (run-malformed _ _ _ _ _ (sym (c .before .before .read-number .ensures) ∙ c .enum-told .given .1))
 
--- src/x
 read-inputs-requires : tie.Need-read-inputs-requires
 read-inputs-requires c κs = search needs
 
--- src/x
 enum-known-e : tie.Need-enum-known-e
 enum-known-e c = search needs
 
--- src/x
 enum-known-plan : tie.Need-enum-known-plan
 enum-known-plan c = search needs
 
--- src/x
 top-requires : tie.Need-top-requires
 top-requires c κs = (plan-taken (now (c .before .before .before .before .before .before .before .before .before .before .before .before .before .before .args .body)) (now (c .before .before .before .before .before .before .before .before .before .before .before .before .before .before .args .tray)) (now (c .before .before .before .before .before .before .before .before .before .before .before .before .before .before .args .premultiplied)) (c .before .before .before .before .before .before .before .before .before .before .before .before .before .before .args .colour) (length (now (c .before .before .before .before .before .before .before .before .before .before .before .before .before .before .args .out))) _ _ (sym (c .before .before .before .before .before .before .before .before .before .read-number .ensures) ∙ c .before .before .before .before .before .before .before .count .given .1) _ (sym (c .before .before .before .before .before .read-inputs .ensures) ∙ ap planOut (c .before .before .before .plan .given .1))) .sound .form .high
 
--- src/x
 alpha-above-requires : tie.Need-alpha-above-requires
 alpha-above-requires c κs = search needs
 
--- src/x
 returns-2 : tie.Need-returns-2
 returns-2 c = refused-answers _ _ _ ((plan-taken (now (c .before .before .before .before .before .before .before .before .before .before .before .before .before .before .before .before .before .args .body)) (now (c .before .before .before .before .before .before .before .before .before .before .before .before .before .before .before .before .before .args .tray)) (now (c .before .before .before .before .before .before .before .before .before .before .before .before .before .before .before .before .before .args .premultiplied)) (c .before .before .before .before .before .before .before .before .before .before .before .before .before .before .before .before .before .args .colour) (length (now (c .before .before .before .before .before .before .before .before .before .before .before .before .before .before .before .before .before .args .out))) _ _ (sym (c .before .before .before .before .before .before .before .before .before .before .before .before .read-number .ensures) ∙ c .before .before .before .before .before .before .before .before .before .before .count .given .1) _ (sym (c .before .before .before .before .before .before .before .before .read-inputs .ensures) ∙ ap planOut (c .before .before .before .before .before .before .plan .given .1))) .left ∙ refuse-yes _ _ (above-is _ _ _ _ _ _ (c .before .before .top .ensures) (c .before .alpha-above .ensures) ∙ c .if1 .taken))
 
--- src/x
 record-size-requires : tie.Need-record-size-requires
 record-size-requires c κs = (plan-taken (now (c .before .before .before .before .before .before .before .before .before .before .before .before .before .before .before .before .before .args .body)) (now (c .before .before .before .before .before .before .before .before .before .before .before .before .before .before .before .before .before .args .tray)) (now (c .before .before .before .before .before .before .before .before .before .before .before .before .before .before .before .before .before .args .premultiplied)) (c .before .before .before .before .before .before .before .before .before .before .before .before .before .before .before .before .before .args .colour) (length (now (c .before .before .before .before .before .before .before .before .before .before .before .before .before .before .before .before .before .args .out))) _ _ (sym (c .before .before .before .before .before .before .before .before .before .before .before .before .read-number .ensures) ∙ c .before .before .before .before .before .before .before .before .before .before .count .given .1) _ (sym (c .before .before .before .before .before .before .before .before .read-inputs .ensures) ∙ ap planOut (c .before .before .before .before .before .before .plan .given .1))) .sound .form
 
--- src/x
 returns-3 : tie.Need-returns-3
 returns-3 c = refused-answers _ _ _ ((plan-taken (now (c .before .before .before .before .before .before .before .before .before .before .before .before .before .before .before .before .before .before .before .args .body)) (now (c .before .before .before .before .before .before .before .before .before .before .before .before .before .before .before .before .before .before .before .args .tray)) (now (c .before .before .before .before .before .before .before .before .before .before .before .before .before .before .before .before .before .before .before .args .premultiplied)) (c .before .before .before .before .before .before .before .before .before .before .before .before .before .before .before .before .before .before .before .args .colour) (length (now (c .before .before .before .before .before .before .before .before .before .before .before .before .before .before .before .before .before .before .before .args .out))) _ _ (sym (c .before .before .before .before .before .before .before .before .before .before .before .before .before .before .read-number .ensures) ∙ c .before .before .before .before .before .before .before .before .before .before .before .before .count .given .1) _ (sym (c .before .before .before .before .before .before .before .before .before .before .read-inputs .ensures) ∙ ap planOut (c .before .before .before .before .before .before .before .before .plan .given .1))) .left ∙ refuse-no _ _ (above-is _ _ _ _ _ _ (c .before .before .before .before .top .ensures) (c .before .before .before .alpha-above .ensures) ∙ c .before .before .if1 .left) ∙ fitted-short _ _ (room-short (plan-taken (now (c .before .before .before .before .before .before .before .before .before .before .before .before .before .before .before .before .before .before .before .args .body)) (now (c .before .before .before .before .before .before .before .before .before .before .before .before .before .before .before .before .before .before .before .args .tray)) (now (c .before .before .before .before .before .before .before .before .before .before .before .before .before .before .before .before .before .before .before .args .premultiplied)) (c .before .before .before .before .before .before .before .before .before .before .before .before .before .before .before .before .before .before .before .args .colour) (length (now (c .before .before .before .before .before .before .before .before .before .before .before .before .before .before .before .before .before .before .before .args .out))) _ _ (sym (c .before .before .before .before .before .before .before .before .before .before .before .before .before .before .read-number .ensures) ∙ c .before .before .before .before .before .before .before .before .before .before .before .before .count .given .1) _ (sym (c .before .before .before .before .before .before .before .before .before .before .read-inputs .ensures) ∙ ap planOut (c .before .before .before .before .before .before .before .before .plan .given .1))) _ (c .before .record-size .ensures) (c .if2 .taken)))
 
--- src/x
 draw-overlay-requires : tie.Need-draw-overlay-requires
 draw-overlay-requires c κs = ((plan-taken (now (c .before .before .before .before .before .before .before .before .before .before .before .before .before .before .before .before .before .before .before .before .args .body)) (now (c .before .before .before .before .before .before .before .before .before .before .before .before .before .before .before .before .before .before .before .before .args .tray)) (now (c .before .before .before .before .before .before .before .before .before .before .before .before .before .before .before .before .before .before .before .before .args .premultiplied)) (c .before .before .before .before .before .before .before .before .before .before .before .before .before .before .before .before .before .before .before .before .args .colour) (length (now (c .before .before .before .before .before .before .before .before .before .before .before .before .before .before .before .before .before .before .before .before .args .out))) _ _ (sym (c .before .before .before .before .before .before .before .before .before .before .before .before .before .before .before .read-number .ensures) ∙ c .before .before .before .before .before .before .before .before .before .before .before .before .before .count .given .1) _ (sym (c .before .before .before .before .before .before .before .before .before .before .before .read-inputs .ensures) ∙ ap planOut (c .before .before .before .before .before .before .before .before .before .plan .given .1))) .sound, room-enough (plan-taken (now (c .before .before .before .before .before .before .before .before .before .before .before .before .before .before .before .before .before .before .before .before .args .body)) (now (c .before .before .before .before .before .before .before .before .before .before .before .before .before .before .before .before .before .before .before .before .args .tray)) (now (c .before .before .before .before .before .before .before .before .before .before .before .before .before .before .before .before .before .before .before .before .args .premultiplied)) (c .before .before .before .before .before .before .before .before .before .before .before .before .before .before .before .before .before .before .before .before .args .colour) (length (now (c .before .before .before .before .before .before .before .before .before .before .before .before .before .before .before .before .before .before .before .before .args .out))) _ _ (sym (c .before .before .before .before .before .before .before .before .before .before .before .before .before .before .before .read-number .ensures) ∙ c .before .before .before .before .before .before .before .before .before .before .before .before .before .count .given .1) _ (sym (c .before .before .before .before .before .before .before .before .before .before .before .read-inputs .ensures) ∙ ap planOut (c .before .before .before .before .before .before .before .before .before .plan .given .1))) _ (c .before .before .record-size .ensures) (c .before .if2 .left))
 
--- src/x
 returns-4 : tie.Need-returns-4
 returns-4 c = refused-answers _ _ _ (run-refused _ _ _ _ _ _ _ (sym (c .before .before .before .before .before .before .before .read-number .ensures) ∙ c .before .before .before .before .before .count .given .1) _ (sym (c .before .before .before .read-inputs .ensures) ∙ ap planOut (c .before .e .given .1)))
 
--- src/x
 same-length : tie.Need-same-length
 same-length c = search needs
 
--- src/x
 returns-5 : tie.Need-returns-5
 returns-5 c = let h = room-enough (plan-taken (now (c .before .before .before .before .before .before .before .before .before .before .before .before .before .before .before .before .before .before .before .before .before .before .before .args .body)) (now (c .before .before .before .before .before .before .before .before .before .before .before .before .before .before .before .before .before .before .before .before .before .before .before .args .tray)) (now (c .before .before .before .before .before .before .before .before .before .before .before .before .before .before .before .before .before .before .before .before .before .before .before .args .premultiplied)) (c .before .before .before .before .before .before .before .before .before .before .before .before .before .before .before .before .before .before .before .before .before .before .before .args .colour) (length (now (c .before .before .before .before .before .before .before .before .before .before .before .before .before .before .before .before .before .before .before .before .before .before .before .args .out))) _ _ (sym (c .before .before .before .before .before .before .before .before .before .before .before .before .before .before .before .before .before .before .read-number .ensures) ∙ c .before .before .before .before .before .before .before .before .before .before .before .before .before .before .before .before .count .given .1) _ (sym (c .before .before .before .before .before .before .before .before .before .before .before .before .before .before .read-inputs .ensures) ∙ ap planOut (c .before .before .before .before .before .before .before .before .before .before .before .before .plan .given .1))) _ (c .before .before .before .before .before .record-size .ensures) (c .before .before .before .before .if2 .left) in done-answers _ _ _ _ _ ((plan-taken (now (c .before .before .before .before .before .before .before .before .before .before .before .before .before .before .before .before .before .before .before .before .before .before .before .args .body)) (now (c .before .before .before .before .before .before .before .before .before .before .before .before .before .before .before .before .before .before .before .before .before .before .before .args .tray)) (now (c .before .before .before .before .before .before .before .before .before .before .before .before .before .before .before .before .before .before .before .before .before .before .before .args .premultiplied)) (c .before .before .before .before .before .before .before .before .before .before .before .before .before .before .before .before .before .before .before .before .before .before .before .args .colour) (length (now (c .before .before .before .before .before .before .before .before .before .before .before .before .before .before .before .before .before .before .before .before .before .before .before .args .out))) _ _ (sym (c .before .before .before .before .before .before .before .before .before .before .before .before .before .before .before .before .before .before .read-number .ensures) ∙ c .before .before .before .before .before .before .before .before .before .before .before .before .before .before .before .before .count .given .1) _ (sym (c .before .before .before .before .before .before .before .before .before .before .before .before .before .before .read-inputs .ensures) ∙ ap planOut (c .before .before .before .before .before .before .before .before .before .before .before .before .plan .given .1))) .left ∙ refuse-no _ _ (above-is _ _ _ _ _ _ (c .before .before .before .before .before .before .before .before .top .ensures) (c .before .before .before .before .before .before .before .alpha-above .ensures) ∙ c .before .before .before .before .before .before .if1 .left) ∙ fitted-room _ _ h) h (c .before .before .draw-overlay .ensures .0) (c .before .before .draw-overlay .ensures .1)
 

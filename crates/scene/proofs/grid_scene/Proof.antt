@@ -33,110 +33,84 @@ formed c = grid-form _ _ _ (c .canvas-form .ensures)
 led : (c : tie.After-held) → heldOf (ready (c .before .before .before .before .before) .judged .entries) (c .before .before .before .before .before .before .before .before .before .before .before .before .before .before .before .before .before .before .before .before .args .essential-only) (c .before .before .before .canvas-form .result) (length (now (c .before .before .before .before .before .before .before .before .before .before .before .before .before .before .before .before .before .before .before .before .args .output))) (length (now (c .before .before .before .before .before .before .before .before .before .before .before .before .before .before .before .before .before .before .before .before .args .spare))) ≡ done (c .held .given .0 .0)
 led c = sym (then-done _ (ready (c .before .before .before .before .before) .judged .read)) ∙ sym (c .before .before .plan-scene .ensures) ∙ ap heldOut (c .held .given .1)
 
--- src/lib.rt:36:52
 read-number-requires : tie.Need-read-number-requires
 read-number-requires c κs = search needs
 
 enum-told : tie.Need-enum-told
 enum-told c = search needs
 
--- laws: src/lib.rt:7:33
 enum-told-2 : tie.Need-enum-told-2
 enum-told-2 c = search needs
 
--- src/lib.rt:37:9
 returns : tie.Need-returns
 returns c = scene-refused _ _ _ _ (grid-malformed _ _ _ _ (sym (c .before .before .read-number .ensures) ∙ c .enum-told2 .given .1) _ _)
 
--- src/lib.rt:39:11
 check-chain-requires : tie.Need-check-chain-requires
 check-chain-requires c κs = search needs
 
--- src/lib.rt:40:28
 enum-known-e : tie.Need-enum-known-e
 enum-known-e c = search needs
 
--- src/lib.rt:41:25
 enum-known-c : tie.Need-enum-known-c
 enum-known-c c = search needs
 
--- src/lib.rt:41:37
 read-tiles-requires : tie.Need-read-tiles-requires
 read-tiles-requires c κs = search needs
 
--- src/lib.rt:42:32
 enum-known-e-2 : tie.Need-enum-known-e-2
 enum-known-e-2 c = search needs
 
--- src/lib.rt:43:29
 enum-known-t : tie.Need-enum-known-t
 enum-known-t c = search needs
 
--- src/lib.rt:44:21
 canvas-form-requires : tie.Need-canvas-form-requires
 canvas-form-requires c κs = search needs
 
--- src/lib.rt:45:23
 plan-scene-requires : tie.Need-plan-scene-requires
 plan-scene-requires c κs = (ready (c .before .before) .judged, rw (c .canvas-form .ensures) (ready (c .before .before) .taken .canvas))
 
--- src/lib.rt:46:39
 enum-known-e-3 : tie.Need-enum-known-e-3
 enum-known-e-3 c = search needs
 
--- src/lib.rt:47:36
 enum-known-held : tie.Need-enum-known-held
 enum-known-held c = search needs
 
--- src/lib.rt:49:29
 draw-grid-requires : tie.Need-draw-grid-requires
 draw-grid-requires c κs = (ready (c .before .before .before .before .before .before .before .before) .taken, rw (grid-size (now (c .before .before .before .before .before .before .before .before .before .before .before .before .before .before .before .before .before .before .before .before .before .before .before .args .tray)) _) (first-output _ _ (ready (c .before .before .before .before .before .before .before .before) .judged) _ _ (ready (c .before .before .before .before .before .before .before .before) .tame) _ (formed (c .before .before .before .before .before .before)) (now (c .before .before .before .before .before .before .before .before .before .before .before .before .before .before .before .before .before .before .before .before .before .before .before .args .output)) (now (c .before .before .before .before .before .before .before .before .before .before .before .before .before .before .before .before .before .before .before .before .before .before .before .args .spare)) _ (led (c .before .before .before))))
 
--- src/lib.rt:50:29
 finish-scene-requires : tie.Need-finish-scene-requires
 finish-scene-requires c κs = ready-output _ _ (ready (c .before .before .before .before .before .before .before .before .before .before .before .before .before) .judged) _ _ (ready (c .before .before .before .before .before .before .before .before .before .before .before .before .before) .tame) _ (formed (c .before .before .before .before .before .before .before .before .before .before .before)) _ _ _ (led (c .before .before .before .before .before .before .before .before)) _ (c .before .before .before .before .before .before .if1 .taken) (c .before .before .before .before .draw-grid .ensures)
 
--- src/lib.rt:50:29
 same-length : tie.Need-same-length
 same-length c = search needs
 
--- src/lib.rt:50:29
 same-length-2 : tie.Need-same-length-2
 same-length-2 c = search needs
 
--- src/lib.rt:50:29
 returns-2 : tie.Need-returns-2
 returns-2 c = scene-output _ _ (ready (c .before .before .before .before .before .before .before .before .before .before .before .before .before .before .before .before .before .before) .judged) _ _ (ready (c .before .before .before .before .before .before .before .before .before .before .before .before .before .before .before .before .before .before) .tame) _ (formed (c .before .before .before .before .before .before .before .before .before .before .before .before .before .before .before .before)) _ _ _ (led (c .before .before .before .before .before .before .before .before .before .before .before .before .before)) _ _ (ready (c .before .before .before .before .before .before .before .before .before .before .before .before .before .before .before .before .before .before) .is _ _) _ _ _ (c .before .before .before .before .before .before .before .before .before .before .before .if1 .taken) (c .before .before .before .before .before .before .before .before .before .draw-grid .ensures) (c .before .before .before .before .finish-scene .ensures)
 
--- src/lib.rt:52:25
 draw-grid-requires-2 : tie.Need-draw-grid-requires-2
 draw-grid-requires-2 c κs = (ready (c .before .before .before .before .before .before .before .before) .taken, rw (grid-size (now (c .before .before .before .before .before .before .before .before .before .before .before .before .before .before .before .before .before .before .before .before .before .before .before .args .tray)) _) (first-spare _ _ (ready (c .before .before .before .before .before .before .before .before) .judged) _ _ (ready (c .before .before .before .before .before .before .before .before) .tame) _ (formed (c .before .before .before .before .before .before)) (now (c .before .before .before .before .before .before .before .before .before .before .before .before .before .before .before .before .before .before .before .before .before .before .before .args .output)) (now (c .before .before .before .before .before .before .before .before .before .before .before .before .before .before .before .before .before .before .before .before .before .before .before .args .spare)) _ (led (c .before .before .before))))
 
--- src/lib.rt:53:25
 finish-scene-requires-2 : tie.Need-finish-scene-requires-2
 finish-scene-requires-2 c κs = ready-spare _ _ (ready (c .before .before .before .before .before .before .before .before .before .before .before .before .before) .judged) _ _ (ready (c .before .before .before .before .before .before .before .before .before .before .before .before .before) .tame) _ (formed (c .before .before .before .before .before .before .before .before .before .before .before)) _ _ _ (led (c .before .before .before .before .before .before .before .before)) _ (c .before .before .before .before .before .before .if1 .left) (c .before .before .before .before .draw-grid2 .ensures)
 
--- src/lib.rt:24:1
 returns-3 : tie.Need-returns-3
 returns-3 c = scene-refused _ _ _ _ (grid-chain _ _ _ _ _ _ (sym (c .before .before .before .before .before .before .read-number .ensures) ∙ c .before .before .before .before .enum-told .given .1) _ (sym (c .before .before .before .check-chain .ensures) ∙ ap chainOut (c .before .e .given .1)) _ _)
 
--- src/lib.rt:24:1
 returns-4 : tie.Need-returns-4
 returns-4 c = scene-refused _ _ _ _ (grid-tiles _ _ _ _ _ _ (sym (c .before .before .before .before .before .before .before .before .before .before .read-number .ensures) ∙ c .before .before .before .before .before .before .before .before .enum-told .given .1) _ (sym (c .before .before .before .before .before .before .before .check-chain .ensures) ∙ ap chainOut (c .before .before .before .before .before .c .given .1)) _ (sym (c .before .before .before .read-tiles .ensures) ∙ ap tilesOut (c .before .e2 .given .1)) _ _)
 
--- src/lib.rt:24:1
 returns-5 : tie.Need-returns-5
 returns-5 c = scene-refused _ _ _ _ (ready (c .before .before .before .before .before .before) .is _ _ ∙ held-refused _ _ _ (ready (c .before .before .before .before .before .before) .tame) _ (formed (c .before .before .before .before)) _ _ _ (sym (then-done _ (ready (c .before .before .before .before .before .before) .judged .read)) ∙ sym (c .before .before .before .plan-scene .ensures) ∙ ap heldOut (c .before .e3 .given .1)))
 
--- src/lib.rt:24:1
 same-length-3 : tie.Need-same-length-3
 same-length-3 c = search needs
 
--- src/lib.rt:24:1
 same-length-4 : tie.Need-same-length-4
 same-length-4 c = search needs
 
--- src/lib.rt:24:1
 returns-6 : tie.Need-returns-6
 returns-6 c = scene-spare _ _ (ready (c .before .before .before .before .before .before .before .before .before .before .before .before .before .before .before .before .before .before) .judged) _ _ (ready (c .before .before .before .before .before .before .before .before .before .before .before .before .before .before .before .before .before .before) .tame) _ (formed (c .before .before .before .before .before .before .before .before .before .before .before .before .before .before .before .before)) _ _ _ (led (c .before .before .before .before .before .before .before .before .before .before .before .before .before)) _ _ (ready (c .before .before .before .before .before .before .before .before .before .before .before .before .before .before .before .before .before .before) .is _ _) _ _ _ (c .before .before .before .before .before .before .before .before .before .before .before .if1 .left) (c .before .before .before .before .before .before .before .before .before .draw-grid2 .ensures) (c .before .before .before .before .finish-scene2 .ensures)
 

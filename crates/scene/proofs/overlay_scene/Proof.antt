@@ -34,119 +34,90 @@ formed c = plan-form (now (c .before .before .before .before .before .before .be
 led : (c : tie.After-held) → heldOf (ready (c .before .before .before .before .before .before .before .before .before) .judged .entries) (c .before .before .before .before .before .before .before .before .before .before .before .before .before .before .before .before .before .before .before .before .before .before .before .before .before .before .args .essential-only) (c .before .before .before .before .before .before .before .before .before .plan .given .0 .0 .form) (length (now (c .before .before .before .before .before .before .before .before .before .before .before .before .before .before .before .before .before .before .before .before .before .before .before .before .before .before .args .output))) (length (now (c .before .before .before .before .before .before .before .before .before .before .before .before .before .before .before .before .before .before .before .before .before .before .before .before .before .before .args .spare))) ≡ done (c .held .given .0 .0)
 led c = sym (then-done _ (ready (c .before .before .before .before .before .before .before .before .before) .judged .read)) ∙ sym (c .before .before .plan-scene .ensures) ∙ ap heldOut (c .held .given .1)
 
--- src/lib.rt:79:9
 read-number-requires : tie.Need-read-number-requires
 read-number-requires c κs = search needs
 
--- src/lib.rt:77:16
 enum-known-count : tie.Need-enum-known-count
 enum-known-count c = search needs
 
--- laws: src/lib.rt:7:33
 enum-told : tie.Need-enum-told
 enum-told c = search needs
 
--- src/lib.rt:81:9
 returns : tie.Need-returns
 returns c = scene-refused _ _ _ _ (overlay-malformed _ _ _ _ _ _ (sym (c .before .before .read-number .ensures) ∙ c .enum-told .given .1) _ _)
 
--- src/lib.rt:83:11
 check-chain-requires : tie.Need-check-chain-requires
 check-chain-requires c κs = search needs
 
--- src/lib.rt:84:28
 enum-known-e : tie.Need-enum-known-e
 enum-known-e c = search needs
 
--- src/lib.rt:85:25
 enum-known-c : tie.Need-enum-known-c
 enum-known-c c = search needs
 
--- src/lib.rt:85:37
 read-inputs-requires : tie.Need-read-inputs-requires
 read-inputs-requires c κs = search needs
 
--- src/lib.rt:86:31
 enum-known-e-2 : tie.Need-enum-known-e-2
 enum-known-e-2 c = search needs
 
--- src/lib.rt:87:28
 enum-known-plan : tie.Need-enum-known-plan
 enum-known-plan c = search needs
 
--- src/lib.rt:90:61
 top-requires : tie.Need-top-requires
 top-requires c κs = ready (c .before .before .before) .sound .form .high
 
--- src/lib.rt:90:20
 alpha-above-requires : tie.Need-alpha-above-requires
 alpha-above-requires c κs = search needs
 
--- src/lib.rt:91:21
 returns-2 : tie.Need-returns-2
 returns-2 c = scene-refused _ _ _ _ (ready (c .before .before .before .before .before .before) .is _ _ ∙ refuse-yes _ _ (above-is _ _ _ _ _ _ (c .before .before .top .ensures) (c .before .alpha-above .ensures) ∙ c .if1 .taken))
 
--- src/lib.rt:93:23
 plan-scene-requires : tie.Need-plan-scene-requires
 plan-scene-requires c κs = (ready (c .before .before .before .before .before .before) .judged, ready (c .before .before .before .before .before .before) .sound .form)
 
--- src/lib.rt:94:39
 enum-known-e-3 : tie.Need-enum-known-e-3
 enum-known-e-3 c = search needs
 
--- src/lib.rt:95:36
 enum-known-held : tie.Need-enum-known-held
 enum-known-held c = search needs
 
--- src/lib.rt:97:29
 draw-overlay-requires : tie.Need-draw-overlay-requires
 draw-overlay-requires c κs = (ready (c .before .before .before .before .before .before .before .before .before .before .before .before) .sound, first-output _ _ (ready (c .before .before .before .before .before .before .before .before .before .before .before .before) .judged) _ _ (ready (c .before .before .before .before .before .before .before .before .before .before .before .before) .tame) _ (formed (c .before .before .before .before .before .before .before .before .before .before .before .before)) (now (c .before .before .before .before .before .before .before .before .before .before .before .before .before .before .before .before .before .before .before .before .before .before .before .before .before .before .before .before .before .args .output)) (now (c .before .before .before .before .before .before .before .before .before .before .before .before .before .before .before .before .before .before .before .before .before .before .before .before .before .before .before .before .before .args .spare)) _ (led (c .before .before .before)))
 
--- src/lib.rt:98:29
 finish-scene-requires : tie.Need-finish-scene-requires
 finish-scene-requires c κs = ready-output _ _ (ready (c .before .before .before .before .before .before .before .before .before .before .before .before .before .before .before .before .before) .judged) _ _ (ready (c .before .before .before .before .before .before .before .before .before .before .before .before .before .before .before .before .before) .tame) _ (formed (c .before .before .before .before .before .before .before .before .before .before .before .before .before .before .before .before .before)) _ _ _ (led (c .before .before .before .before .before .before .before .before)) _ (c .before .before .before .before .before .before .if2 .taken) (c .before .before .before .before .draw-overlay .ensures .1)
 
--- src/lib.rt:98:29
 same-length : tie.Need-same-length
 same-length c = search needs
 
--- src/lib.rt:98:29
 same-length-2 : tie.Need-same-length-2
 same-length-2 c = search needs
 
--- src/lib.rt:98:29
 returns-3 : tie.Need-returns-3
 returns-3 c = scene-output _ _ (ready (c .before .before .before .before .before .before .before .before .before .before .before .before .before .before .before .before .before .before .before .before .before .before) .judged) _ _ (ready (c .before .before .before .before .before .before .before .before .before .before .before .before .before .before .before .before .before .before .before .before .before .before) .tame) _ (formed (c .before .before .before .before .before .before .before .before .before .before .before .before .before .before .before .before .before .before .before .before .before .before)) _ _ _ (led (c .before .before .before .before .before .before .before .before .before .before .before .before .before)) _ _ (ready (c .before .before .before .before .before .before .before .before .before .before .before .before .before .before .before .before .before .before .before .before .before .before) .is _ _ ∙ refuse-no _ _ (above-is _ _ _ _ _ _ (c .before .before .before .before .before .before .before .before .before .before .before .before .before .before .before .before .before .before .top .ensures) (c .before .before .before .before .before .before .before .before .before .before .before .before .before .before .before .before .before .alpha-above .ensures) ∙ c .before .before .before .before .before .before .before .before .before .before .before .before .before .before .before .before .if1 .left)) _ _ _ (c .before .before .before .before .before .before .before .before .before .before .before .if2 .taken) (c .before .before .before .before .before .before .before .before .before .draw-overlay .ensures .1) (c .before .before .before .before .finish-scene .ensures)
 
--- src/lib.rt:100:25
 draw-overlay-requires-2 : tie.Need-draw-overlay-requires-2
 draw-overlay-requires-2 c κs = (ready (c .before .before .before .before .before .before .before .before .before .before .before .before) .sound, first-spare _ _ (ready (c .before .before .before .before .before .before .before .before .before .before .before .before) .judged) _ _ (ready (c .before .before .before .before .before .before .before .before .before .before .before .before) .tame) _ (formed (c .before .before .before .before .before .before .before .before .before .before .before .before)) (now (c .before .before .before .before .before .before .before .before .before .before .before .before .before .before .before .before .before .before .before .before .before .before .before .before .before .before .before .before .before .args .output)) (now (c .before .before .before .before .before .before .before .before .before .before .before .before .before .before .before .before .before .before .before .before .before .before .before .before .before .before .before .before .before .args .spare)) _ (led (c .before .before .before)))
 
--- src/lib.rt:101:25
 finish-scene-requires-2 : tie.Need-finish-scene-requires-2
 finish-scene-requires-2 c κs = ready-spare _ _ (ready (c .before .before .before .before .before .before .before .before .before .before .before .before .before .before .before .before .before) .judged) _ _ (ready (c .before .before .before .before .before .before .before .before .before .before .before .before .before .before .before .before .before) .tame) _ (formed (c .before .before .before .before .before .before .before .before .before .before .before .before .before .before .before .before .before)) _ _ _ (led (c .before .before .before .before .before .before .before .before)) _ (c .before .before .before .before .before .before .if2 .left) (c .before .before .before .before .draw-overlay2 .ensures .1)
 
--- src/lib.rt:62:1
 returns-4 : tie.Need-returns-4
 returns-4 c = scene-refused _ _ _ _ (overlay-chain _ _ _ _ _ _ _ _ (sym (c .before .before .before .before .before .before .before .read-number .ensures) ∙ c .before .before .before .before .before .count .given .1) _ (sym (c .before .before .before .check-chain .ensures) ∙ ap chainOut (c .before .e .given .1)) _ _)
 
--- src/lib.rt:62:1
 returns-5 : tie.Need-returns-5
 returns-5 c = scene-refused _ _ _ _ (overlay-inputs _ _ _ _ _ _ _ _ (sym (c .before .before .before .before .before .before .before .before .before .before .before .read-number .ensures) ∙ c .before .before .before .before .before .before .before .before .before .count .given .1) _ (sym (c .before .before .before .before .before .before .before .check-chain .ensures) ∙ ap chainOut (c .before .before .before .before .before .c .given .1)) _ (sym (c .before .before .before .read-inputs .ensures) ∙ ap planOut (c .before .e2 .given .1)) _ _)
 
--- src/lib.rt:62:1
 returns-6 : tie.Need-returns-6
 returns-6 c = scene-refused _ _ _ _ (ready (c .before .before .before .before .before .before .before .before .before .before) .is _ _ ∙ refuse-no _ _ (above-is _ _ _ _ _ _ (c .before .before .before .before .before .before .top .ensures) (c .before .before .before .before .before .alpha-above .ensures) ∙ c .before .before .before .before .if1 .left) ∙ held-refused _ _ _ (ready (c .before .before .before .before .before .before .before .before .before .before) .tame) _ (formed (c .before .before .before .before .before .before .before .before .before .before)) _ _ _ (sym (then-done _ (ready (c .before .before .before .before .before .before .before .before .before .before) .judged .read)) ∙ sym (c .before .before .before .plan-scene .ensures) ∙ ap heldOut (c .before .e3 .given .1)))
 
--- src/lib.rt:62:1
 same-length-3 : tie.Need-same-length-3
 same-length-3 c = search needs
 
--- src/lib.rt:62:1
 same-length-4 : tie.Need-same-length-4
 same-length-4 c = search needs
 
--- src/lib.rt:62:1
 returns-7 : tie.Need-returns-7
 returns-7 c = scene-spare _ _ (ready (c .before .before .before .before .before .before .before .before .before .before .before .before .before .before .before .before .before .before .before .before .before .before) .judged) _ _ (ready (c .before .before .before .before .before .before .before .before .before .before .before .before .before .before .before .before .before .before .before .before .before .before) .tame) _ (formed (c .before .before .before .before .before .before .before .before .before .before .before .before .before .before .before .before .before .before .before .before .before .before)) _ _ _ (led (c .before .before .before .before .before .before .before .before .before .before .before .before .before)) _ _ (ready (c .before .before .before .before .before .before .before .before .before .before .before .before .before .before .before .before .before .before .before .before .before .before) .is _ _ ∙ refuse-no _ _ (above-is _ _ _ _ _ _ (c .before .before .before .before .before .before .before .before .before .before .before .before .before .before .before .before .before .before .top .ensures) (c .before .before .before .before .before .before .before .before .before .before .before .before .before .before .before .before .before .alpha-above .ensures) ∙ c .before .before .before .before .before .before .before .before .before .before .before .before .before .before .before .before .if1 .left)) _ _ _ (c .before .before .before .before .before .before .before .before .before .before .before .if2 .left) (c .before .before .before .before .before .before .before .before .before .draw-overlay2 .ensures .1) (c .before .before .before .before .finish-scene2 .ensures)
 

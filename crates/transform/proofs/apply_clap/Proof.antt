@@ -29,56 +29,43 @@ taken c = sym (c .before .before .parse-record .ensures) ∙ ap frameOut (c .f .
 cut : (c : tie.After-found) → resolveOf (c .before .before .before .before .before .before .before .before .before .before .args .clap) (c .before .before .before .before .before .f .given .0 .0 .form .width) (c .before .before .before .before .before .f .given .0 .0 .form .height) ≡ done (c .found .given .0 .0)
 cut c = sym (c .before .before .resolve .ensures) ∙ ap resolvedOut (c .found .given .1)
 
--- src/lib.rt:182:11
 parse-record-requires : tie.Need-parse-record-requires
 parse-record-requires c κs = search needs
 
--- src/lib.rt:183:28
 enum-known-e : tie.Need-enum-known-e
 enum-known-e c = search needs
 
--- src/lib.rt:184:25
 enum-known-f : tie.Need-enum-known-f
 enum-known-f c = search needs
 
--- src/lib.rt:186:17
 resolve-requires : tie.Need-resolve-requires
 resolve-requires c κs = search needs
 
--- src/lib.rt:187:32
 enum-known-found : tie.Need-enum-known-found
 enum-known-found c = search needs
 
--- src/lib.rt:188:40
 enum-told : tie.Need-enum-told
 enum-told c = search needs
 
--- src/lib.rt:188:40
 refusal-requires : tie.Need-refusal-requires
 refusal-requires c κs = refused-no-rect _ (c .enum-told .given .0 .0) (c .enum-told .given .1)
 
--- src/lib.rt:188:17
 returns : tie.Need-returns
 returns c = refused-answers _ _ _ (clap-refused _ _ (taken ((c .before .before .before .before .before .before))) _ _ _ (sym (c .before .before .before .resolve .ensures) ∙ ap resolvedOut (c .refusal .ensures)))
 
--- src/lib.rt:190:29
 crop-move-requires : tie.Need-crop-move-requires
 crop-move-requires c κs = search needs
 
--- src/lib.rt:190:13
 draw-requires : tie.Need-draw-requires
 draw-requires c κs = (whole-sound _ _ (taken ((c .before .before .before .before .before .before .before .before))) .0, rw (c .before .crop-move .ensures) (clap-fits _ _ (taken ((c .before .before .before .before .before .before .before .before))) _ 0 _ (cut ((c .before .before .before)))))
 
--- src/lib.rt:178:1
 returns-2 : tie.Need-returns-2
 unfolding clapRun
 returns-2 c = refused-answers _ _ _ (then-refused _ (sym (c .before .before .before .parse-record .ensures) ∙ ap frameOut (c .before .e .given .1)))
 
--- src/lib.rt:178:1
 same-length : tie.Need-same-length
 same-length c = search needs
 
--- src/lib.rt:178:1
 returns-3 : tie.Need-returns-3
 returns-3 c = answers-as _ _ _ _ _ (clap-drawn _ _ (taken ((c .before .before .before .before .before .before .before .before .before .before .before))) _ _ _ (cut ((c .before .before .before .before .before .before))) ∙ ap (λ (v : Move). fitted (length (now (c .before .before .before .before .before .before .before .before .before .before .before .before .before .before .before .before .args .out))) (encode (moved v (decode (now (c .before .before .before .before .before .before .before .before .before .before .before .before .before .before .before .before .args .«record»)) (c .before .before .before .before .before .before .before .before .before .before .before .f .given .0 .0))))) (sym (c .before .before .before .before .crop-move .ensures))) (c .before .before .draw .ensures)
 

@@ -24,36 +24,28 @@ use Rattle.transform.proofs.mirror_move.Reads as mirror-move-reads
 taken : (c : tie.After-f) → recordOf (now (c .before .before .before .before .before .args .«record»)) ≡ done (c .f .given .0 .0)
 taken c = sym (c .before .before .parse-record .ensures) ∙ ap frameOut (c .f .given .1)
 
--- src/lib.rt:204:11
 parse-record-requires : tie.Need-parse-record-requires
 parse-record-requires c κs = search needs
 
--- src/lib.rt:205:28
 enum-known-e : tie.Need-enum-known-e
 enum-known-e c = search needs
 
--- src/lib.rt:206:25
 enum-known-f : tie.Need-enum-known-f
 enum-known-f c = search needs
 
--- src/lib.rt:208:29
 mirror-move-requires : tie.Need-mirror-move-requires
 mirror-move-requires c κs = whole-sound _ _ (taken (c .before .before .before)) .0 .form
 
--- src/lib.rt:208:13
 draw-requires : tie.Need-draw-requires
 draw-requires c κs = let o = whole-sound _ _ (taken (c .before .before .before .before .before)) .0 in (o, rw (c .before .mirror-move .ensures) (mirror-fits _ _ (o .form)))
 
--- src/lib.rt:200:1
 returns : tie.Need-returns
 unfolding imirRun
 returns c = refused-answers _ _ _ (then-refused _ (sym (c .before .before .before .parse-record .ensures) ∙ ap frameOut (c .before .e .given .1)))
 
--- src/lib.rt:200:1
 same-length : tie.Need-same-length
 same-length c = search needs
 
--- src/lib.rt:200:1
 returns-2 : tie.Need-returns-2
 unfolding odd
 returns-2 c = answers-as _ _ _ _ _ (mirror-run _ _ (taken (c .before .before .before .before .before .before .before .before)) _ (c .before .before .before .before .before .before .before .before .before .before .before .before .before .args .imir) ∙ ap (λ (v : Move). fitted (length (now (c .before .before .before .before .before .before .before .before .before .before .before .before .before .args .out))) (encode (moved v (decode (now (c .before .before .before .before .before .before .before .before .before .before .before .before .before .args .«record»)) (c .before .before .before .before .before .before .before .before .f .given .0 .0))))) (sym (c .before .before .before .before .mirror-move .ensures))) (c .before .before .draw .ensures)

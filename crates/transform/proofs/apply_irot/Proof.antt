@@ -36,82 +36,63 @@ sound c = whole-sound _ _ (taken c) .0
 drawn : (c : tie.After-f) → Move → Out (List ℕ)
 drawn c v = fitted (length (now (c .before .before .before .before .before .args .out))) (encode (moved v (decode (now (c .before .before .before .before .before .args .«record»)) (c .f .given .0 .0))))
 
--- src/lib.rt:180:11
 parse-record-requires : tie.Need-parse-record-requires
 parse-record-requires c κs = search needs
 
--- src/lib.rt:181:28
 enum-known-e : tie.Need-enum-known-e
 enum-known-e c = search needs
 
--- src/lib.rt:182:25
 enum-known-f : tie.Need-enum-known-f
 enum-known-f c = search needs
 
--- src/lib.rt:186:17
 hand-back-requires : tie.Need-hand-back-requires
 hand-back-requires c κs = search needs
 
--- src/lib.rt:186:17
 same-length : tie.Need-same-length
 same-length c = search needs
 
--- src/lib.rt:186:17
 returns : tie.Need-returns
 returns c = answers-as _ _ _ _ _ (turn-none _ _ (taken (c .before .before .before .before .before .before .before .before)) _ (c .before .before .before .before .before .before .before .before .before .before .before .before .before .args .irot) (c .before .before .before .before .if1 .taken)) (c .before .before .hand-back .ensures)
 
--- src/lib.rt:189:40
 quarter-move-requires : tie.Need-quarter-move-requires
 quarter-move-requires c κs = sound (c .before .before .before .before .before) .form
 
--- src/lib.rt:189:17
 draw-requires : tie.Need-draw-requires
 draw-requires c κs = (sound (c .before .before .before .before .before .before .before), rw (c .before .quarter-move .ensures) (quarter-fits _ true false (sound (c .before .before .before .before .before .before .before) .form)))
 
--- src/lib.rt:189:17
 same-length-2 : tie.Need-same-length-2
 same-length-2 c = search needs
 
--- src/lib.rt:189:17
 returns-2 : tie.Need-returns-2
 unfolding drawn
 returns-2 c = answers-as _ _ _ _ _ (turn-left _ _ (taken (c .before .before .before .before .before .before .before .before .before .before)) _ (c .before .before .before .before .before .before .before .before .before .before .before .before .before .before .before .args .irot) (c .before .before .before .before .before .if2 .taken) ∙ ap (drawn (c .before .before .before .before .before .before .before .before .before .before)) (sym (c .before .before .before .before .quarter-move .ensures))) (c .before .before .draw .ensures)
 
--- src/lib.rt:192:40
 half-move-requires : tie.Need-half-move-requires
 half-move-requires c κs = sound (c .before .before .before .before .before .before) .form
 
--- src/lib.rt:192:17
 draw-requires-2 : tie.Need-draw-requires-2
 draw-requires-2 c κs = (sound (c .before .before .before .before .before .before .before .before), rw (c .before .half-move .ensures) (half-fits _ (sound (c .before .before .before .before .before .before .before .before) .form)))
 
--- src/lib.rt:192:17
 same-length-3 : tie.Need-same-length-3
 same-length-3 c = search needs
 
--- src/lib.rt:192:17
 returns-3 : tie.Need-returns-3
 unfolding drawn
 returns-3 c = answers-as _ _ _ _ _ (turn-half _ _ (taken (c .before .before .before .before .before .before .before .before .before .before .before)) _ (c .before .before .before .before .before .before .before .before .before .before .before .before .before .before .before .before .args .irot) (c .before .before .before .before .before .if3 .taken) ∙ ap (drawn (c .before .before .before .before .before .before .before .before .before .before .before)) (sym (c .before .before .before .before .half-move .ensures))) (c .before .before .draw2 .ensures)
 
--- src/lib.rt:194:29
 quarter-move-requires-2 : tie.Need-quarter-move-requires-2
 quarter-move-requires-2 c κs = sound (c .before .before .before .before .before .before) .form
 
--- src/lib.rt:194:13
 draw-requires-3 : tie.Need-draw-requires-3
 draw-requires-3 c κs = (sound (c .before .before .before .before .before .before .before .before), rw (c .before .quarter-move2 .ensures) (quarter-fits _ false true (sound (c .before .before .before .before .before .before .before .before) .form)))
 
--- src/lib.rt:176:1
 returns-4 : tie.Need-returns-4
 unfolding irotRun
 returns-4 c = refused-answers _ _ _ (then-refused _ (sym (c .before .before .before .parse-record .ensures) ∙ ap frameOut (c .before .e .given .1)))
 
--- src/lib.rt:176:1
 same-length-4 : tie.Need-same-length-4
 same-length-4 c = search needs
 
--- src/lib.rt:176:1
 returns-5 : tie.Need-returns-5
 unfolding drawn
 returns-5 c = answers-as _ _ _ _ _ (turn-right _ _ (taken (c .before .before .before .before .before .before .before .before .before .before .before)) _ (c .before .before .before .before .before .before .before .before .before .before .before .before .before .before .before .before .args .irot) (c .before .before .before .before .before .before .before .if1 .left) (c .before .before .before .before .before .before .if2 .left) (c .before .before .before .before .before .if3 .left) ∙ ap (drawn (c .before .before .before .before .before .before .before .before .before .before .before)) (sym (c .before .before .before .before .quarter-move2 .ensures))) (c .before .before .draw3 .ensures)

@@ -22,84 +22,64 @@ use Rattle.transform.proofs.draw.Reads as draw-reads
 taken : (c : tie.After-f) → recordOf (now (c .before .before .before .before .before .args .«record»)) ≡ done (c .f .given .0 .0)
 taken c = sym (c .before .before .parse-record .ensures) ∙ ap frameOut (c .f .given .1)
 
--- src/lib.rt:154:11
 parse-record-requires : tie.Need-parse-record-requires
 parse-record-requires c κs = search needs
 
--- src/lib.rt:155:28
 enum-known-e : tie.Need-enum-known-e
 enum-known-e c = search needs
 
--- src/lib.rt:156:25
 enum-known-f : tie.Need-enum-known-f
 enum-known-f c = search needs
 
--- src/lib.rt:159:17
 returns : tie.Need-returns
 returns c = refused-answers _ _ _ (crop-flat _ _ (taken (c .before .before .before .before)) _ _ (c .if1 .taken))
 
--- src/lib.rt:162:17
 returns-2 : tie.Need-returns-2
 returns-2 c = refused-answers _ _ _ (crop-thin _ _ (taken (c .before .before .before .before .before .before)) _ _ (c .before .before .if1 .left) (c .if2 .taken))
 
--- src/lib.rt:164:17
 cast-if3 : tie.Need-cast-if3
 cast-if3 c = search needs
 
--- src/lib.rt:164:35
 cast-if3-2 : tie.Need-cast-if3-2
 cast-if3-2 c = search needs
 
--- src/lib.rt:164:48
 cast-if3-3 : tie.Need-cast-if3-3
 cast-if3-3 c = search needs
 
--- src/lib.rt:164:35
 add-if3 : tie.Need-add-if3
 add-if3 c = search needs
 
--- src/lib.rt:165:17
 returns-3 : tie.Need-returns-3
 returns-3 c = refused-answers _ _ _ (crop-right _ _ (taken (c .before .before .before .before .before .before .before .before .before .before)) _ _ (c .before .before .before .before .before .before .if1 .left) (c .before .before .before .before .if2 .left) (c .if3 .taken))
 
--- src/lib.rt:167:17
 cast-if4 : tie.Need-cast-if4
 cast-if4 c = search needs
 
--- src/lib.rt:167:36
 cast-if4-2 : tie.Need-cast-if4-2
 cast-if4-2 c = search needs
 
--- src/lib.rt:167:49
 cast-if4-3 : tie.Need-cast-if4-3
 cast-if4-3 c = search needs
 
--- src/lib.rt:167:36
 add-if4 : tie.Need-add-if4
 add-if4 c = search needs
 
--- src/lib.rt:168:17
 returns-4 : tie.Need-returns-4
 returns-4 c = refused-answers _ _ _ (crop-below _ _ (taken (c .before .before .before .before .before .before .before .before .before .before .before .before .before .before)) _ _ (c .before .before .before .before .before .before .before .before .before .before .if1 .left) (c .before .before .before .before .before .before .before .before .if2 .left) (c .before .before .before .before .if3 .left) (c .if4 .taken))
 
--- src/lib.rt:170:29
 crop-move-requires : tie.Need-crop-move-requires
 crop-move-requires c κs = search needs
 
--- src/lib.rt:170:13
 draw-requires : tie.Need-draw-requires
 draw-requires c κs = (whole-sound _ _ (taken (c .before .before .before .before .before .before .before .before .before .before .before .before .before .before .before .before)) .0, rw (c .before .crop-move .ensures) (crop-inside _ _ (taken (c .before .before .before .before .before .before .before .before .before .before .before .before .before .before .before .before)) _ 0 (c .before .before .before .before .before .before .before .before .before .before .before .before .if1 .left) (c .before .before .before .before .before .before .before .before .before .before .if2 .left) (c .before .before .before .before .before .before .if3 .left) (c .before .before .if4 .left) .0))
 
--- src/lib.rt:150:1
 returns-5 : tie.Need-returns-5
 unfolding cropRun
 returns-5 c = refused-answers _ _ _ (then-refused _ (sym (c .before .before .before .parse-record .ensures) ∙ ap frameOut (c .before .e .given .1)))
 
--- src/lib.rt:150:1
 same-length : tie.Need-same-length
 same-length c = search needs
 
--- src/lib.rt:150:1
 returns-6 : tie.Need-returns-6
 returns-6 c = answers-as _ _ _ _ _ (crop-inside _ _ (taken (c .before .before .before .before .before .before .before .before .before .before .before .before .before .before .before .before .before .before .before)) _ _ (c .before .before .before .before .before .before .before .before .before .before .before .before .before .before .before .if1 .left) (c .before .before .before .before .before .before .before .before .before .before .before .before .before .if2 .left) (c .before .before .before .before .before .before .before .before .before .if3 .left) (c .before .before .before .before .before .if4 .left) .1 ∙ ap (λ (v : Move). fitted (length (now (c .before .before .before .before .before .before .before .before .before .before .before .before .before .before .before .before .before .before .before .before .before .before .before .before .args .out))) (encode (moved v (decode (now (c .before .before .before .before .before .before .before .before .before .before .before .before .before .before .before .before .before .before .before .before .before .before .before .before .args .«record»)) (c .before .before .before .before .before .before .before .before .before .before .before .before .before .before .before .before .before .before .before .f .given .0 .0))))) (sym (c .before .before .before .before .crop-move .ensures))) (c .before .before .draw .ensures)
 

@@ -6,11 +6,9 @@ use Rattle.transform.proofs.crop_form.Reads as reads
 use Rattle.transform.proofs.crop_form.Lts as lts
 use Rattle.transform.proofs.crop_move.Reads as crop-move-reads
 
--- src/lib.rt:126:9
 crop-move-requires : tie.Need-crop-move-requires
 crop-move-requires c κs = search needs
 
--- src/lib.rt:123:1
 returns : tie.Need-returns
 returns c = ap (λ v. v .form) (c .before .crop-move .ensures)
 

@@ -11,51 +11,39 @@ use Rattle.image.proofs.either.Reads as either-reads
 use Rattle.transform.proofs.form_with.Reads as form-with-reads
 use Rattle.image.proofs.is_odd.Reads as is-odd-reads
 
--- src/lib.rt:42:31
 is-odd-requires : tie.Need-is-odd-requires
 is-odd-requires c κs = search needs
 
--- src/lib.rt:42:44
 is-odd-requires-2 : tie.Need-is-odd-requires-2
 is-odd-requires-2 c κs = search needs
 
--- src/lib.rt:42:9
 either-requires : tie.Need-either-requires
 either-requires c κs = search needs
 
--- src/lib.rt:43:31
 is-odd-requires-3 : tie.Need-is-odd-requires-3
 is-odd-requires-3 c κs = search needs
 
--- src/lib.rt:43:44
 is-odd-requires-4 : tie.Need-is-odd-requires-4
 is-odd-requires-4 c κs = search needs
 
--- src/lib.rt:43:9
 either-requires-2 : tie.Need-either-requires-2
 either-requires-2 c κs = search needs
 
--- src/lib.rt:45:9
 needs-444-requires : tie.Need-needs-444-requires
 needs-444-requires c κs = search needs
 
--- src/lib.rt:47:15
 form-with-requires : tie.Need-form-with-requires
 form-with-requires c κs = search needs
 
--- src/lib.rt:47:15
 sized-requires : tie.Need-sized-requires
 sized-requires c κs = search needs
 
--- src/lib.rt:51:19
 cast-t11 : tie.Need-cast-t11
 cast-t11 c = search needs
 
--- src/lib.rt:55:19
 cast-t13 : tie.Need-cast-t13
 cast-t13 c = search needs
 
--- src/lib.rt:39:1
 returns : tie.Need-returns
 unfolding cropMove cropWith
 returns c =

@@ -18,23 +18,18 @@ size : (c : tie.After-record-size) → c .record-size .result ≡ length (encode
 unfolding moved
 size c = c .record-size .ensures ∙ sym (length-encode _)
 
--- src/lib.rt:132:20
 record-size-requires : tie.Need-record-size-requires
 record-size-requires c κs = search needs
 
--- src/lib.rt:133:9
 returns : tie.Need-returns
 returns c = refused-answers _ _ _ (fitted-short _ _ (rw (← (size (c .before))) (c .if1 .taken)))
 
--- src/lib.rt:135:19
 write-moved-requires : tie.Need-write-moved-requires
 write-moved-requires c κs = (c .before .before .before .before .before .before .pre .0, c .before .before .before .before .before .before .pre .1, rw (← (size (c .before .before))) (c .before .if1 .left))
 
--- src/lib.rt:126:1
 same-length : tie.Need-same-length
 same-length c = search needs
 
--- src/lib.rt:126:1
 returns-2 : tie.Need-returns-2
 returns-2 c = let h = rw (size (c .before .before .before .before .before)) at (c .before .before .before .before .if1 .left) in done-answers _ (encode (moved (c .before .before .before .before .before .before .before .before .before .args .v) (decode (now (c .before .before .before .before .before .before .before .before .before .args .«record»)) (c .before .before .before .before .before .before .before .before .before .args .fr)))) _ _ _ (fitted-room _ _ h) h (c .before .before .write-moved .ensures .0) (c .before .before .write-moved .ensures .1)
 

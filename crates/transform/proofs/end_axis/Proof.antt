@@ -6,16 +6,13 @@ use Rattle.transform.proofs.end_axis.Tie as tie
 use Rattle.transform.proofs.end_axis.Reads as reads
 use Rattle.transform.proofs.end_axis.Lts as lts
 
--- src/lib.rt:68:19
 sub-t5 : tie.Need-sub-t5
 sub-t5 c = search needs
 
--- src/lib.rt:67:9
 returns : tie.Need-returns
 unfolding endAxis pick
 returns c = simp (c .if1 .taken)
 
--- src/lib.rt:62:1
 returns-2 : tie.Need-returns-2
 unfolding endAxis pick
 returns-2 c = simp (c .if1 .left)

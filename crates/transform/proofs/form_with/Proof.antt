@@ -8,11 +8,9 @@ use Rattle.transform.proofs.form_with.Reads as reads
 use Rattle.transform.proofs.form_with.Lts as lts
 use Rattle.image.proofs.format.Form.as_444.Reads as as-444-reads
 
--- src/lib.rt:34:9
 as-444-requires : tie.Need-as-444-requires
 as-444-requires c κs = search needs
 
--- src/lib.rt:34:9
 returns : tie.Need-returns
 unfolding formWith pick
 returns c =
@@ -21,7 +19,6 @@ returns c =
       sym (c .as-444 .ensures),
     )
 
--- src/lib.rt:30:1
 returns-2 : tie.Need-returns-2
 unfolding formWith pick
 returns-2 c = simp (c .if1 .left)

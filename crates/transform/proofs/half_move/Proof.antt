@@ -11,35 +11,27 @@ use Rattle.transform.proofs.end_axis.Reads as end-axis-reads
 use Rattle.transform.proofs.form_with.Reads as form-with-reads
 use Rattle.image.proofs.is_odd.Reads as is-odd-reads
 
--- src/lib.rt:102:32
 is-odd-requires : tie.Need-is-odd-requires
 is-odd-requires c κs = search needs
 
--- src/lib.rt:102:49
 is-odd-requires-2 : tie.Need-is-odd-requires-2
 is-odd-requires-2 c κs = search needs
 
--- src/lib.rt:102:9
 needs-444-requires : tie.Need-needs-444-requires
 needs-444-requires c κs = search needs
 
--- src/lib.rt:104:15
 form-with-requires : tie.Need-form-with-requires
 form-with-requires c κs = search needs
 
--- src/lib.rt:104:15
 sized-requires : tie.Need-sized-requires
 sized-requires c κs = search needs
 
--- src/lib.rt:107:17
 end-axis-requires : tie.Need-end-axis-requires
 end-axis-requires c κs = search needs
 
--- src/lib.rt:108:15
 end-axis-requires-2 : tie.Need-end-axis-requires-2
 end-axis-requires-2 c κs = search needs
 
--- src/lib.rt:97:1
 returns : tie.Need-returns
 unfolding halfMove halfWith
 returns c =

@@ -7,15 +7,12 @@ use Rattle.transform.proofs.mirror_move.Reads as reads
 use Rattle.transform.proofs.mirror_move.Lts as lts
 use Rattle.transform.proofs.end_axis.Reads as end-axis-reads
 
--- src/lib.rt:120:17
 end-axis-requires : tie.Need-end-axis-requires
 end-axis-requires c κs = search needs
 
--- src/lib.rt:121:15
 end-axis-requires-2 : tie.Need-end-axis-requires-2
 end-axis-requires-2 c κs = search needs
 
--- src/lib.rt:112:1
 returns : tie.Need-returns
 unfolding mirrorMove
 returns c =

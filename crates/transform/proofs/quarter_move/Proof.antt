@@ -13,43 +13,33 @@ use Rattle.transform.proofs.end_axis.Reads as end-axis-reads
 use Rattle.transform.proofs.form_with.Reads as form-with-reads
 use Rattle.image.proofs.is_odd.Reads as is-odd-reads
 
--- src/lib.rt:85:41
 is-odd-requires : tie.Need-is-odd-requires
 is-odd-requires c κs = search needs
 
--- src/lib.rt:85:9
 either-requires : tie.Need-either-requires
 either-requires c κs = search needs
 
--- src/lib.rt:86:41
 is-odd-requires-2 : tie.Need-is-odd-requires-2
 is-odd-requires-2 c κs = search needs
 
--- src/lib.rt:86:9
 either-requires-2 : tie.Need-either-requires-2
 either-requires-2 c κs = search needs
 
--- src/lib.rt:87:9
 needs-444-requires : tie.Need-needs-444-requires
 needs-444-requires c κs = search needs
 
--- src/lib.rt:89:15
 form-with-requires : tie.Need-form-with-requires
 form-with-requires c κs = search needs
 
--- src/lib.rt:89:15
 sized-requires : tie.Need-sized-requires
 sized-requires c κs = search needs
 
--- src/lib.rt:92:17
 end-axis-requires : tie.Need-end-axis-requires
 end-axis-requires c κs = search needs
 
--- src/lib.rt:93:15
 end-axis-requires-2 : tie.Need-end-axis-requires-2
 end-axis-requires-2 c κs = search needs
 
--- src/lib.rt:79:1
 returns : tie.Need-returns
 unfolding quarterMove quarterWith lopsided
 returns c =

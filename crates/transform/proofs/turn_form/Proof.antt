@@ -10,25 +10,20 @@ use Rattle.transform.proofs.turn_form.Lts as lts
 use Rattle.transform.proofs.half_move.Reads as half-move-reads
 use Rattle.transform.proofs.quarter_move.Reads as quarter-move-reads
 
--- src/lib.rt:137:9
 returns : tie.Need-returns
 unfolding turnForm
 returns c = sym (ap (turnForm _) (quarter-zero _ (c .if1 .taken)))
 
--- src/lib.rt:140:13
 half-move-requires : tie.Need-half-move-requires
 half-move-requires c κs = search needs
 
--- src/lib.rt:141:9
 returns-2 : tie.Need-returns-2
 unfolding turnForm
 returns-2 c = ap (λ v. v .form) (c .before .half-move .ensures) ∙ sym (ap (turnForm _) (quarter-two _ (c .before .before .if2 .taken)))
 
--- src/lib.rt:143:9
 quarter-move-requires : tie.Need-quarter-move-requires
 quarter-move-requires c κs = search needs
 
--- src/lib.rt:131:1
 returns-3 : tie.Need-returns-3
 returns-3 c = ap (λ v. v .form) (c .before .quarter-move .ensures) ∙ turn-odd _ _ (c .before .before .before .if1 .left) (c .before .before .if2 .left)
 

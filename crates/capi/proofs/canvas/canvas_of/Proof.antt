@@ -7,91 +7,69 @@ use Rattle.capi.proofs.canvas.canvas_of.Lts as lts
 use Rattle.capi.proofs.canvas.field_of.Reads as field-of-reads
 use Rattle.capi.proofs.canvas.marks_of.Reads as marks-of-reads
 
--- src/canvas.rt:51:24
 shared-slice-read-field-of : tie.Need-shared-slice-read-field-of
 shared-slice-read-field-of c = search needs
 
--- src/canvas.rt:51:15
 field-of-requires : tie.Need-field-of-requires
 field-of-requires c κs = search needs
 
--- src/canvas.rt:52:27
 shared-slice-read-field-of-2 : tie.Need-shared-slice-read-field-of-2
 shared-slice-read-field-of-2 c = search needs
 
--- src/canvas.rt:52:18
 field-of-requires-2 : tie.Need-field-of-requires-2
 field-of-requires-2 c κs = search needs
 
--- src/canvas.rt:53:32
 shared-slice-read-field-of-3 : tie.Need-shared-slice-read-field-of-3
 shared-slice-read-field-of-3 c = search needs
 
--- src/canvas.rt:53:23
 field-of-requires-3 : tie.Need-field-of-requires-3
 field-of-requires-3 c κs = search needs
 
--- src/canvas.rt:54:33
 shared-slice-read-field-of-4 : tie.Need-shared-slice-read-field-of-4
 shared-slice-read-field-of-4 c = search needs
 
--- src/canvas.rt:54:24
 field-of-requires-4 : tie.Need-field-of-requires-4
 field-of-requires-4 c κs = search needs
 
--- src/canvas.rt:57:26
 shared-slice-read-field-of-5 : tie.Need-shared-slice-read-field-of-5
 shared-slice-read-field-of-5 c = search needs
 
--- src/canvas.rt:57:17
 field-of-requires-5 : tie.Need-field-of-requires-5
 field-of-requires-5 c κs = search needs
 
--- src/canvas.rt:58:25
 shared-slice-read-field-of-6 : tie.Need-shared-slice-read-field-of-6
 shared-slice-read-field-of-6 c = search needs
 
--- src/canvas.rt:58:16
 field-of-requires-6 : tie.Need-field-of-requires-6
 field-of-requires-6 c κs = search needs
 
--- src/canvas.rt:59:25
 shared-slice-read-field-of-7 : tie.Need-shared-slice-read-field-of-7
 shared-slice-read-field-of-7 c = search needs
 
--- src/canvas.rt:59:16
 field-of-requires-7 : tie.Need-field-of-requires-7
 field-of-requires-7 c κs = search needs
 
--- src/canvas.rt:62:25
 shared-slice-read-field-of-8 : tie.Need-shared-slice-read-field-of-8
 shared-slice-read-field-of-8 c = search needs
 
--- src/canvas.rt:62:16
 field-of-requires-8 : tie.Need-field-of-requires-8
 field-of-requires-8 c κs = search needs
 
--- src/canvas.rt:63:26
 shared-slice-read-field-of-9 : tie.Need-shared-slice-read-field-of-9
 shared-slice-read-field-of-9 c = search needs
 
--- src/canvas.rt:63:17
 field-of-requires-9 : tie.Need-field-of-requires-9
 field-of-requires-9 c κs = search needs
 
--- src/canvas.rt:66:26
 shared-slice-read-field-of-10 : tie.Need-shared-slice-read-field-of-10
 shared-slice-read-field-of-10 c = search needs
 
--- src/canvas.rt:66:9
 field-of-requires-10 : tie.Need-field-of-requires-10
 field-of-requires-10 c κs = search needs
 
--- src/canvas.rt:67:9
 marks-of-requires : tie.Need-marks-of-requires
 marks-of-requires c κs = search needs
 
--- src/canvas.rt:46:1
 returns : tie.Need-returns
 unfolding canvasOf wordAt
 returns c = rw (c .before .before .before .before .before .before .before .before .before .before .before .before .before .before .before .before .before .before .before .field-of .ensures, c .before .before .before .before .before .before .before .before .before .before .before .before .before .before .before .before .before .field-of2 .ensures, c .before .before .before .before .before .before .before .before .before .before .before .before .before .before .before .field-of3 .ensures, c .before .before .before .before .before .before .before .before .before .before .before .before .before .field-of4 .ensures, c .before .before .before .before .before .before .before .before .before .before .before .field-of5 .ensures, c .before .before .before .before .before .before .before .before .before .field-of6 .ensures, c .before .before .before .before .before .before .before .field-of7 .ensures, c .before .before .before .before .before .field-of8 .ensures, c .before .before .before .field-of9 .ensures, c .before .field-of10 .ensures, c .marks-of .ensures)

@@ -14,36 +14,28 @@ use Rattle.capi.proofs.canvas.keep.Reads as keep-reads
 use Rattle.capi.proofs.code.refusal_code.Reads as refusal-code-reads
 use Rattle.session.proofs.state.Canvas.blank.Reads as blank-reads
 
--- src/canvas.rt:174:9
 refusal-code-requires : tie.Need-refusal-code-requires
 refusal-code-requires c κs = search needs
 
--- src/canvas.rt:174:9
 returns : tie.Need-returns
 unfolding blankRun
 returns c = drawn-short _ _ _ _ _ (state-short _ _ (c .before .if1 .taken)) (c .refusal-code .ensures)
 
--- src/canvas.rt:176:9
 canvas-of-requires : tie.Need-canvas-of-requires
 canvas-of-requires c κs = search needs
 
--- src/canvas.rt:177:9
 blank-requires : tie.Need-blank-requires
 blank-requires c κs = search needs
 
--- src/canvas.rt:178:5
 keep-requires : tie.Need-keep-requires
 keep-requires c κs = search needs
 
--- src/canvas.rt:167:1
 same-length : tie.Need-same-length
 same-length c = search needs
 
--- src/canvas.rt:167:1
 same-length-2 : tie.Need-same-length-2
 same-length-2 c = search needs
 
--- src/canvas.rt:167:1
 returns-2 : tie.Need-returns-2
 unfolding blankRun
 returns-2 c = drawn-answers _ _ _ _ _ _ _ _ _ (state-read _ _ (c .before .before .before .before .before .before .before .before .before .before .if1 .left) ∙ ap (λ (s : Canvas). blankOf s (c .before .before .before .before .before .before .before .before .before .before .before .before .before .args .index) (now (c .before .before .before .before .before .before .before .before .before .before .before .before .before .args .buffer))) (sym (c .before .before .before .before .before .before .before .before .canvas-of .ensures))) (c .before .before .before .before .before .before .blank .ensures .0) (c .before .before .keep .ensures) (c .before .before .before .before .before .before .blank .ensures .1)

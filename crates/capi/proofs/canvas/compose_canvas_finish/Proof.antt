@@ -16,28 +16,22 @@ use Rattle.capi.proofs.code.answer_code.Reads as answer-code-reads
 use Rattle.capi.proofs.code.refusal_code.Reads as refusal-code-reads
 use Rattle.session.proofs.state.Canvas.finish.Reads as finish-reads
 
--- src/canvas.rt:187:9
 refusal-code-requires : tie.Need-refusal-code-requires
 refusal-code-requires c κs = search needs
 
--- src/canvas.rt:187:9
 returns : tie.Need-returns
 unfolding finishRun codeOf
 returns c = c .refusal-code .ensures ∙ sym (ap codeOf (state-short _ _ (c .before .if1 .taken)))
 
--- src/canvas.rt:189:9
 canvas-of-requires : tie.Need-canvas-of-requires
 canvas-of-requires c κs = search needs
 
--- src/canvas.rt:190:17
 finish-requires : tie.Need-finish-requires
 finish-requires c κs = search needs
 
--- src/canvas.rt:190:5
 answer-code-requires : tie.Need-answer-code-requires
 answer-code-requires c κs = search needs
 
--- src/canvas.rt:182:1
 returns-2 : tie.Need-returns-2
 unfolding finishRun
 returns-2 c = c .answer-code .ensures ∙ ap answerCode (c .before .finish .ensures) ∙ length-code _ ∙ ap (λ (s : Canvas). codeOf (finishOf s (length (now (c .before .before .before .before .before .before .args .buffer))))) (c .before .before .canvas-of .ensures) ∙ ap codeOf (sym (state-read _ _ (c .before .before .before .if1 .left)))

@@ -14,36 +14,28 @@ use Rattle.capi.proofs.canvas.keep.Reads as keep-reads
 use Rattle.capi.proofs.code.refusal_code.Reads as refusal-code-reads
 use Rattle.session.proofs.state.Canvas.place.Reads as place-reads
 
--- src/canvas.rt:159:9
 refusal-code-requires : tie.Need-refusal-code-requires
 refusal-code-requires c κs = search needs
 
--- src/canvas.rt:159:9
 returns : tie.Need-returns
 unfolding placeRun
 returns c = drawn-short _ _ _ _ _ (state-short _ _ (c .before .if1 .taken)) (c .refusal-code .ensures)
 
--- src/canvas.rt:161:9
 canvas-of-requires : tie.Need-canvas-of-requires
 canvas-of-requires c κs = search needs
 
--- src/canvas.rt:162:9
 place-requires : tie.Need-place-requires
 place-requires c κs = search needs
 
--- src/canvas.rt:163:5
 keep-requires : tie.Need-keep-requires
 keep-requires c κs = search needs
 
--- src/canvas.rt:147:1
 same-length : tie.Need-same-length
 same-length c = search needs
 
--- src/canvas.rt:147:1
 same-length-2 : tie.Need-same-length-2
 same-length-2 c = search needs
 
--- src/canvas.rt:147:1
 returns-2 : tie.Need-returns-2
 unfolding placeRun
 returns-2 c = drawn-answers _ _ _ _ _ _ _ _ _ (state-read _ _ (c .before .before .before .before .before .before .before .before .before .before .if1 .left) ∙ ap (λ (s : Canvas). placeOf s (c .before .before .before .before .before .before .before .before .before .before .before .before .before .before .args .index) (now (c .before .before .before .before .before .before .before .before .before .before .before .before .before .before .args .record)) (now (c .before .before .before .before .before .before .before .before .before .before .before .before .before .before .args .buffer))) (sym (c .before .before .before .before .before .before .before .before .canvas-of .ensures))) (c .before .before .before .before .before .before .place .ensures .0) (c .before .before .keep .ensures) (c .before .before .before .before .before .before .place .ensures .1)

@@ -12,45 +12,35 @@ use Rattle.capi.proofs.canvas.put_canvas.Reads as put-canvas-reads
 use Rattle.capi.proofs.code.refusal_code.Reads as refusal-code-reads
 use Rattle.session.proofs.state.Canvas.start.Reads as start-reads
 
--- src/canvas.rt:131:9
 start-requires : tie.Need-start-requires
 start-requires c κs = search needs
 
--- src/canvas.rt:134:25
 enum-known-answer : tie.Need-enum-known-answer
 enum-known-answer c = search needs
 
--- src/canvas.rt:134:31
 refusal-code-requires : tie.Need-refusal-code-requires
 refusal-code-requires c κs = search needs
 
--- src/canvas.rt:136:16
 enum-told : tie.Need-enum-told
 enum-told c = search needs
 
--- src/canvas.rt:137:17
 refusal-code-requires-2 : tie.Need-refusal-code-requires-2
 refusal-code-requires-2 c κs = search needs
 
--- src/canvas.rt:137:17
 returns : tie.Need-returns
 unfolding startRun
 returns c = refused-code _ _ _ _ (then-done _ (called-done _ _ _ _ (c .before .before .before .before .start .ensures) (c .before .before .enum-told .given .1)) ∙ fitted-short _ _ (rw (start-words _ _ (called-done _ _ _ _ (c .before .before .before .before .start .ensures) (c .before .before .enum-told .given .1))) (c .before .if1 .taken))) (c .refusal-code2 .ensures)
 
--- src/canvas.rt:139:13
 put-canvas-requires : tie.Need-put-canvas-requires
 put-canvas-requires c κs = search needs
 
--- src/canvas.rt:126:1
 returns-2 : tie.Need-returns-2
 unfolding startRun
 returns-2 c = refused-code _ _ _ _ (then-refused _ (called-refused _ _ _ _ (c .before .before .before .before .start .ensures) (c .before .before .answer .given .1))) (c .refusal-code .ensures)
 
--- src/canvas.rt:126:1
 same-length : tie.Need-same-length
 same-length c = search needs
 
--- src/canvas.rt:126:1
 returns-3 : tie.Need-returns-3
 unfolding startRun
 returns-3 c = done-code _ (wordsOf (c .before .before .before .before .before .before .before .start .result .canvas)) _ _ (then-done _ (called-done _ _ _ _ (c .before .before .before .before .before .before .before .start .ensures) (c .before .before .before .before .before .enum-told .given .1)) ∙ fitted-room _ _ (rw (c .before .before .put-canvas .ensures .0) (c .before .before .before .before .if1 .left))) (rw (c .before .before .put-canvas .ensures .0) (c .before .before .before .before .if1 .left)) (c .before .before .put-canvas .ensures .1)

@@ -8,16 +8,13 @@ use Rattle.capi.proofs.canvas.field_of.Tie as tie
 use Rattle.capi.proofs.canvas.field_of.Reads as reads
 use Rattle.capi.proofs.canvas.field_of.Lts as lts
 
--- src/canvas.rt:26:16
 cast-result : tie.Need-cast-result
 cast-result c = search needs
 
--- src/canvas.rt:26:9
 returns : tie.Need-returns
 unfolding fieldOf
 returns c = sym (pick-true _ _ _ (lt-ltb _ _ (c .if1 .taken)))
 
--- src/canvas.rt:22:1
 returns-2 : tie.Need-returns-2
 unfolding fieldOf
 returns-2 c = sym (pick-false _ _ _ (le-ltb _ _ (c .if1 .left)))

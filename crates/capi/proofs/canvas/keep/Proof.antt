@@ -7,31 +7,24 @@ use Rattle.capi.proofs.canvas.keep.Lts as lts
 use Rattle.capi.proofs.canvas.put_canvas.Reads as put-canvas-reads
 use Rattle.capi.proofs.code.refusal_code.Reads as refusal-code-reads
 
--- src/canvas.rt:117:25
 enum-known-answer : tie.Need-enum-known-answer
 enum-known-answer c = search needs
 
--- src/canvas.rt:117:31
 refusal-code-requires : tie.Need-refusal-code-requires
 refusal-code-requires c κs = search needs
 
--- src/canvas.rt:119:24
 enum-told : tie.Need-enum-told
 enum-told c = search needs
 
--- src/canvas.rt:119:13
 put-canvas-requires : tie.Need-put-canvas-requires
 put-canvas-requires c κs = search needs
 
--- src/canvas.rt:110:1
 returns : tie.Need-returns
 returns c = kept-refused (c .before .before .before .before .before .args .called) _ _ _ (c .before .before .answer .given .1) (c .refusal-code .ensures)
 
--- src/canvas.rt:110:1
 same-length : tie.Need-same-length
 same-length c = search needs
 
--- src/canvas.rt:110:1
 returns-2 : tie.Need-returns-2
 returns-2 c = kept-done (c .before .before .before .before .before .before .before .args .called) _ _ _ (c .before .before .before .before .enum-told .given .1) (rw (c .before .before .put-canvas .ensures .0) (c .before .before .before .before .before .before .before .pre)) (c .before .before .put-canvas .ensures .1)
 

@@ -18,43 +18,33 @@ Inv-loop state marks₀ i₀ marks i = (i ≤ 1024) × Writing marks₀ 0 (marks
 abbrev μ-loop : tie.MeasureT-loop
 μ-loop state marks₀ i₀ marks i = 1024 - i
 
--- src/canvas.rt:38:5
 loop-holds : tie.Need-loop-holds Inv-loop μ-loop
 loop-holds c = (omega arith, writing-whole _ _ (rw (marks-length _ (c .pre)) (omega arith)))
 
--- src/canvas.rt:39:26
 add-marks : tie.Need-add-marks Inv-loop μ-loop
 add-marks c = search needs
 
--- src/canvas.rt:39:20
 mul-marks : tie.Need-mul-marks Inv-loop μ-loop
 mul-marks c = search needs
 
--- src/canvas.rt:39:20
 shared-slice-read-marks : tie.Need-shared-slice-read-marks Inv-loop μ-loop
 shared-slice-read-marks c = search needs
 
--- src/canvas.rt:39:9
 mul-marks-2 : tie.Need-mul-marks-2 Inv-loop μ-loop
 mul-marks-2 c = search needs
 
--- src/canvas.rt:39:9
 array-write-marks : tie.Need-array-write-marks Inv-loop μ-loop
 array-write-marks c = search needs
 
--- src/canvas.rt:40:9
 add-i : tie.Need-add-i Inv-loop μ-loop
 add-i c = search needs
 
--- src/canvas.rt:38:5
 loop-less : tie.Need-loop-less Inv-loop μ-loop
 loop-less c = search needs
 
--- src/canvas.rt:38:5
 loop-again : tie.Need-loop-again Inv-loop μ-loop
 loop-again c = let r = c .before .before .loop in (omega arith, writing-put (writing-as (r .inv .1) (marks-next _ (r .i) (c .before .before .before .pre) (c .before .loop-test .taken))))
 
--- src/canvas.rt:32:1
 returns : tie.Need-returns Inv-loop μ-loop
 returns c = let r = c .before .loop in writing-done (writing-as (r .inv .1) (drop-of-length-le (marksOf (now (c .before .before .args .state))) {i = r .i} (rw (marks-length _ (c .before .before .pre)) (omega arith)))) .1 ∙ puts-whole _ _ (marks-length _ (c .before .before .pre))
 

@@ -13,95 +13,72 @@ use Rattle.capi.proofs.canvas.put_canvas.Reads as reads
 use Rattle.capi.proofs.canvas.put_canvas.Lts as lts
 use Rattle.capi.proofs.canvas.put_marks.Reads as put-marks-reads
 
--- src/canvas.rt:96:16
 cast-state : tie.Need-cast-state
 cast-state c = search needs
 
--- src/canvas.rt:96:5
 slice-write-state : tie.Need-slice-write-state
 slice-write-state c = search needs
 
--- src/canvas.rt:97:16
 cast-state-2 : tie.Need-cast-state-2
 cast-state-2 c = search needs
 
--- src/canvas.rt:97:5
 slice-write-state-2 : tie.Need-slice-write-state-2
 slice-write-state-2 c = simp length-set (omega (arith, c .before .before .before .before .before .before .pre))
 
--- src/canvas.rt:98:16
 cast-state-3 : tie.Need-cast-state-3
 cast-state-3 c = search needs
 
--- src/canvas.rt:98:5
 slice-write-state-3 : tie.Need-slice-write-state-3
 slice-write-state-3 c = simp length-set (omega (arith, c .before .before .before .before .before .before .before .pre))
 
--- src/canvas.rt:99:16
 cast-state-4 : tie.Need-cast-state-4
 cast-state-4 c = search needs
 
--- src/canvas.rt:99:5
 slice-write-state-4 : tie.Need-slice-write-state-4
 slice-write-state-4 c = simp length-set (omega (arith, c .before .before .before .before .before .before .before .before .pre))
 
--- src/canvas.rt:100:16
 cast-state-5 : tie.Need-cast-state-5
 cast-state-5 c = search needs
 
--- src/canvas.rt:100:5
 slice-write-state-5 : tie.Need-slice-write-state-5
 slice-write-state-5 c = simp length-set (omega (arith, c .before .before .before .before .before .before .before .before .before .pre))
 
--- src/canvas.rt:101:16
 cast-state-6 : tie.Need-cast-state-6
 cast-state-6 c = search needs
 
--- src/canvas.rt:101:5
 slice-write-state-6 : tie.Need-slice-write-state-6
 slice-write-state-6 c = simp length-set (omega (arith, c .before .before .before .before .before .before .before .before .before .before .pre))
 
--- src/canvas.rt:102:16
 cast-state-7 : tie.Need-cast-state-7
 cast-state-7 c = search needs
 
--- src/canvas.rt:102:5
 slice-write-state-7 : tie.Need-slice-write-state-7
 slice-write-state-7 c = simp length-set (omega (arith, c .before .before .before .before .before .before .before .before .before .before .before .pre))
 
--- src/canvas.rt:103:16
 cast-state-8 : tie.Need-cast-state-8
 cast-state-8 c = search needs
 
--- src/canvas.rt:103:5
 slice-write-state-8 : tie.Need-slice-write-state-8
 slice-write-state-8 c = simp length-set (omega (arith, c .before .before .before .before .before .before .before .before .before .before .before .before .pre))
 
--- src/canvas.rt:104:16
 cast-state-9 : tie.Need-cast-state-9
 cast-state-9 c = search needs
 
--- src/canvas.rt:104:5
 slice-write-state-9 : tie.Need-slice-write-state-9
 slice-write-state-9 c = simp length-set (omega (arith, c .before .before .before .before .before .before .before .before .before .before .before .before .before .pre))
 
--- src/canvas.rt:105:16
 cast-state-10 : tie.Need-cast-state-10
 cast-state-10 c = search needs
 
--- src/canvas.rt:105:5
 slice-write-state-10 : tie.Need-slice-write-state-10
 slice-write-state-10 c = simp length-set (omega (arith, c .before .before .before .before .before .before .before .before .before .before .before .before .before .before .pre))
 
--- src/canvas.rt:107:5
 put-marks-requires : tie.Need-put-marks-requires
 put-marks-requires c κs = simp length-set (c .before .before .before .before .before .before .before .before .before .before .before .before .before .before .before .before .pre)
 
--- src/canvas.rt:89:1
 same-length : tie.Need-same-length
 same-length c = ap length (c .before .before .put-marks .ensures .1) ∙ length-puts _ 10 _ ∙ simp length-set
 
--- src/canvas.rt:89:1
 returns : tie.Need-returns
 unfolding puts wordsOf gridWords formWords
 returns c = (omega (arith, c .before .before .put-marks .ensures .0), c .before .before .put-marks .ensures .1)

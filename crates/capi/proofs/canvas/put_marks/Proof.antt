@@ -23,47 +23,36 @@ module _ (c : tie.In-loop Inv-loop μ-loop) where
   next : let r = c .before .loop in drop (r .i) (c .before .before .args .t2) ≡ getD (c .before .before .args .t2) (r .i) 0 ∷ drop (r .i + 1) (c .before .before .args .t2)
   next = let r = c .before .loop in drop-cons (c .before .before .args .t2) (r .i) 0 (rw (c .before .before .good .1 .0 .1 .0 .1) (c .loop-test .taken)) ∙ ap (λ (k : ℕ). getD (c .before .before .args .t2) (r .i) 0 ∷ drop k (c .before .before .args .t2)) (sym (add-one (r .i)))
 
--- src/canvas.rt:82:5
 loop-holds : tie.Need-loop-holds Inv-loop μ-loop
 loop-holds c = (omega arith, writing-start _ _ _ (rw (c .good .1 .0 .1 .0 .1) (c .pre)))
 
--- src/canvas.rt:83:25
 mul-state : tie.Need-mul-state Inv-loop μ-loop
 mul-state c = search needs
 
--- src/canvas.rt:83:25
 array-read-state : tie.Need-array-read-state Inv-loop μ-loop
 array-read-state c = search needs
 
--- src/canvas.rt:83:15
 add-state : tie.Need-add-state Inv-loop μ-loop
 add-state c = search needs
 
--- src/canvas.rt:83:9
 mul-state-2 : tie.Need-mul-state-2 Inv-loop μ-loop
 mul-state-2 c = search needs
 
--- src/canvas.rt:83:9
 slice-write-state : tie.Need-slice-write-state Inv-loop μ-loop
 slice-write-state c = let r = c .before .loop in let l = ap length (next c) in let w = r .inv .1 in omega (arith, w .room)
 
--- src/canvas.rt:84:9
 add-i : tie.Need-add-i Inv-loop μ-loop
 add-i c = search needs
 
--- src/canvas.rt:82:5
 loop-less : tie.Need-loop-less Inv-loop μ-loop
 loop-less c = search needs
 
--- src/canvas.rt:82:5
 loop-again : tie.Need-loop-again Inv-loop μ-loop
 loop-again c = let r = c .before .loop in (omega arith, writing-to (writing-put (writing-as (r .inv .1) (next c))) (omega arith))
 
--- src/canvas.rt:77:1
 same-length : tie.Need-same-length Inv-loop μ-loop
 same-length c = search needs
 
--- src/canvas.rt:77:1
 returns : tie.Need-returns Inv-loop μ-loop
 returns c = let r = c .before .loop in let l : length (c .before .before .args .t2) ≤ r .i = rw (c .before .before .good .1 .0 .1 .0 .1) (omega arith) in (c .before .before .good .1 .0 .1 .0 .1, writing-done (writing-as (r .inv .1) (drop-of-length-le (c .before .before .args .t2) l)) .1)
 

@@ -7,24 +7,19 @@ use Rattle.capi.proofs.code.answer_code.Reads as reads
 use Rattle.capi.proofs.code.answer_code.Lts as lts
 use Rattle.capi.proofs.code.refusal_code.Reads as refusal-code-reads
 
--- src/code.rt:18:23
 enum-known-a : tie.Need-enum-known-a
 enum-known-a c = search needs
 
--- src/code.rt:19:25
 enum-known-a-2 : tie.Need-enum-known-a-2
 enum-known-a-2 c = search needs
 
--- src/code.rt:19:31
 refusal-code-requires : tie.Need-refusal-code-requires
 refusal-code-requires c κs = search needs
 
--- src/code.rt:14:1
 returns : tie.Need-returns
 unfolding answerCode
 returns c = rw (c .before .a .given .1) refl
 
--- src/code.rt:14:1
 returns-2 : tie.Need-returns-2
 unfolding answerCode
 returns-2 c = rw (c .before .before .a2 .given .1) (c .refusal-code .ensures)

@@ -6,12 +6,10 @@ use Rattle.capi.proofs.fills.colour_of.Tie as tie
 use Rattle.capi.proofs.fills.colour_of.Reads as reads
 use Rattle.capi.proofs.fills.colour_of.Lts as lts
 
--- src/fills.rt:21:9
 returns : tie.Need-returns
 unfolding colourOf pick
 returns c = simp (eq-eqb _ _ (c .if1 .taken))
 
--- src/fills.rt:17:1
 returns-2 : tie.Need-returns-2
 unfolding colourOf pick
 returns-2 c = simp (ne-eqb _ _ (c .if1 .left))

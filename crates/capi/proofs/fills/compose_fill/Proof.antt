@@ -15,49 +15,38 @@ use Rattle.capi.proofs.fills.colour_of.Reads as colour-of-reads
 use Rattle.capi.proofs.fills.put_fill.Reads as put-fill-reads
 use Rattle.fill.proofs.fill_to_ycbcr.Reads as fill-to-ycbcr-reads
 
--- src/fills.rt:54:56
 colour-of-requires : tie.Need-colour-of-requires
 colour-of-requires c κs = search needs
 
--- src/fills.rt:54:11
 fill-to-ycbcr-requires : tie.Need-fill-to-ycbcr-requires
 fill-to-ycbcr-requires c κs = search needs
 
--- src/fills.rt:55:25
 enum-known-e : tie.Need-enum-known-e
 enum-known-e c = search needs
 
--- src/fills.rt:55:31
 refusal-code-requires : tie.Need-refusal-code-requires
 refusal-code-requires c κs = search needs
 
--- src/fills.rt:56:25
 enum-known-s : tie.Need-enum-known-s
 enum-known-s c = search needs
 
--- src/fills.rt:58:17
 refusal-code-requires-2 : tie.Need-refusal-code-requires-2
 refusal-code-requires-2 c κs = search needs
 
--- src/fills.rt:58:17
 returns : tie.Need-returns
 unfolding fillRun fillWords
 returns c = refused-code _ _ _ _ (then-done _ (rw (c .before .before .before .before .before .before .colour-of .ensures) at (sym (c .before .before .before .before .before .fill-to-ycbcr .ensures) ∙ ap filledOut (c .before .before .before .s .given .1))) ∙ fitted-short _ _ (c .before .if1 .taken)) (c .refusal-code2 .ensures)
 
--- src/fills.rt:60:13
 put-fill-requires : tie.Need-put-fill-requires
 put-fill-requires c κs = search needs
 
--- src/fills.rt:40:1
 returns-2 : tie.Need-returns-2
 unfolding fillRun
 returns-2 c = refused-code _ _ _ _ (then-refused _ (rw (c .before .before .before .before .before .colour-of .ensures) at (sym (c .before .before .before .before .fill-to-ycbcr .ensures) ∙ ap filledOut (c .before .before .e .given .1)))) (c .refusal-code .ensures)
 
--- src/fills.rt:40:1
 same-length : tie.Need-same-length
 same-length c = search needs
 
--- src/fills.rt:40:1
 returns-3 : tie.Need-returns-3
 unfolding fillRun fillWords
 returns-3 c = done-code _ (fillWords (c .before .before .before .before .before .before .s .given .0 .0)) (now (c .before .before .before .before .before .before .before .before .before .before .before .args .answer)) _ (then-done _ (rw (c .before .before .before .before .before .before .before .before .before .colour-of .ensures) at (sym (c .before .before .before .before .before .before .before .before .fill-to-ycbcr .ensures) ∙ ap filledOut (c .before .before .before .before .before .before .s .given .1))) ∙ fitted-room (length (now (c .before .before .before .before .before .before .before .before .before .before .before .args .answer))) _ (c .before .before .before .before .if1 .left)) (c .before .before .before .before .if1 .left) (c .before .before .put-fill .ensures)

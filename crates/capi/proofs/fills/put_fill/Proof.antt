@@ -9,23 +9,18 @@ use Rattle.capi.proofs.fills.put_fill.Tie as tie
 use Rattle.capi.proofs.fills.put_fill.Reads as reads
 use Rattle.capi.proofs.fills.put_fill.Lts as lts
 
--- src/fills.rt:34:5
 slice-write-answer : tie.Need-slice-write-answer
 slice-write-answer c = search needs
 
--- src/fills.rt:35:5
 slice-write-answer-2 : tie.Need-slice-write-answer-2
 slice-write-answer-2 c = simp length-set (omega (arith, c .pre))
 
--- src/fills.rt:36:5
 slice-write-answer-3 : tie.Need-slice-write-answer-3
 slice-write-answer-3 c = simp length-set (omega (arith, c .pre))
 
--- src/fills.rt:30:1
 same-length : tie.Need-same-length
 same-length c = search needs
 
--- src/fills.rt:30:1
 returns : tie.Need-returns
 unfolding puts fillWords
 returns c = refl

@@ -8,19 +8,15 @@ use Rattle.capi.proofs.operation.compose_clap.Lts as lts
 use Rattle.capi.proofs.code.answer_code.Reads as answer-code-reads
 use Rattle.transform.proofs.apply_clap.Reads as apply-clap-reads
 
--- src/operation.rt:55:17
 apply-clap-requires : tie.Need-apply-clap-requires
 apply-clap-requires c κs = search needs
 
--- src/operation.rt:55:5
 answer-code-requires : tie.Need-answer-code-requires
 answer-code-requires c κs = search needs
 
--- src/operation.rt:39:1
 same-length : tie.Need-same-length
 same-length c = search needs
 
--- src/operation.rt:39:1
 returns : tie.Need-returns
 returns c = (c .answer-code .ensures ∙ ap answerCode (c .before .before .before .apply-clap .ensures .0), c .before .before .before .apply-clap .ensures .1)
 

@@ -8,19 +8,15 @@ use Rattle.capi.proofs.operation.compose_crop.Lts as lts
 use Rattle.capi.proofs.code.answer_code.Reads as answer-code-reads
 use Rattle.transform.proofs.crop.Reads as crop-reads
 
--- src/operation.rt:26:17
 crop-requires : tie.Need-crop-requires
 crop-requires c κs = search needs
 
--- src/operation.rt:26:5
 answer-code-requires : tie.Need-answer-code-requires
 answer-code-requires c κs = search needs
 
--- src/operation.rt:14:1
 same-length : tie.Need-same-length
 same-length c = search needs
 
--- src/operation.rt:14:1
 returns : tie.Need-returns
 returns c = (c .answer-code .ensures ∙ ap answerCode (c .before .before .before .crop .ensures .0), c .before .before .before .crop .ensures .1)
 

@@ -8,19 +8,15 @@ use Rattle.capi.proofs.operation.compose_imir.Lts as lts
 use Rattle.capi.proofs.code.answer_code.Reads as answer-code-reads
 use Rattle.transform.proofs.apply_imir.Reads as apply-imir-reads
 
--- src/operation.rt:86:17
 apply-imir-requires : tie.Need-apply-imir-requires
 apply-imir-requires c κs = search needs
 
--- src/operation.rt:86:5
 answer-code-requires : tie.Need-answer-code-requires
 answer-code-requires c κs = search needs
 
--- src/operation.rt:81:1
 same-length : tie.Need-same-length
 same-length c = search needs
 
--- src/operation.rt:81:1
 returns : tie.Need-returns
 returns c = (c .answer-code .ensures ∙ ap answerCode (c .before .before .before .apply-imir .ensures .0), c .before .before .before .apply-imir .ensures .1)
 

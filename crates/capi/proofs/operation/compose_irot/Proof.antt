@@ -8,19 +8,15 @@ use Rattle.capi.proofs.operation.compose_irot.Lts as lts
 use Rattle.capi.proofs.code.answer_code.Reads as answer-code-reads
 use Rattle.transform.proofs.apply_irot.Reads as apply-irot-reads
 
--- src/operation.rt:77:17
 apply-irot-requires : tie.Need-apply-irot-requires
 apply-irot-requires c κs = search needs
 
--- src/operation.rt:77:5
 answer-code-requires : tie.Need-answer-code-requires
 answer-code-requires c κs = search needs
 
--- src/operation.rt:72:1
 same-length : tie.Need-same-length
 same-length c = search needs
 
--- src/operation.rt:72:1
 returns : tie.Need-returns
 returns c = (c .answer-code .ensures ∙ ap answerCode (c .before .before .before .apply-irot .ensures .0), c .before .before .before .apply-irot .ensures .1)
 

@@ -8,19 +8,15 @@ use Rattle.capi.proofs.properties.compose_steps.Lts as lts
 use Rattle.capi.proofs.code.answer_code.Reads as answer-code-reads
 use Rattle.steps_text.proofs.steps_text.Reads as steps-text-reads
 
--- src/properties.rt:121:17
 steps-text-requires : tie.Need-steps-text-requires
 steps-text-requires c κs = search needs
 
--- src/properties.rt:121:5
 answer-code-requires : tie.Need-answer-code-requires
 answer-code-requires c κs = search needs
 
--- src/properties.rt:117:1
 same-length : tie.Need-same-length
 same-length c = search needs
 
--- src/properties.rt:117:1
 returns : tie.Need-returns
 returns c = (c .answer-code .ensures ∙ ap answerCode (c .before .before .before .steps-text .ensures .0), c .before .before .before .steps-text .ensures .1)
 

@@ -35,61 +35,47 @@ w3 : (c : tie.After-put-plane3) → Writing (now (c .before .before .before .bef
 unfolding planeWords
 w3 c = writing-run (planeWords (c .before .before .before .before .before .before .before .before .before .before .before .before .before .before .before .before .f .given .0 .0 .cr)) (w2 (c .before .before .before .before)) (c .put-plane3 .ensures .0) (c .put-plane3 .ensures .1)
 
--- src/lib.rt:55:11
 parse-record-requires : tie.Need-parse-record-requires
 parse-record-requires c κs = search needs
 
--- src/lib.rt:56:28
 enum-known-e : tie.Need-enum-known-e
 enum-known-e c = search needs
 
--- src/lib.rt:56:34
 refusal-code-requires : tie.Need-refusal-code-requires
 refusal-code-requires c κs = search needs
 
--- src/lib.rt:57:25
 enum-known-f : tie.Need-enum-known-f
 enum-known-f c = search needs
 
--- src/lib.rt:59:17
 refusal-code-requires-2 : tie.Need-refusal-code-requires-2
 refusal-code-requires-2 c κs = search needs
 
--- src/lib.rt:59:17
 returns : tie.Need-returns
 unfolding recordRun recordWords formWords planeWords
 returns c = refused-code _ _ _ _ (then-done _ (sym (c .before .before .before .before .before .parse-record .ensures) ∙ ap frameOut (c .before .before .before .f .given .1)) ∙ fitted-short _ _ (c .before .if1 .taken)) (c .refusal-code2 .ensures)
 
--- src/lib.rt:61:17
 put-form-requires : tie.Need-put-form-requires
 put-form-requires c κs = search needs
 
--- src/lib.rt:62:17
 put-plane-requires : tie.Need-put-plane-requires
 put-plane-requires c κs = search needs
 
--- src/lib.rt:63:17
 put-plane-requires-2 : tie.Need-put-plane-requires-2
 put-plane-requires-2 c κs = search needs
 
--- src/lib.rt:64:17
 put-plane-requires-3 : tie.Need-put-plane-requires-3
 put-plane-requires-3 c κs = search needs
 
--- src/lib.rt:65:13
 put-plane-requires-4 : tie.Need-put-plane-requires-4
 put-plane-requires-4 c κs = search needs
 
--- src/lib.rt:50:1
 returns-2 : tie.Need-returns-2
 unfolding recordRun
 returns-2 c = refused-code _ _ _ _ (then-refused _ (sym (c .before .before .before .before .parse-record .ensures) ∙ ap frameOut (c .before .before .e .given .1))) (c .refusal-code .ensures)
 
--- src/lib.rt:50:1
 same-length : tie.Need-same-length
 same-length c = search needs
 
--- src/lib.rt:50:1
 returns-3 : tie.Need-returns-3
 unfolding recordRun recordWords formWords planeWords
 returns-3 c = done-code _ (recordWords (c .before .before .before .before .before .before .before .before .before .before .before .before .before .before .before .before .before .before .before .before .before .before .f .given .0 .0)) (now (c .before .before .before .before .before .before .before .before .before .before .before .before .before .before .before .before .before .before .before .before .before .before .before .before .before .before .before .args .answer)) _ (then-done _ (sym (c .before .before .before .before .before .before .before .before .before .before .before .before .before .before .before .before .before .before .before .before .before .before .before .before .parse-record .ensures) ∙ ap frameOut (c .before .before .before .before .before .before .before .before .before .before .before .before .before .before .before .before .before .before .before .before .before .before .f .given .1)) ∙ fitted-room (length (now (c .before .before .before .before .before .before .before .before .before .before .before .before .before .before .before .before .before .before .before .before .before .before .before .before .before .before .before .args .answer))) _ (c .before .before .before .before .before .before .before .before .before .before .before .before .before .before .before .before .before .before .before .before .if1 .left)) (c .before .before .before .before .before .before .before .before .before .before .before .before .before .before .before .before .before .before .before .before .if1 .left) (writing-last (w3 (c .before .before .before .before .before .before)) (c .before .before .put-plane4 .ensures .0) (c .before .before .put-plane4 .ensures .1) .1)

@@ -9,32 +9,25 @@ use Rattle.capi.proofs.read.compose_tray.Lts as lts
 use Rattle.capi.proofs.code.refusal_code.Reads as refusal-code-reads
 use Rattle.image.proofs.check_tray.Reads as check-tray-reads
 
--- src/lib.rt:61:11
 check-tray-requires : tie.Need-check-tray-requires
 check-tray-requires c κs = search needs
 
--- src/lib.rt:62:27
 enum-known-e : tie.Need-enum-known-e
 enum-known-e c = search needs
 
--- src/lib.rt:62:33
 refusal-code-requires : tie.Need-refusal-code-requires
 refusal-code-requires c κs = search needs
 
--- src/lib.rt:63:24
 enum-known-n : tie.Need-enum-known-n
 enum-known-n c = search needs
 
--- src/lib.rt:63:30
 cast-result : tie.Need-cast-result
 cast-result c = search needs
 
--- src/lib.rt:57:1
 returns : tie.Need-returns
 unfolding codeOf
 returns c = c .refusal-code .ensures ∙ ap codeOf (sym (ap trayOut (c .before .before .e .given .1)) ∙ c .before .before .before .before .check-tray .ensures)
 
--- src/lib.rt:57:1
 returns-2 : tie.Need-returns-2
 unfolding codeOf
 returns-2 c = ap codeOf (sym (ap trayOut (c .before .n .given .1)) ∙ c .before .before .before .check-tray .ensures)

@@ -9,51 +9,39 @@ use Rattle.capi.proofs.read.put_form.Tie as tie
 use Rattle.capi.proofs.read.put_form.Reads as reads
 use Rattle.capi.proofs.read.put_form.Lts as lts
 
--- src/lib.rt:29:17
 cast-answer : tie.Need-cast-answer
 cast-answer c = search needs
 
--- src/lib.rt:29:5
 slice-write-answer : tie.Need-slice-write-answer
 slice-write-answer c = search needs
 
--- src/lib.rt:30:17
 cast-answer-2 : tie.Need-cast-answer-2
 cast-answer-2 c = search needs
 
--- src/lib.rt:30:5
 slice-write-answer-2 : tie.Need-slice-write-answer-2
 slice-write-answer-2 c = simp length-set (omega (arith, c .before .before .before .pre))
 
--- src/lib.rt:31:17
 cast-answer-3 : tie.Need-cast-answer-3
 cast-answer-3 c = search needs
 
--- src/lib.rt:31:5
 slice-write-answer-3 : tie.Need-slice-write-answer-3
 slice-write-answer-3 c = simp length-set (omega (arith, c .before .before .before .before .pre))
 
--- src/lib.rt:32:17
 cast-answer-4 : tie.Need-cast-answer-4
 cast-answer-4 c = search needs
 
--- src/lib.rt:32:5
 slice-write-answer-4 : tie.Need-slice-write-answer-4
 slice-write-answer-4 c = simp length-set (omega (arith, c .before .before .before .before .before .pre))
 
--- src/lib.rt:33:17
 cast-answer-5 : tie.Need-cast-answer-5
 cast-answer-5 c = search needs
 
--- src/lib.rt:33:5
 slice-write-answer-5 : tie.Need-slice-write-answer-5
 slice-write-answer-5 c = simp length-set (omega (arith, c .before .before .before .before .before .before .pre))
 
--- src/lib.rt:24:1
 same-length : tie.Need-same-length
 same-length c = search needs
 
--- src/lib.rt:24:1
 returns : tie.Need-returns
 unfolding puts formWords
 returns c = (refl, refl)

@@ -9,47 +9,36 @@ use Rattle.capi.proofs.read.put_plane.Tie as tie
 use Rattle.capi.proofs.read.put_plane.Reads as reads
 use Rattle.capi.proofs.read.put_plane.Lts as lts
 
--- src/lib.rt:42:13
 add-b : tie.Need-add-b
 add-b c = search needs
 
--- src/lib.rt:43:13
 add-c : tie.Need-add-c
 add-c c = search needs
 
--- src/lib.rt:44:5
 mul-answer : tie.Need-mul-answer
 mul-answer c = search needs
 
--- src/lib.rt:44:5
 slice-write-answer : tie.Need-slice-write-answer
 slice-write-answer c = search needs
 
--- src/lib.rt:45:5
 mul-answer-2 : tie.Need-mul-answer-2
 mul-answer-2 c = search needs
 
--- src/lib.rt:45:5
 slice-write-answer-2 : tie.Need-slice-write-answer-2
 slice-write-answer-2 c = simp length-set (omega (arith, c .pre))
 
--- src/lib.rt:46:5
 mul-answer-3 : tie.Need-mul-answer-3
 mul-answer-3 c = search needs
 
--- src/lib.rt:46:5
 slice-write-answer-3 : tie.Need-slice-write-answer-3
 slice-write-answer-3 c = simp length-set (omega (arith, c .pre))
 
--- src/lib.rt:47:5
 add-result : tie.Need-add-result
 add-result c = search needs
 
--- src/lib.rt:38:1
 same-length : tie.Need-same-length
 same-length c = search needs
 
--- src/lib.rt:38:1
 returns : tie.Need-returns
 unfolding puts planeWords
 returns c = (omega arith, refl)

@@ -9,23 +9,18 @@ use Rattle.capi.proofs.scenes.compose_grid_scene.Lts as lts
 use Rattle.capi.proofs.code.answer_code.Reads as answer-code-reads
 use Rattle.scene.proofs.grid_scene.Reads as grid-scene-reads
 
--- src/scenes.rt:28:17
 grid-scene-requires : tie.Need-grid-scene-requires
 grid-scene-requires c κs = search needs
 
--- src/scenes.rt:28:5
 answer-code-requires : tie.Need-answer-code-requires
 answer-code-requires c κs = search needs
 
--- src/scenes.rt:15:1
 same-length : tie.Need-same-length
 same-length c = search needs
 
--- src/scenes.rt:15:1
 same-length-2 : tie.Need-same-length-2
 same-length-2 c = search needs
 
--- src/scenes.rt:15:1
 returns : tie.Need-returns
 unfolding flagOf
 returns c = (c .answer-code .ensures ∙ ap answerCode (c .before .before .before .before .before .grid-scene .ensures .0), c .before .before .before .before .before .grid-scene .ensures .1, c .before .before .before .before .before .grid-scene .ensures .2)

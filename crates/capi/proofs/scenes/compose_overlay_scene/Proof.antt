@@ -10,27 +10,21 @@ use Rattle.capi.proofs.code.answer_code.Reads as answer-code-reads
 use Rattle.capi.proofs.fills.colour_of.Reads as colour-of-reads
 use Rattle.scene.proofs.overlay_scene.Reads as overlay-scene-reads
 
--- src/scenes.rt:62:9
 colour-of-requires : tie.Need-colour-of-requires
 colour-of-requires c κs = search needs
 
--- src/scenes.rt:56:17
 overlay-scene-requires : tie.Need-overlay-scene-requires
 overlay-scene-requires c κs = search needs
 
--- src/scenes.rt:56:5
 answer-code-requires : tie.Need-answer-code-requires
 answer-code-requires c κs = search needs
 
--- src/scenes.rt:39:1
 same-length : tie.Need-same-length
 same-length c = search needs
 
--- src/scenes.rt:39:1
 same-length-2 : tie.Need-same-length-2
 same-length-2 c = search needs
 
--- src/scenes.rt:39:1
 returns : tie.Need-returns
 unfolding flagOf
 returns c = rw (← c .before .before .before .before .before .before .before .before .colour-of .ensures) (c .answer-code .ensures ∙ ap answerCode (c .before .before .before .before .before .overlay-scene .ensures .0), c .before .before .before .before .before .overlay-scene .ensures .1, c .before .before .before .before .before .overlay-scene .ensures .2)

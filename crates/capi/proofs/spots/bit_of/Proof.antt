@@ -5,11 +5,9 @@ use Rattle.capi.proofs.spots.bit_of.Tie as tie
 use Rattle.capi.proofs.spots.bit_of.Reads as reads
 use Rattle.capi.proofs.spots.bit_of.Lts as lts
 
--- src/spots.rt:24:9
 returns : tie.Need-returns
 returns c = sym (pick-true _ _ _ (c .if1 .taken))
 
--- src/spots.rt:20:1
 returns-2 : tie.Need-returns-2
 returns-2 c = sym (pick-false _ _ _ (c .if1 .left))
 

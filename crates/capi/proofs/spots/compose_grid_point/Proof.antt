@@ -8,19 +8,15 @@ use Rattle.capi.proofs.spots.compose_grid_point.Lts as lts
 use Rattle.capi.proofs.spots.put_point.Reads as put-point-reads
 use Rattle.point.proofs.grid_point.Reads as grid-point-reads
 
--- src/spots.rt:94:9
 grid-point-requires : tie.Need-grid-point-requires
 grid-point-requires c κs = search needs
 
--- src/spots.rt:92:5
 put-point-requires : tie.Need-put-point-requires
 put-point-requires c κs = search needs
 
--- src/spots.rt:79:1
 same-length : tie.Need-same-length
 same-length c = search needs
 
--- src/spots.rt:79:1
 returns : tie.Need-returns
 unfolding flagOf
 returns c = spot-as _ _ _ _ _ _ (c .before .before .before .grid-point .ensures) (c .before .before .put-point .ensures)

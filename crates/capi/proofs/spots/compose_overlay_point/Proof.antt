@@ -8,19 +8,15 @@ use Rattle.capi.proofs.spots.compose_overlay_point.Lts as lts
 use Rattle.capi.proofs.spots.put_point.Reads as put-point-reads
 use Rattle.point.proofs.overlay_point.Reads as overlay-point-reads
 
--- src/spots.rt:120:9
 overlay-point-requires : tie.Need-overlay-point-requires
 overlay-point-requires c κs = search needs
 
--- src/spots.rt:118:5
 put-point-requires : tie.Need-put-point-requires
 put-point-requires c κs = search needs
 
--- src/spots.rt:101:1
 same-length : tie.Need-same-length
 same-length c = search needs
 
--- src/spots.rt:101:1
 returns : tie.Need-returns
 unfolding flagOf
 returns c = spot-as _ _ _ _ _ _ (c .before .before .before .overlay-point .ensures) (c .before .before .put-point .ensures)

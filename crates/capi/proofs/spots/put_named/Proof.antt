@@ -13,44 +13,34 @@ use Rattle.capi.proofs.spots.put_named.Reads as reads
 use Rattle.capi.proofs.spots.put_named.Lts as lts
 use Rattle.capi.proofs.properties.put_sides.Reads as put-sides-reads
 
--- src/spots.rt:36:31
 enum-told : tie.Need-enum-told
 enum-told c = search needs
 
--- src/spots.rt:36:17
 put-sides-requires : tie.Need-put-sides-requires
 put-sides-requires c κs = search needs
 
--- src/spots.rt:37:13
 put-sides-requires-2 : tie.Need-put-sides-requires-2
 put-sides-requires-2 c κs = search needs
 
--- src/spots.rt:39:21
 enum-known-named : tie.Need-enum-known-named
 enum-known-named c = search needs
 
--- src/spots.rt:40:17
 put-sides-requires-3 : tie.Need-put-sides-requires-3
 put-sides-requires-3 c κs = search needs
 
--- src/spots.rt:41:13
 put-sides-requires-4 : tie.Need-put-sides-requires-4
 put-sides-requires-4 c κs = search needs
 
--- src/spots.rt:30:1
 same-length : tie.Need-same-length
 same-length c = search needs
 
--- src/spots.rt:30:1
 returns : tie.Need-returns
 unfolding namedWords
 returns c = (omega (arith, c .before .before .before .before .before .before .put-sides .ensures .0, c .before .before .put-sides2 .ensures .0), words-after _ _ _ (0 ∷ 0 ∷ []) _ _ _ (c .before .before .before .before .before .before .put-sides .ensures .1) (c .before .before .before .before .before .before .put-sides .ensures .0) (c .before .before .put-sides2 .ensures .1) ∙ ap (λ (n : Named). puts (now (c .before .before .before .before .before .before .before .before .before .before .before .args .answer)) 0 (namedWords n)) (sym (c .before .before .before .before .before .before .before .before .enum-told .given .1)))
 
--- src/spots.rt:30:1
 same-length-2 : tie.Need-same-length-2
 same-length-2 c = search needs
 
--- src/spots.rt:30:1
 returns-2 : tie.Need-returns-2
 unfolding namedWords
 returns-2 c = let k = c .before .before .before .before .before .before .before .before .before .named .given .0 .0 in (omega (arith, c .before .before .before .before .before .before .put-sides3 .ensures .0, c .before .before .put-sides4 .ensures .0), words-after _ _ _ (1 ∷ k .input ∷ []) _ _ _ (c .before .before .before .before .before .before .put-sides3 .ensures .1) (c .before .before .before .before .before .before .put-sides3 .ensures .0) (c .before .before .put-sides4 .ensures .1) ∙ ap (λ (n : Named). puts (now (c .before .before .before .before .before .before .before .before .before .before .before .before .args .answer)) 0 (namedWords n)) (sym (c .before .before .before .before .before .before .before .before .before .named .given .1)))

@@ -13,43 +13,33 @@ use Rattle.capi.proofs.code.refusal_code.Reads as refusal-code-reads
 use Rattle.capi.proofs.spots.put_named.Reads as put-named-reads
 use Rattle.capi.proofs.spots.put_sight.Reads as put-sight-reads
 
--- src/spots.rt:63:28
 enum-known-found : tie.Need-enum-known-found
 enum-known-found c = search needs
 
--- src/spots.rt:63:34
 refusal-code-requires : tie.Need-refusal-code-requires
 refusal-code-requires c κs = search needs
 
--- src/spots.rt:64:26
 enum-known-found-2 : tie.Need-enum-known-found-2
 enum-known-found-2 c = search needs
 
--- src/spots.rt:66:17
 refusal-code-requires-2 : tie.Need-refusal-code-requires-2
 refusal-code-requires-2 c κs = search needs
 
--- src/spots.rt:66:17
 returns : tie.Need-returns
 returns c = refused-code _ _ _ _ (spot-short _ _ _ (ap pointOut (c .before .before .before .found2 .given .1)) (c .before .if1 .taken)) (c .refusal-code2 .ensures)
 
--- src/spots.rt:70:17
 put-named-requires : tie.Need-put-named-requires
 put-named-requires c κs = search needs
 
--- src/spots.rt:71:13
 put-sight-requires : tie.Need-put-sight-requires
 put-sight-requires c κs = search needs
 
--- src/spots.rt:58:1
 returns-2 : tie.Need-returns-2
 returns-2 c = refused-code _ _ _ _ (spot-refused _ _ _ (ap pointOut (c .before .before .found .given .1))) (c .refusal-code .ensures)
 
--- src/spots.rt:58:1
 same-length : tie.Need-same-length
 same-length c = search needs
 
--- src/spots.rt:58:1
 returns-3 : tie.Need-returns-3
 unfolding pointWords
 returns-3 c = let a = c .before .before .before .before .before .before .before .before .before .before .before .found2 .given .0 .0 in let k = spot-done _ _ a (ap pointOut (c .before .before .before .before .before .before .before .before .before .before .before .found2 .given .1)) (c .before .before .before .before .before .before .before .before .before .if1 .left) in done-code _ (pointWords a) (now (c .before .before .before .before .before .before .before .before .before .before .before .before .before .before .args .answer)) _ (k .0) (k .1) (words-behind _ _ _ (namedWords (a .named)) (sightWords (a .sight)) 0 _ (c .before .before .before .before .before .before .put-named .ensures .1) (omega (arith, c .before .before .before .before .before .before .put-named .ensures .0, named-long (a .named))) (c .before .before .put-sight .ensures))

@@ -11,27 +11,21 @@ use Rattle.capi.proofs.spots.put_sight.Lts as lts
 use Rattle.capi.proofs.properties.put_sides.Reads as put-sides-reads
 use Rattle.capi.proofs.spots.bit_of.Reads as bit-of-reads
 
--- src/spots.rt:52:9
 put-sides-requires : tie.Need-put-sides-requires
 put-sides-requires c κs = search needs
 
--- src/spots.rt:53:9
 put-sides-requires-2 : tie.Need-put-sides-requires-2
 put-sides-requires-2 c κs = search needs
 
--- src/spots.rt:54:26
 bit-of-requires : tie.Need-bit-of-requires
 bit-of-requires c κs = search needs
 
--- src/spots.rt:54:5
 put-sides-requires-3 : tie.Need-put-sides-requires-3
 put-sides-requires-3 c κs = search needs
 
--- src/spots.rt:47:1
 same-length : tie.Need-same-length
 same-length c = search needs
 
--- src/spots.rt:47:1
 returns : tie.Need-returns
 unfolding sightWords
 returns c = let s = c .before .before .before .before .before .before .before .before .before .before .before .before .before .before .before .args .s in words-behind _ _ _ (s .area .x ∷ s .area .y ∷ s .area .width ∷ s .area .height ∷ []) (pick (s .exchanged) 1 0 ∷ s .turns ∷ []) _ _ (words-behind _ _ _ (s .area .x ∷ s .area .y ∷ []) (s .area .width ∷ s .area .height ∷ []) _ _ (c .before .before .before .before .before .before .before .before .before .before .before .put-sides .ensures .1) (c .before .before .before .before .before .before .before .before .before .before .before .put-sides .ensures .0) (c .before .before .before .before .before .before .before .put-sides2 .ensures .1)) (omega (arith, c .before .before .before .before .before .before .before .before .before .before .before .put-sides .ensures .0, c .before .before .before .before .before .before .before .put-sides2 .ensures .0)) (rw (c .before .before .before .bit-of .ensures) at (c .before .before .put-sides3 .ensures .1))

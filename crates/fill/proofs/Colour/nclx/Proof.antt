@@ -5,20 +5,16 @@ use Rattle.fill.proofs.Colour.nclx.Tie as tie
 use Rattle.fill.proofs.Colour.nclx.Reads as reads
 use Rattle.fill.proofs.Colour.nclx.Lts as lts
 
--- src/lib.rt:45:29
 enum-told : tie.Need-enum-told
 enum-told c = search needs
 
--- src/lib.rt:49:26
 enum-known-self : tie.Need-enum-known-self
 enum-known-self c = search needs
 
--- src/lib.rt:41:5
 returns : tie.Need-returns
 unfolding nclxOf
 returns c = simp (c .enum-told .given .1)
 
--- src/lib.rt:41:5
 returns-2 : tie.Need-returns-2
 unfolding nclxOf
 returns-2 c = simp (c .before .self .given .1)

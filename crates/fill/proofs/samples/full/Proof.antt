@@ -7,19 +7,15 @@ use Rattle.fill.proofs.samples.full.Lts as lts
 use Rattle.fill.proofs.samples.top.Reads as top-reads
 use Rattle.fill.proofs.samples.whole.Reads as whole-reads
 
--- src/samples.rt:47:9
 top-requires : tie.Need-top-requires
 top-requires c κs = search needs
 
--- src/samples.rt:48:15
 int-to-float-whole : tie.Need-int-to-float-whole
 int-to-float-whole c = search needs
 
--- src/samples.rt:48:5
 whole-requires : tie.Need-whole-requires
 whole-requires c κs = search needs
 
--- src/samples.rt:43:1
 returns : tie.Need-returns
 unfolding fullOf
 returns c = simp (c .whole .ensures, c .before .before .top .ensures)

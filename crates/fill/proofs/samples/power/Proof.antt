@@ -8,11 +8,9 @@ use Rattle.fill.proofs.samples.power.Tie as tie
 use Rattle.fill.proofs.samples.power.Reads as reads
 use Rattle.fill.proofs.samples.power.Lts as lts
 
--- src/samples.rt:12:5
 shl-result : tie.Need-shl-result
 shl-result c = search needs
 
--- src/samples.rt:8:1
 returns : tie.Need-returns
 returns c = ap (λ (k : ℕ). k % 2 ^ 32) (one-mul (2 ^ c .args .n)) ∙ mod-eq-of-lt (pow-lt (c .pre))
 

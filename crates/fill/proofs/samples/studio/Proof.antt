@@ -8,27 +8,21 @@ use Rattle.fill.proofs.samples.power.Reads as power-reads
 use Rattle.fill.proofs.samples.top.Reads as top-reads
 use Rattle.fill.proofs.samples.whole.Reads as whole-reads
 
--- src/samples.rt:66:9
 top-requires : tie.Need-top-requires
 top-requires c κs = search needs
 
--- src/samples.rt:67:22
 sub-power : tie.Need-sub-power
 sub-power c = search needs
 
--- src/samples.rt:67:16
 power-requires : tie.Need-power-requires
 power-requires c κs = search needs
 
--- src/samples.rt:67:16
 int-to-float-step : tie.Need-int-to-float-step
 int-to-float-step c = search needs
 
--- src/samples.rt:68:5
 whole-requires : tie.Need-whole-requires
 whole-requires c κs = search needs
 
--- src/samples.rt:62:1
 returns : tie.Need-returns
 unfolding studioOf
 returns c = simp (c .whole .ensures, c .before .before .power .ensures, c .before .before .before .top .ensures)

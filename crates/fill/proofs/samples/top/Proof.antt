@@ -7,19 +7,15 @@ use Rattle.fill.proofs.samples.top.Reads as reads
 use Rattle.fill.proofs.samples.top.Lts as lts
 use Rattle.fill.proofs.samples.power.Reads as power-reads
 
--- src/samples.rt:20:6
 power-requires : tie.Need-power-requires
 power-requires c κs = search needs
 
--- src/samples.rt:20:6
 sub-result : tie.Need-sub-result
 sub-result c = omega (arith, c .power .ensures, pow-pos (c .before .args .depth))
 
--- src/samples.rt:20:5
 cast-result : tie.Need-cast-result
 cast-result c = omega (arith, c .power .ensures, pow-mono (c .before .pre))
 
--- src/samples.rt:16:1
 returns : tie.Need-returns
 returns c = search needs
 

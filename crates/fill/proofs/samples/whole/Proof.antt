@@ -29,35 +29,28 @@ part c = c .truncating-f64-to-u64 .ensures ∙ part-is _ (c .before .before .bef
 small : (c : tie.After-truncating-f64-to-u64) → c .truncating-f64-to-u64 .result < c .before .before .before .before .args .top
 small c = subst (λ (k : ℕ). k < c .before .before .before .before .args .top) (sym (part c)) (part-lt (c .before .before .before .before .args .x) _ (x-below (c .before)))
 
--- src/samples.rt:29:16
 int-to-float-if2 : tie.Need-int-to-float-if2
 int-to-float-if2 c = search needs
 
--- src/samples.rt:30:17
 truncating-f64-to-u64-requires : tie.Need-truncating-f64-to-u64-requires
 truncating-f64-to-u64-requires c κs = (
   above-zero _ (c .before .before .if1 .taken),
   below-wide _ (c .before .before .before .args .top) (x-plain c) (x-below c) (omega (arith, c .before .before .before .fits .top)),
 )
 
--- src/samples.rt:31:25
 add-half : tie.Need-add-half
 add-half c = omega (arith, small c, c .before .before .before .before .fits .top)
 
--- src/samples.rt:31:25
 add-half-2 : tie.Need-add-half-2
 add-half-2 c = omega (arith, small c, c .before .before .before .before .fits .top)
 
--- src/samples.rt:31:24
 int-to-float-half : tie.Need-int-to-float-half
 unfolding inFloat
 int-to-float-half c = let t = c .before .truncating-f64-to-u64 .result in le→leb (t + t + 1) (2 ^ 53) (omega (arith, small (c .before), c .before .before .before .before .before .fits .top))
 
--- src/samples.rt:33:24
 cast-result : tie.Need-cast-result
 cast-result c = omega (arith, small (c .before .before), c .before .before .before .before .before .before .fits .top)
 
--- src/samples.rt:33:17
 returns : tie.Need-returns
 returns c =
     let a = (c .before .before) in
@@ -66,15 +59,12 @@ returns c =
     let h : num x * 2 < (t + t + 1) * den x = lt-cross x _ (t + t + 1) 2 (x-plain (a .before)) (lit< tt) (half-value (t + t + 1) (omega arith) (omega (arith, small a, c .before .before .before .before .before .before .fits .top))) (c .if3 .taken) in
     part a ∙ answer-down x (c .before .before .before .before .before .before .args .top) (x-plain (a .before)) (x-below (a .before)) (subst (λ (k : ℕ). num x * 2 < (k + k + 1) * den x) (part a) h)
 
--- src/samples.rt:35:21
 add-result : tie.Need-add-result
 add-result c = search needs
 
--- src/samples.rt:35:20
 cast-result-2 : tie.Need-cast-result-2
 cast-result-2 c = omega (arith, small (c .before .before), c .before .before .before .before .before .before .fits .top)
 
--- src/samples.rt:35:13
 returns-2 : tie.Need-returns-2
 returns-2 c =
     let a = (c .before .before) in
@@ -83,11 +73,9 @@ returns-2 c =
     let h : (t + t + 1) * den x ≤ num x * 2 = ge-cross x _ (t + t + 1) 2 (x-plain (a .before)) (lit< tt) (half-value (t + t + 1) (omega arith) (omega (arith, small a, c .before .before .before .before .before .before .fits .top))) (c .if3 .left) in
     ap (λ (k : ℕ). k + 1) (part a) ∙ answer-up x (c .before .before .before .before .before .before .args .top) (x-plain (a .before)) (x-below (a .before)) (subst (λ (k : ℕ). (k + k + 1) * den x ≤ num x * 2) (part a) h)
 
--- src/samples.rt:37:9
 returns-3 : tie.Need-returns-3
 returns-3 c = answer-top _ _ (c .before .before .if1 .taken) (c .if2 .left) (omega (arith, c .before .before .before .fits .top))
 
--- src/samples.rt:25:1
 returns-4 : tie.Need-returns-4
 returns-4 c = answer-zero (c .before .args .x) _ (c .if1 .left)
 

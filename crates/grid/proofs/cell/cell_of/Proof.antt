@@ -49,79 +49,61 @@ to c = c .plane .ensures ∙ ap (λ (f : Frame). planeOf f (c .before .before .b
 small : (c : tie.Start) → c .args .row < 2 ^ 32
 small c = omega arith
 
--- src/cell.rt:100:9
 columns-requires : tie.Need-columns-requires
 columns-requires c κs = search needs
 
--- src/cell.rt:101:9
 rows-requires : tie.Need-rows-requires
 rows-requires c κs = search needs
 
--- src/cell.rt:102:26
 columns-requires-2 : tie.Need-columns-requires-2
 columns-requires-2 c κs = search needs
 
--- src/cell.rt:102:9
 visible-requires : tie.Need-visible-requires
 unfolding columnsOf
 visible-requires c κs = let b = columns-le (c .before .before .before .before .before .args .tile) (c .before .before .before .before .before .pre .1) (c .before .before .before .before .before .args .part) in let w = width-le (c .before .before .before .before .before .args .tile) (c .before .before .before .before .before .pre .1) in omega (arith, c .before .before .columns .ensures)
 
--- src/cell.rt:103:24
 rows-requires-2 : tie.Need-rows-requires-2
 rows-requires-2 c κs = search needs
 
--- src/cell.rt:103:9
 visible-requires-2 : tie.Need-visible-requires-2
 unfolding rowsOf
 visible-requires-2 c κs = let b = rows-le (c .before .before .before .before .before .before .before .args .tile) (c .before .before .before .before .before .before .before .pre .1) (c .before .before .before .before .before .before .before .args .part) in let w = height-le (c .before .before .before .before .before .before .before .args .tile) (c .before .before .before .before .before .before .before .pre .1) in omega (arith, c .before .before .before .rows .ensures)
 
--- src/cell.rt:105:9
 returns : tie.Need-returns
 unfolding columnsOf noCell
 returns c = sym (cell-narrow _ _ _ _ _ (sym (c .before .before .before .visible .ensures ∙ ap₂ (λ (a b : ℕ). visibleOf a b (c .before .before .before .before .before .before .before .before .before .args .column)) (c .before .before .before .before .columns2 .ensures) (c .before .before .before .before .before .before .columns .ensures)) ∙ c .if1 .taken))
 
--- src/cell.rt:113:9
 returns-2 : tie.Need-returns-2
 unfolding rowsOf noCell
 returns-2 c = sym (cell-low _ _ _ _ _ (sym (c .before .before .visible2 .ensures ∙ ap₂ (λ (a b : ℕ). visibleOf a b (c .before .before .before .before .before .before .before .before .before .before .args .row)) (c .before .before .before .rows2 .ensures) (c .before .before .before .before .before .before .rows .ensures)) ∙ c .if2 .taken))
 
--- src/cell.rt:120:14
 tight-requires : tie.Need-tight-requires
 tight-requires c κs = search needs
 
--- src/cell.rt:120:9
 plane-requires : tie.Need-plane-requires
 plane-requires c κs = search needs
 
--- src/cell.rt:122:17
 mul-above : tie.Need-mul-above
 mul-above c = omega (arith, mul-below (2 ^ 32) (2 ^ 30) (c .before .before .before .before .before .before .before .before .before .before .before .before .args .row) (c .before .before .before .before .before .before .before .before .rows .result) (omega (arith, small ((c .before .before .before .before .before .before .before .before .before .before .before .before)))) (few ((c .before .before))))
 
--- src/cell.rt:122:17
 mul-above-2 : tie.Need-mul-above-2
 mul-above-2 c = omega (arith, worked-above (c .before .before .before .before .before .before .before .before .before .before .before .before .args .canvas) (c .before .before .before .before .before .before .before .before .before .before .before .before .args .tile) (c .before .before .before .before .before .before .before .before .before .before .before .before .pre .0) (c .before .before .before .before .before .before .before .before .before .before .before .before .args .part) (c .before .before .before .before .before .before .before .before .before .before .before .before .pre .2) (c .before .before .before .before .before .before .before .before .before .before .before .before .pre .3) (c .before .before .before .before .before .before .before .before .before .before .before .before .args .column) (c .before .before .before .before .before .before .before .before .before .before .before .before .args .row) (c .plane .result .start) (c .plane .result .stride) (c .before .before .before .before .before .before .before .before .before .columns .result) (c .before .before .before .before .before .before .before .before .rows .result) (bytesOf (c .before .before .before .before .before .before .before .before .before .before .before .before .args .tile .format)) (c .before .before .before .before .before .before .visible .result) (c .before .before .before .before .visible2 .result) (ap (λ (q : Plane). q .start) (to (c))) (ap (λ (q : Plane). q .stride) (to (c)) ∙ to-stride _ (c .before .before .before .before .before .before .before .before .before .before .before .before .args .tile) (c .before .before .before .before .before .before .before .before .before .before .before .before .pre .0) _ (c .before .before .before .before .before .before .before .before .before .before .before .before .pre .2) (c .before .before .before .before .before .before .before .before .before .before .before .before .pre .3) 0 0) (wide ((c .before .before))) (high ((c .before .before))) refl (across ((c .before .before))) (down ((c .before .before))) (c .before .before .before .if1 .left) (c .before .before .if2 .left))
 
--- src/cell.rt:123:44
 bytes-per-sample-requires : tie.Need-bytes-per-sample-requires
 bytes-per-sample-requires c κs = search needs
 
--- src/cell.rt:123:37
 mul-before : tie.Need-mul-before
 mul-before c = let e = ap₂ (λ (a b : ℕ). a * b) (wide ((c .before .before .before))) (c .bytes-per-sample .ensures) in omega (arith, e, tile-row-le (c .before .before .before .before .before .before .before .before .before .before .before .before .before .args .tile) (c .before .before .before .before .before .before .before .before .before .before .before .before .before .pre .1) (c .before .before .before .before .before .before .before .before .before .before .before .before .before .args .part))
 
--- src/cell.rt:123:18
 mul-before-2 : tie.Need-mul-before-2
 mul-before-2 c = omega (arith, worked-before (c .before .before .before .before .before .before .before .before .before .before .before .before .before .args .canvas) (c .before .before .before .before .before .before .before .before .before .before .before .before .before .args .tile) (c .before .before .before .before .before .before .before .before .before .before .before .before .before .pre .0) (c .before .before .before .before .before .before .before .before .before .before .before .before .before .args .part) (c .before .before .before .before .before .before .before .before .before .before .before .before .before .pre .2) (c .before .before .before .before .before .before .before .before .before .before .before .before .before .pre .3) (c .before .before .before .before .before .before .before .before .before .before .before .before .before .args .column) (c .before .before .before .before .before .before .before .before .before .before .before .before .before .args .row) (c .before .plane .result .start) (c .before .plane .result .stride) (c .before .before .before .before .before .before .before .before .before .before .columns .result) (c .before .before .before .before .before .before .before .before .before .rows .result) (c .bytes-per-sample .result) (c .before .before .before .before .before .before .before .visible .result) (c .before .before .before .before .before .visible2 .result) (ap (λ (q : Plane). q .start) (to ((c .before)))) (ap (λ (q : Plane). q .stride) (to ((c .before))) ∙ to-stride _ (c .before .before .before .before .before .before .before .before .before .before .before .before .before .args .tile) (c .before .before .before .before .before .before .before .before .before .before .before .before .before .pre .0) _ (c .before .before .before .before .before .before .before .before .before .before .before .before .before .pre .2) (c .before .before .before .before .before .before .before .before .before .before .before .before .before .pre .3) 0 0) (wide ((c .before .before .before))) (high ((c .before .before .before))) (c .bytes-per-sample .ensures) (across ((c .before .before .before))) (down ((c .before .before .before))) (c .before .before .before .before .if1 .left) (c .before .before .before .if2 .left))
 
--- src/cell.rt:125:25
 add-t16 : tie.Need-add-t16
 add-t16 c = omega (arith, worked-above (c .before .before .before .before .before .before .before .before .before .before .before .before .before .args .canvas) (c .before .before .before .before .before .before .before .before .before .before .before .before .before .args .tile) (c .before .before .before .before .before .before .before .before .before .before .before .before .before .pre .0) (c .before .before .before .before .before .before .before .before .before .before .before .before .before .args .part) (c .before .before .before .before .before .before .before .before .before .before .before .before .before .pre .2) (c .before .before .before .before .before .before .before .before .before .before .before .before .before .pre .3) (c .before .before .before .before .before .before .before .before .before .before .before .before .before .args .column) (c .before .before .before .before .before .before .before .before .before .before .before .before .before .args .row) (c .before .plane .result .start) (c .before .plane .result .stride) (c .before .before .before .before .before .before .before .before .before .before .columns .result) (c .before .before .before .before .before .before .before .before .before .rows .result) (c .bytes-per-sample .result) (c .before .before .before .before .before .before .before .visible .result) (c .before .before .before .before .before .visible2 .result) (ap (λ (q : Plane). q .start) (to ((c .before)))) (ap (λ (q : Plane). q .stride) (to ((c .before))) ∙ to-stride _ (c .before .before .before .before .before .before .before .before .before .before .before .before .before .args .tile) (c .before .before .before .before .before .before .before .before .before .before .before .before .before .pre .0) _ (c .before .before .before .before .before .before .before .before .before .before .before .before .before .pre .2) (c .before .before .before .before .before .before .before .before .before .before .before .before .before .pre .3) 0 0) (wide ((c .before .before .before))) (high ((c .before .before .before))) (c .bytes-per-sample .ensures) (across ((c .before .before .before))) (down ((c .before .before .before))) (c .before .before .before .before .if1 .left) (c .before .before .before .if2 .left), worked-before (c .before .before .before .before .before .before .before .before .before .before .before .before .before .args .canvas) (c .before .before .before .before .before .before .before .before .before .before .before .before .before .args .tile) (c .before .before .before .before .before .before .before .before .before .before .before .before .before .pre .0) (c .before .before .before .before .before .before .before .before .before .before .before .before .before .args .part) (c .before .before .before .before .before .before .before .before .before .before .before .before .before .pre .2) (c .before .before .before .before .before .before .before .before .before .before .before .before .before .pre .3) (c .before .before .before .before .before .before .before .before .before .before .before .before .before .args .column) (c .before .before .before .before .before .before .before .before .before .before .before .before .before .args .row) (c .before .plane .result .start) (c .before .plane .result .stride) (c .before .before .before .before .before .before .before .before .before .before .columns .result) (c .before .before .before .before .before .before .before .before .before .rows .result) (c .bytes-per-sample .result) (c .before .before .before .before .before .before .before .visible .result) (c .before .before .before .before .before .visible2 .result) (ap (λ (q : Plane). q .start) (to ((c .before)))) (ap (λ (q : Plane). q .stride) (to ((c .before))) ∙ to-stride _ (c .before .before .before .before .before .before .before .before .before .before .before .before .before .args .tile) (c .before .before .before .before .before .before .before .before .before .before .before .before .before .pre .0) _ (c .before .before .before .before .before .before .before .before .before .before .before .before .before .pre .2) (c .before .before .before .before .before .before .before .before .before .before .before .before .before .pre .3) 0 0) (wide ((c .before .before .before))) (high ((c .before .before .before))) (c .bytes-per-sample .ensures) (across ((c .before .before .before))) (down ((c .before .before .before))) (c .before .before .before .before .if1 .left) (c .before .before .before .if2 .left))
 
--- src/cell.rt:125:13
 add-t20 : tie.Need-add-t20
 add-t20 c = omega (arith, worked-at (c .before .before .before .before .before .before .before .before .before .before .before .before .before .before .args .canvas) (c .before .before .before .before .before .before .before .before .before .before .before .before .before .before .args .tile) (c .before .before .before .before .before .before .before .before .before .before .before .before .before .before .pre .0) (c .before .before .before .before .before .before .before .before .before .before .before .before .before .before .args .part) (c .before .before .before .before .before .before .before .before .before .before .before .before .before .before .pre .2) (c .before .before .before .before .before .before .before .before .before .before .before .before .before .before .pre .3) (c .before .before .before .before .before .before .before .before .before .before .before .before .before .before .args .column) (c .before .before .before .before .before .before .before .before .before .before .before .before .before .before .args .row) (c .before .before .plane .result .start) (c .before .before .plane .result .stride) (c .before .before .before .before .before .before .before .before .before .before .before .columns .result) (c .before .before .before .before .before .before .before .before .before .before .rows .result) (c .before .bytes-per-sample .result) (c .before .before .before .before .before .before .before .before .visible .result) (c .before .before .before .before .before .before .visible2 .result) (ap (λ (q : Plane). q .start) (to ((c .before .before)))) (ap (λ (q : Plane). q .stride) (to ((c .before .before))) ∙ to-stride _ (c .before .before .before .before .before .before .before .before .before .before .before .before .before .before .args .tile) (c .before .before .before .before .before .before .before .before .before .before .before .before .before .before .pre .0) _ (c .before .before .before .before .before .before .before .before .before .before .before .before .before .before .pre .2) (c .before .before .before .before .before .before .before .before .before .before .before .before .before .before .pre .3) 0 0) (wide ((c .before .before .before .before))) (high ((c .before .before .before .before))) (c .before .bytes-per-sample .ensures) (across ((c .before .before .before .before))) (down ((c .before .before .before .before))) (c .before .before .before .before .before .if1 .left) (c .before .before .before .before .if2 .left), c .before .before .before .before .before .before .before .before .before .before .before .before .before .before .pre .4)
 
--- src/cell.rt:94:1
 returns-3 : tie.Need-returns-3
 returns-3 c = worked-cell (c .before .before .before .before .before .before .before .before .before .before .before .before .before .before .args .canvas) (c .before .before .before .before .before .before .before .before .before .before .before .before .before .before .args .tile) (c .before .before .before .before .before .before .before .before .before .before .before .before .before .before .pre .0) (c .before .before .before .before .before .before .before .before .before .before .before .before .before .before .args .part) (c .before .before .before .before .before .before .before .before .before .before .before .before .before .before .pre .2) (c .before .before .before .before .before .before .before .before .before .before .before .before .before .before .pre .3) (c .before .before .before .before .before .before .before .before .before .before .before .before .before .before .args .column) (c .before .before .before .before .before .before .before .before .before .before .before .before .before .before .args .row) (c .before .before .plane .result .start) (c .before .before .plane .result .stride) (c .before .before .before .before .before .before .before .before .before .before .before .columns .result) (c .before .before .before .before .before .before .before .before .before .before .rows .result) (c .before .bytes-per-sample .result) (c .before .before .before .before .before .before .before .before .visible .result) (c .before .before .before .before .before .before .visible2 .result) (ap (λ (q : Plane). q .start) (to ((c .before .before)))) (ap (λ (q : Plane). q .stride) (to ((c .before .before))) ∙ to-stride _ (c .before .before .before .before .before .before .before .before .before .before .before .before .before .before .args .tile) (c .before .before .before .before .before .before .before .before .before .before .before .before .before .before .pre .0) _ (c .before .before .before .before .before .before .before .before .before .before .before .before .before .before .pre .2) (c .before .before .before .before .before .before .before .before .before .before .before .before .before .before .pre .3) 0 0) (wide ((c .before .before .before .before))) (high ((c .before .before .before .before))) (c .before .bytes-per-sample .ensures) (across ((c .before .before .before .before))) (down ((c .before .before .before .before))) (c .before .before .before .before .before .if1 .left) (c .before .before .before .before .if2 .left)
 

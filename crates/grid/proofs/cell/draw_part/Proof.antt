@@ -28,63 +28,48 @@ there c = sym (c .before .has .ensures) ∙ c .if1 .taken
 cell : (c : tie.After-cell-of) → c .cell-of .result ≡ cellOf (c .before .before .before .before .before .before .before .before .args .canvas) (tileForm (c .before .before .before .before .before .before .before .before .args .promoted) (c .before .before .before .before .before .before .before .before .args .fr .form)) (c .before .before .before .before .before .before .before .before .args .column) (c .before .before .before .before .before .before .before .before .args .row) (c .before .before .before .before .before .before .before .before .args .part)
 cell c = c .cell-of .ensures ∙ ap (λ (t : Form). cellOf (c .before .before .before .before .before .before .before .before .args .canvas) t (c .before .before .before .before .before .before .before .before .args .column) (c .before .before .before .before .before .before .before .before .args .row) (c .before .before .before .before .before .before .before .before .args .part)) (c .before .tile-form .ensures)
 
--- src/cell.rt:148:8
 has-requires : tie.Need-has-requires
 has-requires c κs = search needs
 
--- src/cell.rt:149:36
 tile-form-requires : tie.Need-tile-form-requires
 tile-form-requires c κs = search needs
 
--- src/cell.rt:149:13
 cell-of-requires : tie.Need-cell-of-requires
 cell-of-requires c κs = let t = tile-sound (c .before .before .before .before .before .before .before .args .promoted) (c .before .before .before .before .before .before .before .args .fr .form) (c .before .before .before .before .before .before .before .pre .sound .form) in (c .before .before .before .before .before .before .before .pre .canvas, rw (c .tile-form .ensures) t, suits-canvas _ _ _ _ _ (c .before .before .before .before .before .before .before .pre) (c .before .before .before .before .before .before .before .args .part) (there ((c .before))), rw (c .tile-form .ensures) (suits-bytes _ _ _ _ _ (c .before .before .before .before .before .before .before .pre) (c .before .before .before .before .before .before .before .args .part)), omega (arith, c .before .before .before .before .before .before .before .pre .room))
 
--- src/cell.rt:152:13
 returns : tie.Need-returns
 returns c = part-hidden _ _ _ _ _ _ _ _ _ (cell ((c .before))) (c .if2 .taken)
 
--- src/cell.rt:154:13
 plane-requires : tie.Need-plane-requires
 plane-requires c κs = search needs
 
--- src/cell.rt:155:49
 half-width-requires : tie.Need-half-width-requires
 half-width-requires c κs = search needs
 
--- src/cell.rt:155:13
 both-requires : tie.Need-both-requires
 both-requires c κs = search needs
 
--- src/cell.rt:156:47
 half-height-requires : tie.Need-half-height-requires
 half-height-requires c κs = search needs
 
--- src/cell.rt:156:13
 both-requires-2 : tie.Need-both-requires-2
 both-requires-2 c κs = search needs
 
--- src/cell.rt:157:13
 plane-data-requires : tie.Need-plane-data-requires
 plane-data-requires c κs = rw (c .before .before .before .before .plane .ensures) (c .before .before .before .before .before .before .before .before .before .before .before .before .before .before .pre .sound .planes (c .before .before .before .before .before .before .before .before .before .before .before .before .before .before .args .part) (there ((c .before .before .before .before .before .before .before .before))) .inside)
 
--- src/cell.rt:163:13
 bytes-per-sample-requires : tie.Need-bytes-per-sample-requires
 bytes-per-sample-requires c κs = search needs
 
--- src/cell.rt:158:9
 draw-rows-requires : tie.Need-draw-rows-requires
 draw-rows-requires c κs = rw (c .before .before .plane-data .ensures, c .before .before .before .before .before .before .before .plane .ensures, c .bytes-per-sample .ensures, c .before .before .before .before .before .both .ensures, c .before .before .before .both2 .ensures, c .before .before .before .before .before .before .half-width .ensures, c .before .before .before .before .half-height .ensures) (suits-rows _ _ _ _ _ (c .before .before .before .before .before .before .before .before .before .before .before .before .before .before .before .before .before .pre) (c .before .before .before .before .before .before .before .before .before .before .before .before .before .before .before .before .before .args .part) (there ((c .before .before .before .before .before .before .before .before .before .before .before))) (c .before .before .before .before .before .before .before .before .before .before .before .before .before .before .before .before .before .args .column) (c .before .before .before .before .before .before .before .before .before .before .before .before .before .before .before .before .before .args .row) _ (cell ((c .before .before .before .before .before .before .before .before .before))) (c .before .before .before .before .before .before .before .before .if2 .left))
 
--- src/cell.rt:133:1
 same-length : tie.Need-same-length
 same-length c = search needs
 
--- src/cell.rt:133:1
 returns-2 : tie.Need-returns-2
 returns-2 c = c .before .before .draw-rows .ensures ∙ rw (c .before .before .before .before .before .plane-data .ensures, c .before .before .before .before .before .before .before .before .before .before .plane .ensures, c .before .before .before .bytes-per-sample .ensures, c .before .before .before .before .before .before .before .before .both .ensures, c .before .before .before .before .before .before .both2 .ensures, c .before .before .before .before .before .before .before .before .before .half-width .ensures, c .before .before .before .before .before .before .before .half-height .ensures) (part-stored _ _ _ _ _ _ (c .before .before .before .before .before .before .before .before .before .before .before .before .before .before .before .before .before .before .before .before .args .column) (c .before .before .before .before .before .before .before .before .before .before .before .before .before .before .before .before .before .before .before .before .args .row) _ (c .before .before .before .before .before .before .before .before .before .before .before .before .before .before .before .before .before .before .before .before .pre .colour) (there ((c .before .before .before .before .before .before .before .before .before .before .before .before .before .before))) (cell ((c .before .before .before .before .before .before .before .before .before .before .before .before))))
 
--- src/cell.rt:133:1
 returns-3 : tie.Need-returns-3
 returns-3 c = part-lacks _ _ _ _ _ _ _ _ (c .before .before .before .before .before .before .pre .colour) (sym (c .before .has .ensures) ∙ c .if1 .left)
 

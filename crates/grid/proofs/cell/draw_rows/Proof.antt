@@ -30,52 +30,40 @@ line : (c : tie.After-covering Inv-loop μ-loop) → _≡_ {A = Line} (record { 
 unfolding tileLine
 line c = simp (c .covering .ensures, c .before .before .before .shift .ensures)
 
--- src/cell.rt:68:9
 shift-requires : tie.Need-shift-requires Inv-loop μ-loop
 shift-requires c κs = search needs
 
--- src/cell.rt:70:5
 loop-holds : tie.Need-loop-holds Inv-loop μ-loop
 unfolding storeRows
 loop-holds c = (omega arith, refl)
 
--- src/cell.rt:72:21
 covering-requires : tie.Need-covering-requires Inv-loop μ-loop
 covering-requires c κs = search needs
 
--- src/cell.rt:72:21
 mul-write-line : tie.Need-mul-write-line Inv-loop μ-loop
 mul-write-line c = let f = c .before .before .before .before .before .before .pre .reads 0 (c .before .before .loop .y) (c .before .before .before .before .before .before .pre .any) (c .before .loop-test .taken) in let e = ap (λ (k : ℕ). k * c .before .before .before .before .before .before .args .row) (c .covering .ensures) in omega arith
 
--- src/cell.rt:79:37
 mul-write-line-2 : tie.Need-mul-write-line-2 Inv-loop μ-loop
 mul-write-line-2 c = let w = c .before .before .before .before .before .before .before .pre .writes (c .before .before .before .loop .y) (c .before .before .loop-test .taken) in omega arith
 
--- src/cell.rt:79:32
 add-write-line : tie.Need-add-write-line Inv-loop μ-loop
 add-write-line c = let w = c .before .before .before .before .before .before .before .pre .writes (c .before .before .before .loop .y) (c .before .before .loop-test .taken) in omega arith
 
--- src/cell.rt:79:9
 write-line-requires : tie.Need-write-line-requires Inv-loop μ-loop
 write-line-requires c κs = let w = c .before .before .before .before .before .before .before .pre .writes (c .before .before .before .loop .y) (c .before .before .loop-test .taken) in let l = ap length (c .before .before .before .loop .inv .1) ∙ length-storeRows _ _ _ _ _ in (rw (line ((c .before))) (line-fits _ _ _ _ _ _ _ _ _ _ _ (c .before .before .before .before .before .before .before .pre) (c .before .before .loop-test .taken)), omega arith)
 
--- src/cell.rt:80:9
 add-y : tie.Need-add-y Inv-loop μ-loop
 add-y c = search needs
 
--- src/cell.rt:70:5
 loop-less : tie.Need-loop-less Inv-loop μ-loop
 loop-less c = search needs
 
--- src/cell.rt:70:5
 loop-again : tie.Need-loop-again Inv-loop μ-loop
 loop-again c = (omega arith, c .before .before .write-line .ensures .1 ∙ ap (λ (l : Line). puts (c .before .before .before .before .before .before .loop .out) (c .before .before .before .before .before .before .before .before .before .before .args .at + c .before .before .before .before .before .before .loop .y * c .before .before .before .before .before .before .before .before .before .before .args .stride) (lineBytes (now (c .before .before .before .before .before .before .before .before .before .before .args .plane)) (c .before .before .before .before .before .before .before .before .before .before .args .bytes) l (c .before .before .before .before .before .before .before .before .before .before .args .across))) (line ((c .before .before .before .before))) ∙ ap (λ (d : List ℕ). puts d (c .before .before .before .before .before .before .before .before .before .before .args .at + c .before .before .before .before .before .before .loop .y * c .before .before .before .before .before .before .before .before .before .before .args .stride) (lineBytes (now (c .before .before .before .before .before .before .before .before .before .before .args .plane)) (c .before .before .before .before .before .before .before .before .before .before .args .bytes) (tileLine (c .before .before .before .before .before .before .before .before .before .before .args .bytes) (c .before .before .before .before .before .before .before .before .before .before .args .row) (c .before .before .before .before .before .before .before .before .before .before .args .half-across) (c .before .before .before .before .before .before .before .before .before .before .args .half-down) (c .before .before .before .before .before .before .loop .y)) (c .before .before .before .before .before .before .before .before .before .before .args .across))) (c .before .before .before .before .before .before .loop .inv .1) ∙ rows-more (now (c .before .before .before .before .before .before .before .before .before .before .args .out)) (c .before .before .before .before .before .before .before .before .before .before .args .at) (c .before .before .before .before .before .before .before .before .before .before .args .stride) _ (c .before .before .before .before .before .before .loop .y))
 
--- src/cell.rt:53:1
 same-length : tie.Need-same-length Inv-loop μ-loop
 same-length c = ap length (c .before .loop .inv .1) ∙ length-storeRows _ _ _ _ _
 
--- src/cell.rt:53:1
 returns : tie.Need-returns Inv-loop μ-loop
 returns c = let e : c .before .loop .y ≡ c .before .before .before .before .before .args .down = omega (arith, c .before .loop .inv .0, c .loop-test .left) in c .before .loop .inv .1 ∙ ap (storeRows (now (c .before .before .before .before .before .args .out)) (c .before .before .before .before .before .args .at) (c .before .before .before .before .before .args .stride) _) e
 

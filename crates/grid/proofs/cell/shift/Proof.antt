@@ -5,11 +5,9 @@ use Rattle.grid.proofs.cell.shift.Tie as tie
 use Rattle.grid.proofs.cell.shift.Reads as reads
 use Rattle.grid.proofs.cell.shift.Lts as lts
 
--- src/cell.rt:46:9
 returns : tie.Need-returns
 returns c = sym (pick-true _ _ _ (c .if1 .taken))
 
--- src/cell.rt:42:1
 returns-2 : tie.Need-returns-2
 returns-2 c = sym (pick-false _ _ _ (c .if1 .left))
 

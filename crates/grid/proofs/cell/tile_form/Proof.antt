@@ -8,16 +8,13 @@ use Rattle.grid.proofs.cell.tile_form.Reads as reads
 use Rattle.grid.proofs.cell.tile_form.Lts as lts
 use Rattle.image.proofs.format.Form.as_444.Reads as as-444-reads
 
--- src/cell.rt:36:9
 as-444-requires : tie.Need-as-444-requires
 as-444-requires c κs = search needs
 
--- src/cell.rt:36:9
 returns : tie.Need-returns
 unfolding tileForm
 returns c = c .as-444 .ensures ∙ sym (pick-true _ _ _ (c .before .if1 .taken))
 
--- src/cell.rt:32:1
 returns-2 : tie.Need-returns-2
 unfolding tileForm
 returns-2 c = sym (pick-false _ _ _ (c .if1 .left))

@@ -9,23 +9,18 @@ use Rattle.grid.proofs.cell.visible.Tie as tie
 use Rattle.grid.proofs.cell.visible.Reads as reads
 use Rattle.grid.proofs.cell.visible.Lts as lts
 
--- src/cell.rt:20:18
 mul-before : tie.Need-mul-before
 mul-before c = omega (arith, mul-below (2 ^ 32 - 1) (2 ^ 32 - 1) (c .args .i) (c .args .tile) (omega arith) (omega (arith, c .pre)))
 
--- src/cell.rt:22:9
 returns : tie.Need-returns
 returns c = sym (visible-none _ _ _ (c .if1 .taken))
 
--- src/cell.rt:24:16
 sub-left : tie.Need-sub-left
 sub-left c = search needs
 
--- src/cell.rt:26:9
 returns-2 : tie.Need-returns-2
 returns-2 c = sym (visible-whole _ _ _ (c .if2 .taken))
 
--- src/cell.rt:16:1
 returns-3 : tie.Need-returns-3
 returns-3 c = sym (visible-cut _ _ _ (c .if2 .left))
 

@@ -26,44 +26,34 @@ ready : (c : tie.After-t) → TilesTaken (now (c .before .before .before .before
 unfolding Bytes
 ready c = tiles-taken (now (c .before .before .before .before .before .before .args .body)) (now (c .before .before .before .before .before .before .args .tray)) (c .t .given .0 .0) (λ i. omega (arith, c .before .before .before .before .before .shared-slice-known .given i)) (taken c)
 
--- src/compose.rt:54:11
 read-tiles-requires : tie.Need-read-tiles-requires
 read-tiles-requires c κs = search needs
 
--- src/compose.rt:55:28
 enum-known-e : tie.Need-enum-known-e
 enum-known-e c = search needs
 
--- src/compose.rt:56:25
 enum-known-t : tie.Need-enum-known-t
 enum-known-t c = search needs
 
--- src/compose.rt:57:43
 canvas-form-requires : tie.Need-canvas-form-requires
 canvas-form-requires c κs = search needs
 
--- src/compose.rt:57:17
 record-size-requires : tie.Need-record-size-requires
 record-size-requires c κs = rw (c .canvas-form .ensures) (ready ((c .before .before)) .canvas)
 
--- src/compose.rt:59:17
 returns : tie.Need-returns
 returns c = refused-answers _ _ _ (grid-short _ _ _ _ (taken ((c .before .before .before .before))) (rw (c .before .record-size .ensures, c .before .before .canvas-form .ensures) at (c .if1 .taken)))
 
--- src/compose.rt:61:13
 draw-grid-requires : tie.Need-draw-grid-requires
 draw-grid-requires c κs = (ready ((c .before .before .before .before .before)), rw (c .before .before .record-size .ensures, c .before .before .before .canvas-form .ensures) at (c .before .if1 .left))
 
--- src/compose.rt:50:1
 returns-2 : tie.Need-returns-2
 unfolding gridRun
 returns-2 c = refused-answers _ _ _ (then-refused _ (sym (c .before .before .before .read-tiles .ensures) ∙ ap tilesOut (c .before .e .given .1)))
 
--- src/compose.rt:50:1
 same-length : tie.Need-same-length
 same-length c = search needs
 
--- src/compose.rt:50:1
 returns-3 : tie.Need-returns-3
 returns-3 c = done-answers _ _ _ _ _ (grid-fits _ _ _ _ (taken ((c .before .before .before .before .before .before .before .before))) (rw (c .before .before .before .before .before .record-size .ensures, c .before .before .before .before .before .before .canvas-form .ensures) at (c .before .before .before .before .if1 .left))) (rw (length-gridOn (now (c .before .before .before .before .before .before .before .before .before .before .before .before .before .before .args .tray)) (c .before .before .before .before .before .before .before .before .t .given .0 .0)) (rw (c .before .before .before .before .before .record-size .ensures, c .before .before .before .before .before .before .canvas-form .ensures) at (c .before .before .before .before .if1 .left))) (c .before .before .before .before .before .record-size .ensures ∙ ap sizeOf (c .before .before .before .before .before .before .canvas-form .ensures) ∙ sym (length-gridOn (now (c .before .before .before .before .before .before .before .before .before .before .before .before .before .before .args .tray)) (c .before .before .before .before .before .before .before .before .t .given .0 .0))) (c .before .before .draw-grid .ensures)
 

@@ -57,78 +57,60 @@ module _ (c : tie.After-f Inv-loop μ-loop) where
   frame-here : (getD (takenOf (framesAt (c .before .before .before .before .before .before .before .before .before .before .before .before .before .before .before .args .t .desc .rows * c .before .before .before .before .before .before .before .before .before .before .before .before .before .before .before .args .t .desc .columns) (now (c .before .before .before .before .before .before .before .before .before .before .before .before .before .before .before .args .tray)) (c .before .before .before .before .before .before .before .before .before .before .before .before .before .before .before .args .t .first))) (c .before .before .before .before .loop .i) noFrame ≡ c .f .given .0 .0) × (drop (c .before .before .before .before .loop .i + 1) (takenOf (framesAt (c .before .before .before .before .before .before .before .before .before .before .before .before .before .before .before .args .t .desc .rows * c .before .before .before .before .before .before .before .before .before .before .before .before .before .before .before .args .t .desc .columns) (now (c .before .before .before .before .before .before .before .before .before .before .before .before .before .before .before .args .tray)) (c .before .before .before .before .before .before .before .before .before .before .before .before .before .before .before .args .t .first))) ≡ step .0)
   frame-here = drop-head (takenOf (framesAt (c .before .before .before .before .before .before .before .before .before .before .before .before .before .before .before .args .t .desc .rows * c .before .before .before .before .before .before .before .before .before .before .before .before .before .before .before .args .t .desc .columns) (now (c .before .before .before .before .before .before .before .before .before .before .before .before .before .before .before .args .tray)) (c .before .before .before .before .before .before .before .before .before .before .before .before .before .before .before .args .t .first))) (c .before .before .before .before .loop .i) _ _ (step .2)
 
--- src/compose.rt:28:9
 canvas-form-requires : tie.Need-canvas-form-requires Inv-loop μ-loop
 canvas-form-requires c κs = search needs
 
--- src/compose.rt:29:9
 promotes-requires : tie.Need-promotes-requires Inv-loop μ-loop
 promotes-requires c κs = search needs
 
--- src/compose.rt:31:17
 mul-count : tie.Need-mul-count Inv-loop μ-loop
 mul-count c = let r = c .before .before .before .before .before .before .pre .0 .rows in let k = c .before .before .before .before .before .before .pre .0 .columns in omega (arith, mul-below 256 256 (c .before .before .before .before .before .before .args .t .desc .rows) (c .before .before .before .before .before .before .args .t .desc .columns) (r .1) (k .1))
 
--- src/compose.rt:32:5
 paint-canvas-requires : tie.Need-paint-canvas-requires Inv-loop μ-loop
 paint-canvas-requires c κs = (rw (c .before .before .before .canvas-form .ensures) (c .before .before .before .before .before .before .before .pre .0 .canvas), rw (canvas-alpha-is (c .before .before .before .before .before .before .before .args .t .desc) (c .before .before .before .before .before .before .before .args .t .tile) (c .before .before .before .before .before .before .before .args .t .alpha)) at (c .before .before .before .before .before .before .before .pre .0 .canvas .alpha), rw (c .before .before .before .canvas-form .ensures) (c .before .before .before .before .before .before .before .pre .1))
 
--- src/compose.rt:35:5
 loop-holds : tie.Need-loop-holds Inv-loop μ-loop
 unfolding framesIn countOf storeTiles
 loop-holds c = (omega arith, ap (λ (k : ℕ). framesAt k (now (c .before .before .before .before .before .before .before .before .before .before .args .tray)) (c .before .before .before .before .before .before .before .before .before .before .args .t .first)) (omega arith) ∙ c .before .before .before .before .before .before .before .before .before .before .pre .0 .taken, refl)
 
--- src/compose.rt:36:15
 read-record-requires : tie.Need-read-record-requires Inv-loop μ-loop
 read-record-requires c κs = search needs
 
--- src/compose.rt:37:32
 enum-known-e : tie.Need-enum-known-e Inv-loop μ-loop
 enum-known-e c = search needs
 
--- src/compose.rt:38:17
 same-length : tie.Need-same-length Inv-loop μ-loop
 same-length c = dead c
 
--- src/compose.rt:38:17
 returns : tie.Need-returns Inv-loop μ-loop
 returns c = dead c
 
--- src/compose.rt:40:29
 enum-known-f : tie.Need-enum-known-f Inv-loop μ-loop
 enum-known-f c = search needs
 
--- src/compose.rt:41:59
 rem-draw-tile : tie.Need-rem-draw-tile Inv-loop μ-loop
 rem-draw-tile c = let k = c .before .before .before .before .before .before .before .before .before .before .before .before .before .before .before .before .before .pre .0 .columns in omega (arith, k .0)
 
--- src/compose.rt:41:72
 div-draw-tile : tie.Need-div-draw-tile Inv-loop μ-loop
 div-draw-tile c = let k = c .before .before .before .before .before .before .before .before .before .before .before .before .before .before .before .before .before .pre .0 .columns in omega (arith, k .0)
 
--- src/compose.rt:41:17
 draw-tile-requires : tie.Need-draw-tile-requires Inv-loop μ-loop
 unfolding framesIn countOf
 draw-tile-requires c κs = suits-at (now (c .before .before .before .before .before .before .before .before .before .before .before .before .before .before .before .before .before .args .tray)) (c .before .before .before .before .before .before .before .before .before .before .before .before .before .before .before .before .before .args .t) (c .before .before .before .before .before .before .before .before .before .before .before .before .before .before .before .before .before .pre .0) (c .before .before .before .before .before .before .loop .i) _ _ _ _ (c .before .before .before .before .before .loop-test .taken) (frame-here ((c .before .before)) .0) (c .before .before .before .before .before .before .before .before .before .before .before .before .before .canvas-form .ensures) (c .before .before .before .before .before .before .before .before .before .before .before .before .promotes .ensures) (omega (arith, long ((c .before .before .before .before .before .before)), c .before .before .before .before .before .before .before .before .before .before .before .before .before .before .before .before .before .pre .1))
 
--- src/compose.rt:45:9
 add-i : tie.Need-add-i Inv-loop μ-loop
 add-i c = let r = c .before .before .before .before .before .before .before .before .before .before .before .before .before .before .before .before .before .before .before .before .pre .0 .rows in let k = c .before .before .before .before .before .before .before .before .before .before .before .before .before .before .before .before .before .before .before .before .pre .0 .columns in omega (arith, c .before .before .before .before .before .before .before .before .loop-test .taken, mul-below 256 256 (c .before .before .before .before .before .before .before .before .before .before .before .before .before .before .before .before .before .before .before .before .args .t .desc .rows) (c .before .before .before .before .before .before .before .before .before .before .before .before .before .before .before .before .before .before .before .before .args .t .desc .columns) (r .1) (k .1))
 
--- src/compose.rt:35:5
 loop-less : tie.Need-loop-less Inv-loop μ-loop
 loop-less c = search needs
 
--- src/compose.rt:35:5
 loop-again : tie.Need-loop-again Inv-loop μ-loop
 unfolding tileIn
 loop-again c = let s = step ((c .before .before .before .before .before)) in let q = frame-here ((c .before .before .before .before .before)) in let e : c .before .before .before .before .before .before .before .before .before .before .before .before .before .before .before .before .before .before .before .before .args .t .desc .rows * c .before .before .before .before .before .before .before .before .before .before .before .before .before .before .before .before .before .before .before .before .args .t .desc .columns - (c .before .before .before .before .before .before .before .before .before .loop .i + 1) ≡ c .before .before .before .before .before .before .before .before .before .before .before .before .before .before .before .before .before .before .before .before .args .t .desc .rows * c .before .before .before .before .before .before .before .before .before .before .before .before .before .before .before .before .before .before .before .before .args .t .desc .columns - c .before .before .before .before .before .before .before .before .before .loop .i - 1 = omega arith in (omega (arith, c .before .before .before .before .before .before .before .before .loop-test .taken), ap (λ (k : ℕ). framesAt k (now (c .before .before .before .before .before .before .before .before .before .before .before .before .before .before .before .before .before .before .before .before .args .tray)) (c .before .before .before .before .before .f .given .0 .0 .end)) e ∙ s .1 ∙ ap done (sym (q .1)), c .before .before .draw-tile .ensures ∙ ap₂ (λ (f : Frame) (d : List ℕ). storeTile (c .before .before .before .before .before .before .before .before .before .before .before .before .before .before .before .before .canvas-form .result) (tilePic (c .before .before .before .before .before .before .before .before .before .before .before .before .before .before .before .promotes .result) (decode (now (c .before .before .before .before .before .before .before .before .before .before .before .before .before .before .before .before .before .before .before .before .args .tray)) f)) (c .before .before .before .before .before .before .before .before .before .loop .i % c .before .before .before .before .before .before .before .before .before .before .before .before .before .before .before .before .before .before .before .before .args .t .desc .columns) (c .before .before .before .before .before .before .before .before .before .loop .i / c .before .before .before .before .before .before .before .before .before .before .before .before .before .before .before .before .before .before .before .before .args .t .desc .columns) d) (sym (q .0)) (c .before .before .before .before .before .before .before .before .before .loop .inv .2) ∙ tiles-more (c .before .before .before .before .before .before .before .before .before .before .before .before .before .before .before .before .canvas-form .result) (λ j. tilePic (c .before .before .before .before .before .before .before .before .before .before .before .before .before .before .before .promotes .result) (tileIn (now (c .before .before .before .before .before .before .before .before .before .before .before .before .before .before .before .before .before .before .before .before .args .tray)) (takenOf (framesAt (c .before .before .before .before .before .before .before .before .before .before .before .before .before .before .before .before .before .before .before .before .args .t .desc .rows * c .before .before .before .before .before .before .before .before .before .before .before .before .before .before .before .before .before .before .before .before .args .t .desc .columns) (now (c .before .before .before .before .before .before .before .before .before .before .before .before .before .before .before .before .before .before .before .before .args .tray)) (c .before .before .before .before .before .before .before .before .before .before .before .before .before .before .before .before .before .before .before .before .args .t .first))) j)) (c .before .before .before .before .before .before .before .before .before .before .before .before .before .before .before .before .before .before .before .before .args .t .desc .columns) (c .before .before .before .before .before .before .before .before .before .loop .i) _)
 
--- src/compose.rt:23:1
 same-length-2 : tie.Need-same-length-2 Inv-loop μ-loop
 same-length-2 c = long ((c .before))
 
--- src/compose.rt:23:1
 returns-2 : tie.Need-returns-2 Inv-loop μ-loop
 unfolding framesIn countOf
 returns-2 c = let e : c .before .loop .i ≡ c .before .before .before .before .before .before .before .before .before .before .before .before .args .t .desc .rows * c .before .before .before .before .before .before .before .before .before .before .before .before .args .t .desc .columns = omega (arith, c .before .loop .inv .0, c .loop-test .left) in c .before .loop .inv .2 ∙ ap (λ (k : ℕ). storeTiles (c .before .before .before .before .before .before .before .before .canvas-form .result) (λ j. tilePic (c .before .before .before .before .before .before .before .promotes .result) (tileIn (now (c .before .before .before .before .before .before .before .before .before .before .before .before .args .tray)) (takenOf (framesAt (c .before .before .before .before .before .before .before .before .before .before .before .before .args .t .desc .rows * c .before .before .before .before .before .before .before .before .before .before .before .before .args .t .desc .columns) (now (c .before .before .before .before .before .before .before .before .before .before .before .before .args .tray)) (c .before .before .before .before .before .before .before .before .before .before .before .before .args .t .first))) j)) (c .before .before .before .before .before .before .before .before .before .before .before .before .args .t .desc .columns) k (c .before .before .before .before .paint-canvas .last .0)) e ∙ ap (storeTiles (c .before .before .before .before .before .before .before .before .canvas-form .result) (λ j. tilePic (c .before .before .before .before .before .before .before .promotes .result) (tileIn (now (c .before .before .before .before .before .before .before .before .before .before .before .before .args .tray)) (takenOf (framesAt (c .before .before .before .before .before .before .before .before .before .before .before .before .args .t .desc .rows * c .before .before .before .before .before .before .before .before .before .before .before .before .args .t .desc .columns) (now (c .before .before .before .before .before .before .before .before .before .before .before .before .args .tray)) (c .before .before .before .before .before .before .before .before .before .before .before .before .args .t .first))) j)) (c .before .before .before .before .before .before .before .before .before .before .before .before .args .t .desc .columns) (c .before .before .before .before .before .before .before .before .before .before .before .before .args .t .desc .rows * c .before .before .before .before .before .before .before .before .before .before .before .before .args .t .desc .columns)) (c .before .before .before .before .paint-canvas .ensures) ∙ ap₂ (λ (m : Form) (b : Bool). storeTiles m (λ j. tilePic b (tileIn (now (c .before .before .before .before .before .before .before .before .before .before .before .before .args .tray)) (takenOf (framesAt (c .before .before .before .before .before .before .before .before .before .before .before .before .args .t .desc .rows * c .before .before .before .before .before .before .before .before .before .before .before .before .args .t .desc .columns) (now (c .before .before .before .before .before .before .before .before .before .before .before .before .args .tray)) (c .before .before .before .before .before .before .before .before .before .before .before .before .args .t .first))) j)) (c .before .before .before .before .before .before .before .before .before .before .before .before .args .t .desc .columns) (c .before .before .before .before .before .before .before .before .before .before .before .before .args .t .desc .rows * c .before .before .before .before .before .before .before .before .before .before .before .before .args .t .desc .columns) (puts (now (c .before .before .before .before .before .before .before .before .before .before .before .before .args .out)) 0 (canvasBytes m (c .before .before .before .before .before .before .before .before .before .before .before .before .args .t .alpha)))) (c .before .before .before .before .before .before .before .before .canvas-form .ensures) (c .before .before .before .before .before .before .before .promotes .ensures) ∙ composed (now (c .before .before .before .before .before .before .before .before .before .before .before .before .args .tray)) (c .before .before .before .before .before .before .before .before .before .before .before .before .args .t) (c .before .before .before .before .before .before .before .before .before .before .before .before .pre .0) (now (c .before .before .before .before .before .before .before .before .before .before .before .before .args .out)) (c .before .before .before .before .before .before .before .before .before .before .before .before .pre .1)

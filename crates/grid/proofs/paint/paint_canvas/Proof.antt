@@ -38,39 +38,30 @@ s3 c = writing-run (planeBytes (evenPic (c .before .before .before .before .befo
 s4 : (c : tie.After-paint-plane3) → Writing (now (c .before .before .before .before .before .before .before .before .before .before .before .before .before .before .before .before .before .args .out)) 0 (canvasBytes (c .before .before .before .before .before .before .before .before .before .before .before .before .before .before .before .before .before .args .canvas) (c .before .before .before .before .before .before .before .before .before .before .before .before .before .before .before .before .before .args .shown)) (c .paint-plane3 .last .0) (c .paint-plane3 .result) (planeBytes (evenPic (c .before .before .before .before .before .before .before .before .before .before .before .before .before .before .before .before .before .args .canvas) (topOf (c .before .before .before .before .before .before .before .before .before .before .before .before .before .before .before .before .before .args .canvas .format))) Alpha)
 s4 c = writing-run (planeBytes (evenPic (c .before .before .before .before .before .before .before .before .before .before .before .before .before .before .before .before .before .args .canvas) 0) Cr) (s3 ((c .before .before .before .before))) (c .paint-plane3 .ensures .0 ∙ ap (λ (n : ℕ). c .before .before .before .before .paint-plane2 .result + n) (sym (length-even-plane (c .before .before .before .before .before .before .before .before .before .before .before .before .before .before .before .before .before .args .canvas) 0 Cr))) (c .paint-plane3 .ensures .1)
 
--- src/paint.rt:33:39
 with-alpha-requires : tie.Need-with-alpha-requires
 with-alpha-requires c κs = search needs
 
--- src/paint.rt:33:9
 write-head-requires : tie.Need-write-head-requires
 write-head-requires c κs = rw (c .with-alpha .ensures) (writing-fits (headBytes (withAlpha (c .before .before .before .before .args .canvas) (c .before .before .before .before .args .shown))) _ (start c))
 
--- src/paint.rt:34:9
 paint-plane-requires : tie.Need-paint-plane-requires
 paint-plane-requires c κs = (c .before .before .before .before .before .before .before .before .pre .0, rw (length-even-plane (c .before .before .before .before .before .before .before .before .args .canvas) 0 Luma) at (writing-fits (planeBytes (evenPic (c .before .before .before .before .before .before .before .before .args .canvas) 0) Luma) _ (s1 ((c .before .before .before)))))
 
--- src/paint.rt:35:9
 paint-plane-requires-2 : tie.Need-paint-plane-requires-2
 paint-plane-requires-2 c κs = (c .before .before .before .before .before .before .before .before .before .before .before .before .pre .0, rw (length-even-plane (c .before .before .before .before .before .before .before .before .before .before .before .before .args .canvas) 0 Cb) at (writing-fits (planeBytes (evenPic (c .before .before .before .before .before .before .before .before .before .before .before .before .args .canvas) 0) Cb) _ (s2 ((c .before .before .before)))))
 
--- src/paint.rt:36:9
 paint-plane-requires-3 : tie.Need-paint-plane-requires-3
 paint-plane-requires-3 c κs = (c .before .before .before .before .before .before .before .before .before .before .before .before .before .before .before .before .pre .0, rw (length-even-plane (c .before .before .before .before .before .before .before .before .before .before .before .before .before .before .before .before .args .canvas) 0 Cr) at (writing-fits (planeBytes (evenPic (c .before .before .before .before .before .before .before .before .before .before .before .before .before .before .before .before .args .canvas) 0) Cr) _ (s3 ((c .before .before .before)))))
 
--- src/paint.rt:37:46
 top-requires : tie.Need-top-requires
 top-requires c κs = search needs
 
--- src/paint.rt:37:5
 paint-plane-requires-4 : tie.Need-paint-plane-requires-4
 paint-plane-requires-4 c κs = (c .before .before .before .before .before .before .before .before .before .before .before .before .before .before .before .before .before .before .before .before .before .pre .0, rw (length-even-plane (c .before .before .before .before .before .before .before .before .before .before .before .before .before .before .before .before .before .before .before .before .before .args .canvas) (topOf (c .before .before .before .before .before .before .before .before .before .before .before .before .before .before .before .before .before .before .before .before .before .args .canvas .format)) Alpha) at (s4 ((c .before .before .before .before)) .room))
 
--- src/paint.rt:28:1
 same-length : tie.Need-same-length
 same-length c = search needs
 
--- src/paint.rt:28:1
 returns : tie.Need-returns
 returns c = writing-last (s4 ((c .before .before .before .before .before .before .before))) (c .before .before .paint-plane4 .ensures .0 ∙ ap (λ (n : ℕ). c .before .before .before .before .before .before .before .paint-plane3 .result + n) (sym (length-even-plane (c .before .before .before .before .before .before .before .before .before .before .before .before .before .before .before .before .before .before .before .before .before .before .before .before .args .canvas) (topOf (c .before .before .before .before .before .before .before .before .before .before .before .before .before .before .before .before .before .before .before .before .before .before .before .before .args .canvas .format)) Alpha))) (c .before .before .paint-plane4 .ensures .1 ∙ ap (λ (v : ℕ). puts (c .before .before .before .before .before .before .before .paint-plane3 .last .0) (c .before .before .before .before .before .before .before .paint-plane3 .result) (planeBytes (evenPic (c .before .before .before .before .before .before .before .before .before .before .before .before .before .before .before .before .before .before .before .before .before .before .before .before .args .canvas) v) Alpha)) (c .before .before .before .top .ensures)) .1
 

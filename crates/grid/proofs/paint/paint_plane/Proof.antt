@@ -42,43 +42,33 @@ count c = ap₂ (λ (a b : ℕ). a * b) (c .before .columns .ensures) (c .rows .
 small : (c : tie.After-rows) → c .before .columns .result * c .rows .result ≤ 2 ^ 31
 small c = omega (arith, count c, plane-small (c .before .before .before .before .before .before .before .before .before .before .args .form) (c .before .before .before .before .before .before .before .before .before .before .pre .0) (c .before .before .before .before .before .before .before .before .before .before .args .part))
 
--- src/paint.rt:19:8
 has-requires : tie.Need-has-requires
 has-requires c κs = search needs
 
--- src/paint.rt:20:13
 write-plane-head-requires : tie.Need-write-plane-head-requires
 write-plane-head-requires c κs = (c .before .before .before .before .before .pre .0, writing-fits (planeHead (c .before .before .before .before .before .args .form) (c .before .before .before .before .before .args .part)) _ (start ((c .before))))
 
--- src/paint.rt:21:17
 columns-requires : tie.Need-columns-requires
 columns-requires c κs = search needs
 
--- src/paint.rt:21:47
 rows-requires : tie.Need-rows-requires
 rows-requires c κs = search needs
 
--- src/paint.rt:21:17
 mul-n : tie.Need-mul-n
 mul-n c = omega (arith, small c)
 
--- src/paint.rt:22:40
 bytes-per-sample-requires : tie.Need-bytes-per-sample-requires
 bytes-per-sample-requires c κs = search needs
 
--- src/paint.rt:22:9
 fill-row-requires : tie.Need-fill-row-requires
 fill-row-requires c κs = let k = bytes-few (c .before .before .before .before .before .before .before .before .before .before .before .before .args .form .format) in let e = c .bytes-per-sample .ensures in (rw e (k .0), rw e (k .1), rw (e, count ((c .before .before))) (rw (length-samplesOf (bytesOf (c .before .before .before .before .before .before .before .before .before .before .before .before .args .form .format)) (λ x. c .before .before .before .before .before .before .before .before .before .before .before .before .args .v) (rowsOf (c .before .before .before .before .before .before .before .before .before .before .before .before .args .form) (c .before .before .before .before .before .before .before .before .before .before .before .before .args .part) * columnsOf (c .before .before .before .before .before .before .before .before .before .before .before .before .args .form) (c .before .before .before .before .before .before .before .before .before .before .before .before .args .part)) (k .0) (k .1)) at (first ((c .before .before .before .before .before .before)) .room)))
 
--- src/paint.rt:22:9
 same-length : tie.Need-same-length
 same-length c = search needs
 
--- src/paint.rt:22:9
 returns : tie.Need-returns
 returns c = let k = bytes-few (c .before .before .before .before .before .before .before .before .before .before .before .before .before .before .before .args .form .format) in let e = c .before .before .before .bytes-per-sample .ensures in let l = length-samplesOf (bytesOf (c .before .before .before .before .before .before .before .before .before .before .before .before .before .before .before .args .form .format)) (λ x. c .before .before .before .before .before .before .before .before .before .before .before .before .before .before .before .args .v) (rowsOf (c .before .before .before .before .before .before .before .before .before .before .before .before .before .before .before .args .form) (c .before .before .before .before .before .before .before .before .before .before .before .before .before .before .before .args .part) * columnsOf (c .before .before .before .before .before .before .before .before .before .before .before .before .before .before .before .args .form) (c .before .before .before .before .before .before .before .before .before .before .before .before .before .before .before .args .part)) (k .0) (k .1) in let w = writing-last (first ((c .before .before .before .before .before .before .before .before .before))) (c .before .before .fill-row .ensures .0 ∙ ap (λ (q : ℕ). c .before .before .before .before .before .before .before .before .before .write-plane-head .result + q) (ap₂ (λ (a b : ℕ). a * b) (count ((c .before .before .before .before .before))) e ∙ sym l)) (c .before .before .fill-row .ensures .1 ∙ ap₂ (λ (b n : ℕ). puts (c .before .before .before .before .before .before .before .before .before .write-plane-head .last .0) (c .before .before .before .before .before .before .before .before .before .write-plane-head .result) (samplesOf b (λ x. c .before .before .before .before .before .before .before .before .before .before .before .before .before .before .before .args .v) n)) e (count ((c .before .before .before .before .before)))) in (w .0 ∙ ap (λ (q : ℕ). c .before .before .before .before .before .before .before .before .before .before .before .before .before .before .before .args .at + q) (length-even-plane (c .before .before .before .before .before .before .before .before .before .before .before .before .before .before .before .args .form) (c .before .before .before .before .before .before .before .before .before .before .before .before .before .before .before .args .v) (c .before .before .before .before .before .before .before .before .before .before .before .before .before .before .before .args .part)), w .1)
 
--- src/paint.rt:14:1
 returns-2 : tie.Need-returns-2
 returns-2 c = let h = sym (c .before .has .ensures) ∙ c .if1 .left in let w = writing-none (now (c .before .before .before .before .args .out)) (c .before .before .before .before .args .at) _ (even-none (c .before .before .before .before .args .form) (c .before .before .before .before .args .v) (c .before .before .before .before .args .part) h) in (w .0 ∙ ap (λ (q : ℕ). c .before .before .before .before .args .at + q) (length-even-plane (c .before .before .before .before .args .form) (c .before .before .before .before .args .v) (c .before .before .before .before .args .part)), w .1)
 

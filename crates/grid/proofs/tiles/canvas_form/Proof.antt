@@ -12,23 +12,18 @@ use Rattle.grid.proofs.tiles.promotes.Reads as promotes-reads
 use Rattle.grid.proofs.tiles.with_alpha.Reads as with-alpha-reads
 use Rattle.image.proofs.format.Form.sized.Reads as sized-reads
 
--- src/tiles.rt:63:9
 sized-requires : tie.Need-sized-requires
 sized-requires c κs = search needs
 
--- src/tiles.rt:64:26
 promotes-requires : tie.Need-promotes-requires
 promotes-requires c κs = search needs
 
--- src/tiles.rt:64:16
 tile-form-requires : tie.Need-tile-form-requires
 tile-form-requires c κs = search needs
 
--- src/tiles.rt:64:5
 with-alpha-requires : tie.Need-with-alpha-requires
 with-alpha-requires c κs = search needs
 
--- src/tiles.rt:60:1
 returns : tie.Need-returns
 unfolding canvasForm
 returns c = c .with-alpha .ensures ∙ ap (λ (m : Form). withAlpha m (c .before .before .before .before .args .alpha)) (c .before .tile-form .ensures ∙ simp (c .before .before .promotes .ensures, c .before .before .before .sized .ensures))

@@ -10,43 +10,33 @@ use Rattle.grid.proofs.tiles.covers.Reads as reads
 use Rattle.grid.proofs.tiles.covers.Lts as lts
 use Rattle.image.proofs.both.Reads as both-reads
 
--- src/tiles.rt:72:9
 cast-both : tie.Need-cast-both
 cast-both c = search needs
 
--- src/tiles.rt:72:34
 cast-both-2 : tie.Need-cast-both-2
 cast-both-2 c = search needs
 
--- src/tiles.rt:72:51
 cast-both-3 : tie.Need-cast-both-3
 cast-both-3 c = search needs
 
--- src/tiles.rt:72:34
 mul-both : tie.Need-mul-both
 mul-both c = omega (arith, mul-below (2 ^ 32 - 1) (2 ^ 32 - 1) (c .before .before .before .args .t .width) (c .before .before .before .args .g .columns) (omega arith) (omega arith))
 
--- src/tiles.rt:73:9
 cast-both-4 : tie.Need-cast-both-4
 cast-both-4 c = search needs
 
--- src/tiles.rt:73:35
 cast-both-5 : tie.Need-cast-both-5
 cast-both-5 c = search needs
 
--- src/tiles.rt:73:53
 cast-both-6 : tie.Need-cast-both-6
 cast-both-6 c = search needs
 
--- src/tiles.rt:73:35
 mul-both-2 : tie.Need-mul-both-2
 mul-both-2 c = omega (arith, mul-below (2 ^ 32 - 1) (2 ^ 32 - 1) (c .before .before .before .before .before .before .args .t .height) (c .before .before .before .before .before .before .args .g .rows) (omega arith) (omega arith))
 
--- src/tiles.rt:71:5
 both-requires : tie.Need-both-requires
 both-requires c κs = search needs
 
--- src/tiles.rt:68:1
 returns : tie.Need-returns
 unfolding coversOf
 returns c = c .both .ensures

@@ -25,84 +25,64 @@ Inv-loop tray g at count tile alpha₀ next₀ left₀ alpha next left = (frs : 
 abbrev μ-loop : tie.MeasureT-loop
 μ-loop tray g at count tile alpha₀ next₀ left₀ alpha next left = left
 
--- src/tiles.rt:109:11
 read-record-requires : tie.Need-read-record-requires Inv-loop μ-loop
 read-record-requires c κs = search needs
 
--- src/tiles.rt:110:28
 enum-known-e : tie.Need-enum-known-e Inv-loop μ-loop
 enum-known-e c = search needs
 
--- src/tiles.rt:111:25
 enum-known-first : tie.Need-enum-known-first Inv-loop μ-loop
 enum-known-first c = search needs
 
--- src/tiles.rt:113:17
 covers-requires : tie.Need-covers-requires Inv-loop μ-loop
 covers-requires c κs = search needs
 
--- src/tiles.rt:114:17
 returns : tie.Need-returns Inv-loop μ-loop
 returns c = sym (judge-uncovered _ _ _ _ _ (c .before .before .before .before .before .before .before .before .pre .1) (sym (c .before .before .before .before .before .before .read-record .ensures) ∙ ap frameOut (c .before .before .before .before .first .given .1)) (c .before .before .before .before .before .before .before .before .pre .0) (ap not (sym (c .before .covers .ensures)) ∙ c .if1 .taken))
 
--- src/tiles.rt:119:13
 loop-holds : tie.Need-loop-holds Inv-loop μ-loop
 loop-holds c = judge-start _ _ _ _ _ (c .before .before .before .before .before .before .before .before .pre .1) (sym (c .before .before .before .before .before .before .read-record .ensures) ∙ ap frameOut (c .before .before .before .before .first .given .1)) (c .before .before .before .before .before .before .before .before .pre .0) (ap not (sym (c .before .covers .ensures)) ∙ c .if1 .left)
 
--- src/tiles.rt:120:23
 read-record-requires-2 : tie.Need-read-record-requires-2 Inv-loop μ-loop
 read-record-requires-2 c κs = search needs
 
--- src/tiles.rt:121:40
 enum-known-e-2 : tie.Need-enum-known-e-2 Inv-loop μ-loop
 enum-known-e-2 c = search needs
 
--- src/tiles.rt:122:25
 returns-2 : tie.Need-returns-2 Inv-loop μ-loop
 unfolding FramesTaken
 returns-2 c = first-not-refused _ _ _ _ (c .before .before .before .before .loop-test .taken) (c .before .before .before .before .before .loop .inv .0, c .before .before .before .before .before .loop .inv .1) (sym (c .before .before .before .read-record2 .ensures) ∙ ap frameOut (c .before .e2 .given .1))
 
--- src/tiles.rt:124:37
 enum-known-f : tie.Need-enum-known-f Inv-loop μ-loop
 enum-known-f c = search needs
 
--- src/tiles.rt:126:29
 same-size-requires : tie.Need-same-size-requires Inv-loop μ-loop
 same-size-requires c κs = search needs
 
--- src/tiles.rt:127:29
 returns-3 : tie.Need-returns-3 Inv-loop μ-loop
 returns-3 c = sym (c .before .before .before .before .before .before .before .before .loop .inv .2 ∙ judged-refused _ _ _ _ _ (alike-size _ _ _ _ _ _ _ (c .before .before .before .before .before .before .before .loop-test .taken) (sym (c .before .before .before .before .before .before .read-record2 .ensures) ∙ ap frameOut (c .before .before .before .before .f .given .1)) (c .before .before .before .before .before .before .before .before .loop .inv .1) (ap not (sym (c .before .same-size .ensures)) ∙ c .if2 .taken)))
 
--- src/tiles.rt:129:29
 same-layout-requires : tie.Need-same-layout-requires Inv-loop μ-loop
 same-layout-requires c κs = search needs
 
--- src/tiles.rt:130:29
 returns-4 : tie.Need-returns-4 Inv-loop μ-loop
 returns-4 c = sym (c .before .before .before .before .before .before .before .before .before .before .loop .inv .2 ∙ judged-refused _ _ _ _ _ (alike-layout _ _ _ _ _ _ _ (c .before .before .before .before .before .before .before .before .before .loop-test .taken) (sym (c .before .before .before .before .before .before .before .before .read-record2 .ensures) ∙ ap frameOut (c .before .before .before .before .before .before .f .given .1)) (c .before .before .before .before .before .before .before .before .before .before .loop .inv .1) (ap not (sym (c .before .before .before .same-size .ensures)) ∙ c .before .before .if2 .left) (ap not (sym (c .before .same-layout .ensures)) ∙ c .if3 .taken)))
 
--- src/tiles.rt:132:25
 with-tile-requires : tie.Need-with-tile-requires Inv-loop μ-loop
 with-tile-requires c κs = search needs
 
--- src/tiles.rt:136:17
 sub-left : tie.Need-sub-left Inv-loop μ-loop
 sub-left c = search needs
 
--- src/tiles.rt:119:13
 loop-less : tie.Need-loop-less Inv-loop μ-loop
 loop-less c = search needs
 
--- src/tiles.rt:119:13
 loop-again : tie.Need-loop-again Inv-loop μ-loop
 loop-again c = let k = alike-next _ _ _ _ _ _ _ (c .before .before .before .before .before .before .before .before .before .before .loop-test .taken) (sym (c .before .before .before .before .before .before .before .before .before .read-record2 .ensures) ∙ ap frameOut (c .before .before .before .before .before .before .before .f .given .1)) (c .before .before .before .before .before .before .before .before .before .before .before .loop .inv .1) (ap not (sym (c .before .before .before .before .same-size .ensures)) ∙ c .before .before .before .if2 .left) (ap not (sym (c .before .before .same-layout .ensures)) ∙ c .before .if3 .left) in (k .0, k .1, c .before .before .before .before .before .before .before .before .before .before .before .loop .inv .2 ∙ ap (judged (c .before .before .before .before .before .before .before .before .before .before .before .before .before .before .before .before .before .before .before .before .args .g) (c .before .before .before .before .before .before .before .before .before .before .before .before .before .before .before .before .before .before .before .before .args .at) (c .before .before .before .before .before .before .before .before .before .before .before .before .before .before .before .before .first .given .0 .0 .form)) (k .2 ∙ ap (λ (a : ℕ). alikeFrom (c .before .before .before .before .before .before .before .before .before .before .before .before .before .before .before .before .first .given .0 .0 .form) a (k .0)) (sym (c .with-tile .ensures))))
 
--- src/tiles.rt:105:1
 returns-5 : tie.Need-returns-5 Inv-loop μ-loop
 returns-5 c = first-not-refused _ _ _ _ (c .before .before .before .before .before .pre .1) (c .before .before .before .before .before .pre .0) (sym (c .before .before .before .read-record .ensures) ∙ ap frameOut (c .before .e .given .1))
 
--- src/tiles.rt:105:1
 returns-6 : tie.Need-returns-6 Inv-loop μ-loop
 returns-6 c = sym (c .before .loop .inv .2 ∙ judged-done _ _ _ _ _ (alike-end _ _ _ _ _ _ (c .loop-test .left) (c .before .loop .inv .1)))
 

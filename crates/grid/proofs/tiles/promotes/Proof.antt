@@ -9,35 +9,27 @@ use Rattle.image.proofs.format.PixelFormat.needs_444.Reads as needs-444-reads
 use Rattle.image.proofs.either.Reads as either-reads
 use Rattle.image.proofs.is_odd.Reads as is-odd-reads
 
--- src/tiles.rt:36:21
 is-odd-requires : tie.Need-is-odd-requires
 is-odd-requires c κs = search needs
 
--- src/tiles.rt:36:45
 is-odd-requires-2 : tie.Need-is-odd-requires-2
 is-odd-requires-2 c κs = search needs
 
--- src/tiles.rt:36:9
 needs-444-requires : tie.Need-needs-444-requires
 needs-444-requires c κs = search needs
 
--- src/tiles.rt:38:13
 is-odd-requires-3 : tie.Need-is-odd-requires-3
 is-odd-requires-3 c κs = search needs
 
--- src/tiles.rt:39:13
 is-odd-requires-4 : tie.Need-is-odd-requires-4
 is-odd-requires-4 c κs = search needs
 
--- src/tiles.rt:37:9
 needs-444-requires-2 : tie.Need-needs-444-requires-2
 needs-444-requires-2 c κs = search needs
 
--- src/tiles.rt:35:5
 either-requires : tie.Need-either-requires
 either-requires c κs = search needs
 
--- src/tiles.rt:31:1
 returns : tie.Need-returns
 unfolding promotesOf
 returns c = c .either .ensures ∙ simp (c .before .before .before .before .needs-444 .ensures, c .before .needs-4442 .ensures, c .before .before .before .before .before .before .is-odd .ensures, c .before .before .before .before .before .is-odd2 .ensures, c .before .before .before .is-odd3 .ensures, c .before .before .is-odd4 .ensures)

@@ -18,82 +18,63 @@ use Rattle.grid.proofs.tiles.judge_tiles.Reads as judge-tiles-reads
 use Rattle.image.proofs.check_records.Reads as check-records-reads
 use Rattle.numbers.proofs.read_number.Reads as read-number-reads
 
--- src/tiles.rt:155:9
 read-number-requires : tie.Need-read-number-requires
 read-number-requires c κs = search needs
 
--- src/tiles.rt:153:16
 enum-known-count : tie.Need-enum-known-count
 enum-known-count c = search needs
 
--- laws: src/lib.rt:7:33
 enum-told : tie.Need-enum-told
 enum-told c = search needs
 
--- src/tiles.rt:157:9
 returns : tie.Need-returns
 returns c = sym (tiles-malformed _ _ (sym (c .before .before .read-number .ensures) ∙ c .enum-told .given .1))
 
--- src/tiles.rt:159:11
 parse-requires : tie.Need-parse-requires
 parse-requires c κs = search needs
 
--- src/tiles.rt:160:27
 enum-known-e : tie.Need-enum-known-e
 enum-known-e c = search needs
 
--- src/tiles.rt:161:24
 enum-known-g : tie.Need-enum-known-g
 enum-known-g c = search needs
 
--- src/tiles.rt:162:16
 cast-if1 : tie.Need-cast-if1
 cast-if1 c = search needs
 
--- src/tiles.rt:162:32
 cast-if1-2 : tie.Need-cast-if1-2
 cast-if1-2 c = search needs
 
--- src/tiles.rt:162:48
 cast-if1-3 : tie.Need-cast-if1-3
 cast-if1-3 c = search needs
 
--- src/tiles.rt:162:32
 mul-if1 : tie.Need-mul-if1
 mul-if1 c = omega (arith, mul-below (2 ^ 32 - 1) (2 ^ 32 - 1) (c .before .before .before .g .given .0 .0 .rows) (c .before .before .before .g .given .0 .0 .columns) (omega arith) (omega arith))
 
--- src/tiles.rt:163:17
 returns-2 : tie.Need-returns-2
 unfolding countOf
 returns-2 c = sym (tiles-number _ _ _ _ (sym (c .before .before .before .before .before .before .before .before .before .before .read-number .ensures) ∙ c .before .before .before .before .before .before .before .before .count .given .1) ∙ tiles-count _ _ _ _ _ (sym (c .before .before .before .before .before .before .parse .ensures) ∙ ap gridOut (c .before .before .before .before .g .given .1)) (c .if1 .taken))
 
--- src/tiles.rt:165:19
 check-records-requires : tie.Need-check-records-requires
 check-records-requires c κs = search needs
 
--- src/tiles.rt:166:35
 enum-known-e-2 : tie.Need-enum-known-e-2
 enum-known-e-2 c = search needs
 
--- src/tiles.rt:167:32
 enum-known-n : tie.Need-enum-known-n
 enum-known-n c = search needs
 
--- src/tiles.rt:167:38
 judge-tiles-requires : tie.Need-judge-tiles-requires
 unfolding countOf
 judge-tiles-requires c κs = let k = grid-taken _ _ (λ i. omega (arith, c .before .before .before .before .before .before .before .before .before .before .before .before .before .before .before .before .shared-slice-known .given i)) (sym (c .before .before .before .before .before .before .before .before .before .before .parse .ensures) ∙ ap gridOut (c .before .before .before .before .before .before .before .before .g .given .1)) in (count-taken _ _ _ _ (ap trayOut (sym (c .before .n .given .1)) ∙ c .before .before .before .check-records .ensures), rw (c .before .before .before .before .if1 .left) (count-some (c .before .before .before .before .before .before .before .before .g .given .0 .0) (k .someRows) (k .someColumns)))
 
--- src/tiles.rt:149:1
 returns-3 : tie.Need-returns-3
 returns-3 c = sym (tiles-number _ _ _ _ (sym (c .before .before .before .before .before .before .before .read-number .ensures) ∙ c .before .before .before .before .before .count .given .1) ∙ tiles-body _ _ _ _ _ (sym (c .before .before .before .parse .ensures) ∙ ap gridOut (c .before .e .given .1)))
 
--- src/tiles.rt:149:1
 returns-4 : tie.Need-returns-4
 unfolding countOf
 returns-4 c = sym (tiles-number _ _ _ _ (sym (c .before .before .before .before .before .before .before .before .before .before .before .before .before .before .read-number .ensures) ∙ c .before .before .before .before .before .before .before .before .before .before .before .before .count .given .1) ∙ tiles-frames _ _ _ _ _ (sym (c .before .before .before .before .before .before .before .before .before .before .parse .ensures) ∙ ap gridOut (c .before .before .before .before .before .before .before .before .g .given .1)) (c .before .before .before .before .if1 .left) ∙ then-refused _ (count-refused _ _ _ _ (ap trayOut (sym (c .before .e2 .given .1)) ∙ c .before .before .before .check-records .ensures)))
 
--- src/tiles.rt:149:1
 returns-5 : tie.Need-returns-5
 unfolding countOf
 returns-5 c = c .judge-tiles .ensures ∙ sym (tiles-number _ _ _ _ (sym (c .before .before .before .before .before .before .before .before .before .before .before .before .before .before .before .read-number .ensures) ∙ c .before .before .before .before .before .before .before .before .before .before .before .before .before .count .given .1) ∙ tiles-frames _ _ _ _ _ (sym (c .before .before .before .before .before .before .before .before .before .before .before .parse .ensures) ∙ ap gridOut (c .before .before .before .before .before .before .before .before .before .g .given .1)) (c .before .before .before .before .before .if1 .left))

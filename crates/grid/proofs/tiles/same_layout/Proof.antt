@@ -7,11 +7,9 @@ use Rattle.grid.proofs.tiles.same_layout.Reads as reads
 use Rattle.grid.proofs.tiles.same_layout.Lts as lts
 use Rattle.image.proofs.both.Reads as both-reads
 
--- src/tiles.rt:88:5
 both-requires : tie.Need-both-requires
 both-requires c κs = search needs
 
--- src/tiles.rt:83:1
 returns : tie.Need-returns
 unfolding sameLayout
 returns c = c .both .ensures

@@ -7,11 +7,9 @@ use Rattle.grid.proofs.tiles.same_size.Reads as reads
 use Rattle.grid.proofs.tiles.same_size.Lts as lts
 use Rattle.image.proofs.both.Reads as both-reads
 
--- src/tiles.rt:80:5
 both-requires : tie.Need-both-requires
 both-requires c κs = search needs
 
--- src/tiles.rt:77:1
 returns : tie.Need-returns
 unfolding sameSize
 returns c = c .both .ensures

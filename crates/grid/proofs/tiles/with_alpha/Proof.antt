@@ -5,7 +5,6 @@ use Rattle.grid.proofs.tiles.with_alpha.Tie as tie
 use Rattle.grid.proofs.tiles.with_alpha.Reads as reads
 use Rattle.grid.proofs.tiles.with_alpha.Lts as lts
 
--- src/tiles.rt:44:1
 returns : tie.Need-returns
 unfolding withAlpha
 returns c = search needs

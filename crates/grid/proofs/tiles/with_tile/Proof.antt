@@ -8,12 +8,10 @@ use Rattle.grid.proofs.tiles.with_tile.Tie as tie
 use Rattle.grid.proofs.tiles.with_tile.Reads as reads
 use Rattle.grid.proofs.tiles.with_tile.Lts as lts
 
--- src/tiles.rt:99:9
 returns : tie.Need-returns
 unfolding hasAlpha
 returns c = sym (pick-false _ _ _ (ap not (eq-eqb _ _ (c .if1 .taken))))
 
--- src/tiles.rt:94:1
 returns-2 : tie.Need-returns-2
 unfolding hasAlpha
 returns-2 c = sym (pick-true _ _ _ (ap not (ne-eqb _ _ (c .if1 .left))))

@@ -5,17 +5,14 @@ use Rattle.image.proofs.format.along.Tie as tie
 use Rattle.image.proofs.format.along.Reads as reads
 use Rattle.image.proofs.format.along.Lts as lts
 
--- src/format.rt:176:17
 add-result : tie.Need-add-result
 add-result c = search needs
 
--- src/format.rt:176:9
 returns : tie.Need-returns
 unfolding sideOf
 returns c =
     simp (c .if1 .taken)
 
--- src/format.rt:171:1
 returns-2 : tie.Need-returns-2
 unfolding sideOf
 returns-2 c =

@@ -5,7 +5,6 @@ use Rattle.image.proofs.format.is_odd.Tie as tie
 use Rattle.image.proofs.format.is_odd.Reads as reads
 use Rattle.image.proofs.format.is_odd.Lts as lts
 
--- src/format.rt:255:1
 returns : tie.Need-returns
 unfolding odd
 returns c = search needs

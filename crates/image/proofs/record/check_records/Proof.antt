@@ -15,43 +15,33 @@ Inv-loop s at count next₀ left₀ next left = trayCount (framesAt count s at) 
 abbrev μ-loop : tie.MeasureT-loop
 μ-loop s at count next₀ left₀ next left = left
 
--- src/record.rt:246:5
 loop-holds : tie.Need-loop-holds Inv-loop μ-loop
 loop-holds c = counted-count _ _ _
 
--- src/record.rt:247:15
 read-record-requires : tie.Need-read-record-requires Inv-loop μ-loop
 read-record-requires c κs = search needs
 
--- src/record.rt:248:32
 enum-known-e : tie.Need-enum-known-e Inv-loop μ-loop
 enum-known-e c = search needs
 
--- src/record.rt:249:17
 returns : tie.Need-returns Inv-loop μ-loop
 returns c = sym (c .before .before .before .before .before .loop .inv ∙ counted-refused _ _ _ (frames-refused _ _ _ _ (c .before .before .before .before .loop-test .taken) (sym (c .before .before .before .read-record .ensures) ∙ ap frameOut (c .before .e .given .1))))
 
--- src/record.rt:251:29
 enum-known-f : tie.Need-enum-known-f Inv-loop μ-loop
 enum-known-f c = search needs
 
--- src/record.rt:255:9
 sub-left : tie.Need-sub-left Inv-loop μ-loop
 sub-left c = search needs
 
--- src/record.rt:246:5
 loop-less : tie.Need-loop-less Inv-loop μ-loop
 loop-less c = search needs
 
--- src/record.rt:246:5
 loop-again : tie.Need-loop-again Inv-loop μ-loop
 loop-again c = c .before .before .before .before .before .loop .inv ∙ counted-next _ _ _ _ _ (c .before .before .before .before .loop-test .taken) (sym (c .before .before .before .read-record .ensures) ∙ ap frameOut (c .before .f .given .1))
 
--- src/record.rt:258:9
 returns-2 : tie.Need-returns-2 Inv-loop μ-loop
 returns-2 c = sym (c .before .before .loop .inv ∙ counted-refused _ _ _ (frames-left _ _ _ (c .before .loop-test .left) (c .if1 .taken)))
 
--- src/record.rt:241:1
 returns-3 : tie.Need-returns-3 Inv-loop μ-loop
 returns-3 c = sym (c .before .before .loop .inv ∙ counted-done _ _ _ (frames-end _ _ _ (c .before .loop-test .left) (c .if1 .left)))
 

@@ -14,19 +14,15 @@ use Rattle.image.proofs.record.judge_head.Reads as reads
 use Rattle.image.proofs.record.judge_head.Lts as lts
 use Rattle.image.proofs.format.PixelFormat.new.Reads as new-reads
 
--- src/record.rt:63:11
 new-requires : tie.Need-new-requires
 new-requires c κs = search needs
 
--- src/record.rt:64:29
 enum-known-e : tie.Need-enum-known-e
 enum-known-e c = search needs
 
--- src/record.rt:65:26
 enum-known-format : tie.Need-enum-known-format
 enum-known-format c = search needs
 
--- src/record.rt:67:17
 returns : tie.Need-returns
 unfolding headOf andThen formOf refuse
 returns c =
@@ -36,7 +32,6 @@ returns c =
       eq-eqb _ _ (c .if1 .taken),
     )
 
--- src/record.rt:70:17
 returns-2 : tie.Need-returns-2
 unfolding headOf andThen formOf refuse
 returns-2 c =
@@ -47,11 +42,9 @@ returns-2 c =
       eq-eqb _ _ (c .if2 .taken),
     )
 
--- src/record.rt:72:16
 mul-if3 : tie.Need-mul-if3
 mul-if3 c = record { fits = lt-of-le-of-lt (mul-below 4294967295 4294967295 (c .before .before .before .before .before .before .args .width) (c .before .before .before .before .before .before .args .height) (omega arith) (omega arith)) (lit< tt) }
 
--- src/record.rt:73:17
 returns-3 : tie.Need-returns-3
 unfolding headOf andThen formOf refuse
 returns-3 c =
@@ -64,7 +57,6 @@ returns-3 c =
       lt-ltb _ _ (c .if3 .taken),
     )
 
--- src/record.rt:60:1
 returns-4 : tie.Need-returns-4
 unfolding headOf andThen formOf refuse
 returns-4 c =
@@ -73,7 +65,6 @@ returns-4 c =
       c .before .e .given .1,
     )
 
--- src/record.rt:60:1
 returns-5 : tie.Need-returns-5
 unfolding headOf andThen formOf refuse
 returns-5 c =

@@ -9,19 +9,15 @@ use Rattle.image.proofs.record.parse_record.Reads as reads
 use Rattle.image.proofs.record.parse_record.Lts as lts
 use Rattle.image.proofs.record.read_record.Reads as read-record-reads
 
--- src/record.rt:229:11
 read-record-requires : tie.Need-read-record-requires
 read-record-requires c κs = search needs
 
--- src/record.rt:230:28
 enum-known-e : tie.Need-enum-known-e
 enum-known-e c = search needs
 
--- src/record.rt:231:25
 enum-known-f : tie.Need-enum-known-f
 enum-known-f c = search needs
 
--- src/record.rt:234:17
 returns : tie.Need-returns
 unfolding recordOf andThen refuse
 returns c =
@@ -32,7 +28,6 @@ returns c =
       lt-ltb _ _ (c .if1 .taken),
     )
 
--- src/record.rt:226:1
 returns-2 : tie.Need-returns-2
 unfolding recordOf andThen refuse
 returns-2 c =
@@ -41,7 +36,6 @@ returns-2 c =
       c .before .e .given .1,
     )
 
--- src/record.rt:226:1
 returns-3 : tie.Need-returns-3
 unfolding recordOf andThen refuse
 returns-3 c =

@@ -9,19 +9,15 @@ use Rattle.image.proofs.record.read_head.Lts as lts
 use Rattle.image.proofs.record.judge_head.Reads as judge-head-reads
 use Rattle.numbers.proofs.read_number.Reads as read-number-reads
 
--- src/record.rt:94:9
 read-number-requires : tie.Need-read-number-requires
 read-number-requires c κs = search needs
 
--- src/record.rt:92:16
 enum-known-width : tie.Need-enum-known-width
 enum-known-width c = search needs
 
--- laws: src/lib.rt:7:33
 enum-told : tie.Need-enum-told
 enum-told c = search needs
 
--- src/record.rt:96:9
 returns : tie.Need-returns
 unfolding headAt onNumber
 returns c =
@@ -30,19 +26,15 @@ returns c =
       c .enum-told .given .1,
     )
 
--- src/record.rt:101:9
 read-number-requires-2 : tie.Need-read-number-requires-2
 read-number-requires-2 c κs = search needs
 
--- src/record.rt:99:16
 enum-known-height : tie.Need-enum-known-height
 enum-known-height c = search needs
 
--- laws: src/lib.rt:7:33
 enum-told-2 : tie.Need-enum-told-2
 enum-told-2 c = search needs
 
--- src/record.rt:103:9
 returns-2 : tie.Need-returns-2
 unfolding headAt onNumber
 returns-2 c =
@@ -53,19 +45,15 @@ returns-2 c =
       c .enum-told2 .given .1,
     )
 
--- src/record.rt:108:9
 read-number-requires-3 : tie.Need-read-number-requires-3
 read-number-requires-3 c κs = search needs
 
--- src/record.rt:106:16
 enum-known-chroma : tie.Need-enum-known-chroma
 enum-known-chroma c = search needs
 
--- laws: src/lib.rt:7:33
 enum-told-3 : tie.Need-enum-told-3
 enum-told-3 c = search needs
 
--- src/record.rt:110:9
 returns-3 : tie.Need-returns-3
 unfolding headAt onNumber
 returns-3 c =
@@ -78,19 +66,15 @@ returns-3 c =
       c .enum-told3 .given .1,
     )
 
--- src/record.rt:115:9
 read-number-requires-4 : tie.Need-read-number-requires-4
 read-number-requires-4 c κs = search needs
 
--- src/record.rt:113:16
 enum-known-depth : tie.Need-enum-known-depth
 enum-known-depth c = search needs
 
--- laws: src/lib.rt:7:33
 enum-told-4 : tie.Need-enum-told-4
 enum-told-4 c = search needs
 
--- src/record.rt:117:9
 returns-4 : tie.Need-returns-4
 unfolding headAt onNumber
 returns-4 c =
@@ -105,19 +89,15 @@ returns-4 c =
       c .enum-told4 .given .1,
     )
 
--- src/record.rt:122:9
 read-number-requires-5 : tie.Need-read-number-requires-5
 read-number-requires-5 c κs = search needs
 
--- src/record.rt:120:16
 enum-known-alpha : tie.Need-enum-known-alpha
 enum-known-alpha c = search needs
 
--- laws: src/lib.rt:7:33
 enum-told-5 : tie.Need-enum-told-5
 enum-told-5 c = search needs
 
--- src/record.rt:124:9
 returns-5 : tie.Need-returns-5
 unfolding headAt onNumber
 returns-5 c =
@@ -134,11 +114,9 @@ returns-5 c =
       c .enum-told5 .given .1,
     )
 
--- src/record.rt:126:5
 judge-head-requires : tie.Need-judge-head-requires
 judge-head-requires c κs = search needs
 
--- src/record.rt:88:1
 returns-6 : tie.Need-returns-6
 unfolding headAt onNumber
 returns-6 c =

@@ -14,28 +14,22 @@ use Rattle.image.proofs.format.PixelFormat.has.Reads as has-reads
 use Rattle.image.proofs.format.PixelFormat.rows.Reads as rows-reads
 use Rattle.image.proofs.record.read_plane.Reads as read-plane-reads
 
--- src/record.rt:172:8
 has-requires : tie.Need-has-requires
 has-requires c κs = search needs
 
--- src/record.rt:173:13
 rows-requires : tie.Need-rows-requires
 rows-requires c κs = search needs
 
--- src/record.rt:174:40
 row-size-requires : tie.Need-row-size-requires
 row-size-requires c κs = search needs
 
--- src/record.rt:174:40
 cast-read-plane : tie.Need-cast-read-plane
 cast-read-plane c = search needs
 
--- src/record.rt:174:9
 read-plane-requires : tie.Need-read-plane-requires
 unfolding rowsOf
 read-plane-requires c κs = let m = c .before .before .before .before .before .before .args .form in let ok = c .before .before .before .before .before .before .pre .0 in let r = rows-le m ok (c .before .before .before .before .before .before .args .part) in let h = height-le m ok in (rw (c .before .rows .ensures) (rows-some m ok (c .before .before .before .before .before .before .args .part)), rw (c .before .rows .ensures) (omega (arith, r, h)), rw (c .row-size .ensures) (omega (arith, row-le m ok (c .before .before .before .before .before .before .args .part))))
 
--- src/record.rt:174:9
 returns : tie.Need-returns
 unfolding partAt rowsOf pick
 returns c =
@@ -47,7 +41,6 @@ returns c =
       sym (c .read-plane .ensures),
     )
 
--- src/record.rt:167:1
 returns-2 : tie.Need-returns-2
 unfolding partAt rowsOf pick
 returns-2 c =

@@ -25,19 +25,15 @@ ends c = read-bounds _ _ _ _ (sym (c .before .before .read-number2 .ensures) ∙
 product : (c : tie.Else1) → c .before .before .before .before .before .before .stride .given .0 .0 * (c .before .before .before .before .before .before .before .before .before .before .args .rows - 1) ≤ 4294967295 * 4294967294
 product c = mul-below 4294967295 4294967294 (c .before .before .before .before .before .before .stride .given .0 .0) (c .before .before .before .before .before .before .before .before .before .before .args .rows - 1) (omega (arith, stride-small (c .before .before .before .before .before .before))) (omega (arith, c .before .before .before .before .before .before .before .before .before .before .pre))
 
--- src/record.rt:137:9
 read-number-requires : tie.Need-read-number-requires
 read-number-requires c κs = search needs
 
--- src/record.rt:135:16
 enum-known-stride : tie.Need-enum-known-stride
 enum-known-stride c = search needs
 
--- laws: src/lib.rt:7:33
 enum-told : tie.Need-enum-told
 enum-told c = search needs
 
--- src/record.rt:139:9
 returns : tie.Need-returns
 unfolding planeAt onNumber refuse
 returns c =
@@ -46,19 +42,15 @@ returns c =
       c .enum-told .given .1,
     )
 
--- src/record.rt:144:9
 read-number-requires-2 : tie.Need-read-number-requires-2
 read-number-requires-2 c κs = search needs
 
--- src/record.rt:142:16
 enum-known-len : tie.Need-enum-known-len
 enum-known-len c = search needs
 
--- laws: src/lib.rt:7:33
 enum-told-2 : tie.Need-enum-told-2
 enum-told-2 c = search needs
 
--- src/record.rt:146:9
 returns-2 : tie.Need-returns-2
 unfolding planeAt onNumber refuse
 returns-2 c =
@@ -69,15 +61,12 @@ returns-2 c =
       c .enum-told2 .given .1,
     )
 
--- src/record.rt:148:18
 cast-stride : tie.Need-cast-stride
 cast-stride c = search needs
 
--- src/record.rt:149:15
 cast-len : tie.Need-cast-len
 cast-len c = search needs
 
--- src/record.rt:151:9
 returns-3 : tie.Need-returns-3
 unfolding planeAt onNumber refuse
 returns-3 c =
@@ -90,19 +79,15 @@ returns-3 c =
       lt-ltb _ _ (c .if1 .taken),
     )
 
--- src/record.rt:153:24
 sub-if2 : tie.Need-sub-if2
 sub-if2 c = search needs
 
--- src/record.rt:153:14
 mul-if2 : tie.Need-mul-if2
 mul-if2 c = omega (arith, product c)
 
--- src/record.rt:153:14
 add-if2 : tie.Need-add-if2
 add-if2 c = let h : c .before .before .before .before .before .before .stride .given .0 .0 * (c .before .before .before .before .before .before .before .before .before .before .args .rows - 1) + c .before .before .before .before .before .before .before .before .before .before .args .row < 2 ^ 64 = omega (arith, product c, c .before .before .before .before .before .before .before .before .before .before .pre) in record { fits = h }
 
--- src/record.rt:154:9
 returns-4 : tie.Need-returns-4
 unfolding planeAt onNumber refuse
 returns-4 c =
@@ -117,11 +102,9 @@ returns-4 c =
       lt-ltb _ _ (c .if2 .taken),
     )
 
--- src/record.rt:156:8
 sub-if3 : tie.Need-sub-if3
 sub-if3 c = omega (arith, ends (c .before .before .before))
 
--- src/record.rt:157:9
 returns-5 : tie.Need-returns-5
 unfolding planeAt onNumber refuse
 returns-5 c =
@@ -138,7 +121,6 @@ returns-5 c =
       lt-ltb _ _ (c .if3 .taken),
     )
 
--- src/record.rt:130:1
 returns-6 : tie.Need-returns-6
 unfolding planeAt onNumber refuse
 returns-6 c =

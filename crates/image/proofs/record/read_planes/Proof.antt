@@ -30,91 +30,70 @@ alpha-in : (c : tie.After-alpha) → c .alpha .given .0 .0 .start + c .alpha .gi
 unfolding past
 alpha-in c = part-past _ _ _ _ _ (sym (c .before .before .read-part4 .ensures) ∙ ap planeOut (c .alpha .given .1)) (cr-in (c .before .before .before .before .before))
 
--- src/record.rt:189:11
 read-part-requires : tie.Need-read-part-requires
 read-part-requires c κs = c .before .pre
 
--- src/record.rt:190:28
 enum-known-e : tie.Need-enum-known-e
 enum-known-e c = search needs
 
--- src/record.rt:191:25
 enum-known-luma : tie.Need-enum-known-luma
 enum-known-luma c = search needs
 
--- src/record.rt:191:53
 add-read-part : tie.Need-add-read-part
 add-read-part c = omega (arith, luma-in (c .before .before))
 
--- src/record.rt:191:40
 read-part-requires-2 : tie.Need-read-part-requires-2
 read-part-requires-2 c κs = (c .before .before .before .before .before .before .pre .0, luma-in (c .before .before))
 
--- src/record.rt:192:32
 enum-known-e-2 : tie.Need-enum-known-e-2
 enum-known-e-2 c = search needs
 
--- src/record.rt:193:29
 enum-known-cb : tie.Need-enum-known-cb
 enum-known-cb c = search needs
 
--- src/record.rt:193:55
 add-read-part-2 : tie.Need-add-read-part-2
 add-read-part-2 c = omega (arith, cb-in (c .before .before))
 
--- src/record.rt:193:42
 read-part-requires-3 : tie.Need-read-part-requires-3
 read-part-requires-3 c κs = (c .before .before .before .before .before .before .before .before .before .before .before .pre .0, cb-in (c .before .before))
 
--- src/record.rt:194:36
 enum-known-e-3 : tie.Need-enum-known-e-3
 enum-known-e-3 c = search needs
 
--- src/record.rt:195:33
 enum-known-cr : tie.Need-enum-known-cr
 enum-known-cr c = search needs
 
--- src/record.rt:195:59
 add-read-part-3 : tie.Need-add-read-part-3
 add-read-part-3 c = omega (arith, cr-in (c .before .before), c .before .before .before .before .before .before .before .before .before .before .before .before .before .before .before .before .good)
 
--- src/record.rt:195:46
 read-part-requires-4 : tie.Need-read-part-requires-4
 read-part-requires-4 c κs = (c .before .before .before .before .before .before .before .before .before .before .before .before .before .before .before .before .pre .0, cr-in (c .before .before))
 
--- src/record.rt:196:40
 enum-known-e-4 : tie.Need-enum-known-e-4
 enum-known-e-4 c = search needs
 
--- src/record.rt:197:37
 enum-known-alpha : tie.Need-enum-known-alpha
 enum-known-alpha c = search needs
 
--- src/record.rt:203:30
 add-t27 : tie.Need-add-t27
 add-t27 c = omega (arith, alpha-in (c .before .before), c .before .before .before .before .before .before .before .before .before .before .before .before .before .before .before .before .before .before .before .before .before .good)
 
--- src/record.rt:185:1
 returns : tie.Need-returns
 unfolding planesAt past
 returns c = sym (then-refused _ (sym (c .before .before .before .read-part .ensures) ∙ ap planeOut (c .before .e .given .1)))
 
--- src/record.rt:185:1
 returns-2 : tie.Need-returns-2
 unfolding planesAt past
 returns-2 c = sym (then-done _ (sym (c .before .before .before .before .before .before .before .before .read-part .ensures) ∙ ap planeOut (c .before .before .before .before .before .before .luma .given .1)) ∙ then-refused _ (sym (c .before .before .before .read-part2 .ensures) ∙ ap planeOut (c .before .e2 .given .1)))
 
--- src/record.rt:185:1
 returns-3 : tie.Need-returns-3
 unfolding planesAt past
 returns-3 c = sym (then-done _ (sym (c .before .before .before .before .before .before .before .before .before .before .before .before .before .read-part .ensures) ∙ ap planeOut (c .before .before .before .before .before .before .before .before .before .before .before .luma .given .1)) ∙ then-done _ (sym (c .before .before .before .before .before .before .before .before .read-part2 .ensures) ∙ ap planeOut (c .before .before .before .before .before .before .cb .given .1)) ∙ then-refused _ (sym (c .before .before .before .read-part3 .ensures) ∙ ap planeOut (c .before .e3 .given .1)))
 
--- src/record.rt:185:1
 returns-4 : tie.Need-returns-4
 unfolding planesAt past
 returns-4 c = sym (then-done _ (sym (c .before .before .before .before .before .before .before .before .before .before .before .before .before .before .before .before .before .before .read-part .ensures) ∙ ap planeOut (c .before .before .before .before .before .before .before .before .before .before .before .before .before .before .before .before .luma .given .1)) ∙ then-done _ (sym (c .before .before .before .before .before .before .before .before .before .before .before .before .before .read-part2 .ensures) ∙ ap planeOut (c .before .before .before .before .before .before .before .before .before .before .before .cb .given .1)) ∙ then-done _ (sym (c .before .before .before .before .before .before .before .before .read-part3 .ensures) ∙ ap planeOut (c .before .before .before .before .before .before .cr .given .1)) ∙ then-refused _ (sym (c .before .before .before .read-part4 .ensures) ∙ ap planeOut (c .before .e4 .given .1)))
 
--- src/record.rt:185:1
 returns-5 : tie.Need-returns-5
 unfolding planesAt past
 returns-5 c = sym (then-done _ (sym (c .before .before .before .before .before .before .before .before .before .before .before .before .before .before .before .before .before .before .before .read-part .ensures) ∙ ap planeOut (c .before .before .before .before .before .before .before .before .before .before .before .before .before .before .before .before .before .luma .given .1)) ∙ then-done _ (sym (c .before .before .before .before .before .before .before .before .before .before .before .before .before .before .read-part2 .ensures) ∙ ap planeOut (c .before .before .before .before .before .before .before .before .before .before .before .before .cb .given .1)) ∙ then-done _ (sym (c .before .before .before .before .before .before .before .before .before .read-part3 .ensures) ∙ ap planeOut (c .before .before .before .before .before .before .before .cr .given .1)) ∙ then-done _ (sym (c .before .before .before .before .read-part4 .ensures) ∙ ap planeOut (c .before .before .alpha .given .1)))

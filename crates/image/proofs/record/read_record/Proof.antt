@@ -10,23 +10,18 @@ use Rattle.image.proofs.record.read_record.Lts as lts
 use Rattle.image.proofs.record.read_head.Reads as read-head-reads
 use Rattle.image.proofs.record.read_planes.Reads as read-planes-reads
 
--- src/record.rt:215:11
 read-head-requires : tie.Need-read-head-requires
 read-head-requires c κs = search needs
 
--- src/record.rt:216:27
 enum-known-e : tie.Need-enum-known-e
 enum-known-e c = search needs
 
--- src/record.rt:217:24
 enum-known-h : tie.Need-enum-known-h
 enum-known-h c = search needs
 
--- src/record.rt:220:13
 read-planes-requires : tie.Need-read-planes-requires
 read-planes-requires c κs = head-sound _ _ _ (sym (c .before .before .before .before .read-head .ensures) ∙ ap headOut (c .before .before .h .given .1))
 
--- src/record.rt:212:1
 returns : tie.Need-returns
 unfolding recordAt andThen
 returns c =
@@ -35,7 +30,6 @@ returns c =
       c .before .e .given .1,
     )
 
--- src/record.rt:212:1
 returns-2 : tie.Need-returns-2
 unfolding recordAt andThen
 returns-2 c =

@@ -64,93 +64,71 @@ module _ (c : tie.In-loop Inv-loop μ-loop) where
       let l : length (item k) ≡ b = length-sampleBytes b _ (few .0) (few .1) in
       omega (arith, writing-fits (item k) _ (writing-as (c .before .loop .inv .2) step))
 
--- src/samples.rt:107:16
 sub-last : tie.Need-sub-last Inv-loop μ-loop
 sub-last c = search needs
 
--- src/samples.rt:116:5
 loop-holds : tie.Need-loop-holds Inv-loop μ-loop
 unfolding lineBytes samplesOf
 loop-holds c = let p = c .pre in (omega arith, omega arith, writing-start _ _ _ (omega (arith, length-lineBytes (now (c .args .plane)) (c .args .bytes) (c .args .line) (c .args .n) (p .0 .some) (p .0 .few))))
 
--- src/samples.rt:117:25
 mul-u : tie.Need-mul-u Inv-loop μ-loop
 mul-u c = omega (arith, walked c)
 
--- src/samples.rt:117:18
 add-u : tie.Need-add-u Inv-loop μ-loop
 add-u c = omega (arith, walked c, c .before .before .pre .0 .from)
 
--- src/samples.rt:117:37
 mul-u-2 : tie.Need-mul-u-2 Inv-loop μ-loop
 mul-u-2 c = omega (arith, walked c)
 
--- src/samples.rt:117:18
 sub-u : tie.Need-sub-u Inv-loop μ-loop
 sub-u c = omega (arith, walked c)
 
--- src/samples.rt:117:50
 cast-u : tie.Need-cast-u Inv-loop μ-loop
 cast-u c = omega (arith, c .before .before .pre .0 .half)
 
--- src/samples.rt:117:17
 shr-u : tie.Need-shr-u Inv-loop μ-loop
 shr-u c = omega (arith, c .before .before .pre .0 .half)
 
--- src/samples.rt:118:26
 mul-j : tie.Need-mul-j Inv-loop μ-loop
 mul-j c = omega (arith, placed c)
 
--- src/samples.rt:118:17
 add-j : tie.Need-add-j Inv-loop μ-loop
 add-j c = omega (arith, placed c)
 
--- src/samples.rt:119:18
 shared-slice-read-out : tie.Need-shared-slice-read-out Inv-loop μ-loop
 shared-slice-read-out c = omega (arith, placed (c .before), few (c .before))
 
--- src/samples.rt:119:9
 slice-write-out : tie.Need-slice-write-out Inv-loop μ-loop
 slice-write-out c = omega (arith, room (c .before), few (c .before))
 
--- src/samples.rt:120:31
 add-out : tie.Need-add-out Inv-loop μ-loop
 add-out c = omega (arith, placed (c .before), few (c .before))
 
--- src/samples.rt:120:25
 shared-slice-read-out-2 : tie.Need-shared-slice-read-out-2 Inv-loop μ-loop
 shared-slice-read-out-2 c = omega (arith, placed (c .before .before), few (c .before .before))
 
--- src/samples.rt:120:13
 add-out-2 : tie.Need-add-out-2 Inv-loop μ-loop
 add-out-2 c = omega (arith, room (c .before .before), few (c .before .before))
 
--- src/samples.rt:120:9
 slice-write-out-2 : tie.Need-slice-write-out-2 Inv-loop μ-loop
 slice-write-out-2 c = simp length-set (omega (arith, room (c .before .before), few (c .before .before)))
 
--- src/samples.rt:121:9
 add-i : tie.Need-add-i Inv-loop μ-loop
 add-i c = omega (arith, room (c .before .before))
 
--- src/samples.rt:122:9
 add-k : tie.Need-add-k Inv-loop μ-loop
 add-k c = omega arith
 
--- src/samples.rt:116:5
 loop-less : tie.Need-loop-less Inv-loop μ-loop
 loop-less c = search needs
 
--- src/samples.rt:116:5
 loop-again : tie.Need-loop-again Inv-loop μ-loop
 unfolding placeOn Bytes
 loop-again c = let r = c .before .before .before .loop in let d = (c .before .before) in (omega arith, omega arith, writing-run (item d (k d)) (writing-as (r .inv .2) (step d)) (ap (λ (n : ℕ). r .i + n) (sym (length-sampleBytes (b d) _ (few d .0) (few d .1)))) (sym (sample-stored (r .out) (P d) (b d) (r .i) (placeOn (L d) (k d)) (λ i. omega (arith, c .shared-slice-known2 .given i)) (few d .0) (few d .1))))
 
--- src/samples.rt:103:1
 same-length : tie.Need-same-length Inv-loop μ-loop
 same-length c = c .before .loop .inv .2 .long
 
--- src/samples.rt:103:1
 returns : tie.Need-returns Inv-loop μ-loop
 returns c = let r = c .before .loop in let e : r .k ≡ c .before .before .args .n = omega arith in (r .inv .1 ∙ ap (λ (x : ℕ). c .before .before .args .at + x * c .before .before .args .bytes) e, writing-done (writing-as (r .inv .2) (span-end _ _ _ (c .loop-test .left))) .1)
 

@@ -24,43 +24,33 @@ module _ (c : tie.In-loop Inv-loop μ-loop) where
   next : let r = c .before .loop in drop (r .i) (now (c .before .before .args .row)) ≡ getD (now (c .before .before .args .row)) (r .i) 0 ∷ drop (r .i + 1) (now (c .before .before .args .row))
   next = let r = c .before .loop in drop-cons (now (c .before .before .args .row)) (r .i) 0 (c .loop-test .taken) ∙ ap (λ (k : ℕ). getD (now (c .before .before .args .row)) (r .i) 0 ∷ drop k (now (c .before .before .args .row))) (sym (add-one (r .i)))
 
--- src/samples.rt:83:5
 loop-holds : tie.Need-loop-holds Inv-loop μ-loop
 loop-holds c = (omega arith, writing-to (writing-start _ _ _ (c .pre)) (omega arith))
 
--- src/samples.rt:84:23
 shared-slice-read-out : tie.Need-shared-slice-read-out Inv-loop μ-loop
 shared-slice-read-out c = search needs
 
--- src/samples.rt:84:13
 add-out : tie.Need-add-out Inv-loop μ-loop
 add-out c = let r = c .before .before .loop in let l = ap length (next (c .before)) in let w = r .inv .1 in omega (arith, w .room)
 
--- src/samples.rt:84:9
 slice-write-out : tie.Need-slice-write-out Inv-loop μ-loop
 slice-write-out c = let r = c .before .before .loop in let l = ap length (next (c .before)) in let w = r .inv .1 in omega (arith, w .room)
 
--- src/samples.rt:85:9
 add-i : tie.Need-add-i Inv-loop μ-loop
 add-i c = search needs
 
--- src/samples.rt:83:5
 loop-less : tie.Need-loop-less Inv-loop μ-loop
 loop-less c = search needs
 
--- src/samples.rt:83:5
 loop-again : tie.Need-loop-again Inv-loop μ-loop
 loop-again c = let r = c .before .before .loop in (omega arith, writing-to (writing-put (writing-as (r .inv .1) (next (c .before)))) (omega arith))
 
--- src/samples.rt:87:5
 add-result : tie.Need-add-result Inv-loop μ-loop
 add-result c = search needs
 
--- src/samples.rt:77:1
 same-length : tie.Need-same-length Inv-loop μ-loop
 same-length c = search needs
 
--- src/samples.rt:77:1
 returns : tie.Need-returns Inv-loop μ-loop
 returns c = let r = c .before .loop in let l : length (now (c .before .before .args .row)) ≤ r .i = omega arith in (refl, writing-done (writing-as (r .inv .1) (drop-of-length-le (now (c .before .before .args .row)) l)) .1)
 

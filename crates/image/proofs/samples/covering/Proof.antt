@@ -4,12 +4,10 @@ use Rattle.image.proofs.samples.covering.Tie as tie
 use Rattle.image.proofs.samples.covering.Reads as reads
 use Rattle.image.proofs.samples.covering.Lts as lts
 
--- src/samples.rt:50:9
 returns : tie.Need-returns
 unfolding cover
 returns c = simp (c .if1 .taken)
 
--- src/samples.rt:46:1
 returns-2 : tie.Need-returns-2
 unfolding cover
 returns-2 c = simp (c .if1 .left)

@@ -21,64 +21,49 @@ Inv-loop out₀ at low high n k₀ out k = (k ≤ n) × Writing out₀ at (evenB
 abbrev μ-loop : tie.MeasureT-loop
 μ-loop out₀ at low high n k₀ out k = n - k
 
--- src/samples.rt:122:5
 loop-holds : tie.Need-loop-holds Inv-loop μ-loop
 unfolding evenBytes
 loop-holds c = (omega arith, writing-to (writing-start _ _ _ (omega (arith, length-even (c .args .low ∷ c .args .high ∷ []) (c .args .n), c .pre))) (omega arith))
 
--- src/samples.rt:123:18
 mul-out : tie.Need-mul-out Inv-loop μ-loop
 mul-out c = let w = c .before .loop .inv .1 in omega (arith, w .long, c .before .before .pre)
 
--- src/samples.rt:123:13
 add-out : tie.Need-add-out Inv-loop μ-loop
 add-out c = let w = c .before .loop .inv .1 in omega (arith, w .long, c .before .before .pre)
 
--- src/samples.rt:123:9
 slice-write-out : tie.Need-slice-write-out Inv-loop μ-loop
 slice-write-out c = let w = c .before .loop .inv .1 in omega (arith, w .long, c .before .before .pre)
 
--- src/samples.rt:124:18
 mul-out-2 : tie.Need-mul-out-2 Inv-loop μ-loop
 mul-out-2 c = let w = c .before .loop .inv .1 in omega (arith, w .long, c .before .before .pre)
 
--- src/samples.rt:124:13
 add-out-2 : tie.Need-add-out-2 Inv-loop μ-loop
 add-out-2 c = let w = c .before .loop .inv .1 in omega (arith, w .long, c .before .before .pre)
 
--- src/samples.rt:124:13
 add-out-3 : tie.Need-add-out-3 Inv-loop μ-loop
 add-out-3 c = let w = c .before .loop .inv .1 in omega (arith, w .long, c .before .before .pre)
 
--- src/samples.rt:124:9
 slice-write-out-2 : tie.Need-slice-write-out-2 Inv-loop μ-loop
 slice-write-out-2 c = let w = c .before .loop .inv .1 in simp length-set (omega (arith, w .long, c .before .before .pre))
 
--- src/samples.rt:125:9
 add-k : tie.Need-add-k Inv-loop μ-loop
 add-k c = search needs
 
--- src/samples.rt:122:5
 loop-less : tie.Need-loop-less Inv-loop μ-loop
 loop-less c = search needs
 
--- src/samples.rt:122:5
 loop-again : tie.Need-loop-again Inv-loop μ-loop
 loop-again c = let r = c .before .loop in (omega arith, writing-to (writing-put (writing-put (writing-as (r .inv .1) (span-step _ (r .k) (c .before .before .args .n) (c .loop-test .taken))))) (omega arith))
 
--- src/samples.rt:127:10
 mul-result : tie.Need-mul-result Inv-loop μ-loop
 mul-result c = search needs
 
--- src/samples.rt:127:5
 add-result : tie.Need-add-result Inv-loop μ-loop
 add-result c = search needs
 
--- src/samples.rt:117:1
 same-length : tie.Need-same-length Inv-loop μ-loop
 same-length c = search needs
 
--- src/samples.rt:117:1
 returns : tie.Need-returns Inv-loop μ-loop
 returns c = let r = c .before .loop in (refl, writing-done (writing-as (r .inv .1) (span-end _ (r .k) (c .before .before .args .n) (c .loop-test .left))) .1)
 

@@ -12,39 +12,30 @@ use Rattle.image.proofs.samples.fill_row.Lts as lts
 use Rattle.image.proofs.samples.fill_bytes.Reads as fill-bytes-reads
 use Rattle.image.proofs.samples.fill_pairs.Reads as fill-pairs-reads
 
--- src/samples.rt:136:36
 cast-fill-bytes : tie.Need-cast-fill-bytes
 cast-fill-bytes c = search needs
 
--- src/samples.rt:136:9
 fill-bytes-requires : tie.Need-fill-bytes-requires
 fill-bytes-requires c κs = omega (arith, c .before .before .before .pre .2, ap (λ (k : ℕ). c .before .before .before .args .n * k) (c .before .if1 .taken))
 
--- src/samples.rt:136:9
 same-length : tie.Need-same-length
 same-length c = search needs
 
--- src/samples.rt:136:9
 returns : tie.Need-returns
 returns c = let e : c .before .before .before .before .before .before .args .n * 1 ≡ c .before .before .before .before .before .before .args .n = omega arith in let q = ap (λ (k : ℕ). c .before .before .before .before .before .before .args .n * k) (c .before .before .before .before .if1 .taken) ∙ e in (c .before .before .fill-bytes .ensures .0 ∙ ap (λ (k : ℕ). c .before .before .before .before .before .before .args .at + k) (sym q), c .before .before .fill-bytes .ensures .1 ∙ ap (puts (now (c .before .before .before .before .before .before .args .out)) (c .before .before .before .before .before .before .args .at)) (sym (even-one (c .before .before .before .before .before .before .args .bytes) (c .before .before .before .before .before .before .args .v) (c .before .before .before .before .before .before .args .n) (c .before .before .before .before .if1 .taken))))
 
--- src/samples.rt:138:25
 cast-fill-pairs : tie.Need-cast-fill-pairs
 cast-fill-pairs c = search needs
 
--- src/samples.rt:138:42
 cast-fill-pairs-2 : tie.Need-cast-fill-pairs-2
 cast-fill-pairs-2 c = search needs
 
--- src/samples.rt:138:5
 fill-pairs-requires : tie.Need-fill-pairs-requires
 fill-pairs-requires c κs = let two : c .before .before .before .args .bytes ≡ 2 = omega (arith, c .before .before .before .pre .0, c .before .before .before .pre .1, c .before .if1 .left) in omega (arith, c .before .before .before .pre .2, ap (λ (k : ℕ). c .before .before .before .args .n * k) two)
 
--- src/samples.rt:131:1
 same-length-2 : tie.Need-same-length-2
 same-length-2 c = search needs
 
--- src/samples.rt:131:1
 returns-2 : tie.Need-returns-2
 returns-2 c = let two : c .before .before .before .before .before .before .args .bytes ≡ 2 = omega (arith, c .before .before .before .before .before .before .pre .0, c .before .before .before .before .before .before .pre .1, c .before .before .before .before .if1 .left) in let q : c .before .before .before .before .before .before .args .n * c .before .before .before .before .before .before .args .bytes ≡ 2 * c .before .before .before .before .before .before .args .n = ap (λ (k : ℕ). c .before .before .before .before .before .before .args .n * k) two ∙ omega arith in (c .before .before .fill-pairs .ensures .0 ∙ ap (λ (k : ℕ). c .before .before .before .before .before .before .args .at + k) (sym q), c .before .before .fill-pairs .ensures .1 ∙ ap (puts (now (c .before .before .before .before .before .before .args .out)) (c .before .before .before .before .before .before .args .at)) (sym (even-two (c .before .before .before .before .before .before .args .bytes) (c .before .before .before .before .before .before .args .v) (c .before .before .before .before .before .before .args .n) (c .before .before .before .before .if1 .left) (omega arith))))
 

@@ -10,23 +10,18 @@ use Rattle.image.proofs.samples.plane_data.Tie as tie
 use Rattle.image.proofs.samples.plane_data.Reads as reads
 use Rattle.image.proofs.samples.plane_data.Lts as lts
 
--- src/samples.rt:18:13
 add-e : tie.Need-add-e
 add-e c = search needs
 
--- src/samples.rt:19:5
 sub-result : tie.Need-sub-result
 sub-result c = search needs
 
--- src/samples.rt:19:5
 part-result-start : tie.Need-part-result-start
 part-result-start c = search needs
 
--- src/samples.rt:19:5
 part-result-end : tie.Need-part-result-end
 part-result-end c = search needs
 
--- src/samples.rt:13:1
 returns : tie.Need-returns
 unfolding dataOf
 returns c = let p = c .before .before .args .p in let e : p .start + p .len - p .start ≡ p .len = omega arith in ap (λ (n : ℕ). take n (drop (p .start) (now (c .before .before .args .s)))) e

@@ -15,35 +15,27 @@ use Rattle.image.proofs.format.PixelFormat.middle.Reads as middle-reads
 use Rattle.image.proofs.samples.covering.Reads as covering-reads
 use Rattle.image.proofs.samples.sample.Reads as sample-reads
 
--- src/samples.rt:60:8
 has-requires : tie.Need-has-requires
 has-requires c κs = search needs
 
--- src/samples.rt:61:27
 half-width-requires : tie.Need-half-width-requires
 half-width-requires c κs = search needs
 
--- src/samples.rt:61:13
 covering-requires : tie.Need-covering-requires
 covering-requires c κs = search needs
 
--- src/samples.rt:62:27
 half-height-requires : tie.Need-half-height-requires
 half-height-requires c κs = search needs
 
--- src/samples.rt:62:13
 covering-requires-2 : tie.Need-covering-requires-2
 covering-requires-2 c κs = search needs
 
--- src/samples.rt:63:30
 bytes-per-sample-requires : tie.Need-bytes-per-sample-requires
 bytes-per-sample-requires c κs = search needs
 
--- src/samples.rt:63:9
 sample-requires : tie.Need-sample-requires
 sample-requires c κs = (rw (c .bytes-per-sample .ensures) (bytes-few (c .before .before .before .before .before .before .before .before .args .format) .0), rw (c .bytes-per-sample .ensures) (bytes-few (c .before .before .before .before .before .before .before .before .args .format) .1), simp (c .before .before .before .covering .ensures, c .before .before .before .before .half-width .ensures, c .before .covering2 .ensures, c .before .before .half-height .ensures, c .bytes-per-sample .ensures) (c .before .before .before .before .before .before .before .before .pre .inside (sym (c .before .before .before .before .before .before .has .ensures) ∙ c .before .before .before .before .before .if1 .taken)))
 
--- src/samples.rt:63:9
 returns : tie.Need-returns
 unfolding promotedIn pick
 returns c =
@@ -58,11 +50,9 @@ returns c =
       sym (c .sample .ensures),
     )
 
--- src/samples.rt:65:5
 middle-requires : tie.Need-middle-requires
 middle-requires c κs = search needs
 
--- src/samples.rt:56:1
 returns-2 : tie.Need-returns-2
 unfolding promotedIn pick
 returns-2 c =

@@ -9,27 +9,21 @@ use Rattle.image.proofs.samples.row.Tie as tie
 use Rattle.image.proofs.samples.row.Reads as reads
 use Rattle.image.proofs.samples.row.Lts as lts
 
--- src/samples.rt:39:13
 mul-a : tie.Need-mul-a
 mul-a c = search needs
 
--- src/samples.rt:40:13
 add-e : tie.Need-add-e
 add-e c = search needs
 
--- src/samples.rt:41:5
 sub-result : tie.Need-sub-result
 sub-result c = search needs
 
--- src/samples.rt:41:5
 part-result-start : tie.Need-part-result-start
 part-result-start c = search needs
 
--- src/samples.rt:41:5
 part-result-end : tie.Need-part-result-end
 part-result-end c = search needs
 
--- src/samples.rt:35:1
 returns : tie.Need-returns
 returns c = let a = c .before .args in let e : a .y * a .stride + a .n - a .y * a .stride ≡ a .n = omega arith in ap (λ (n : ℕ). take n (drop (a .y * a .stride) (now (a .plane)))) e
 

@@ -9,60 +9,46 @@ use Rattle.image.proofs.samples.sample.Tie as tie
 use Rattle.image.proofs.samples.sample.Reads as reads
 use Rattle.image.proofs.samples.sample.Lts as lts
 
--- src/samples.rt:27:13
 mul-i : tie.Need-mul-i
 mul-i c = search needs
 
--- src/samples.rt:27:26
 mul-i-2 : tie.Need-mul-i-2
 mul-i-2 c = search needs
 
--- src/samples.rt:27:13
 add-i : tie.Need-add-i
 add-i c = search needs
 
--- src/samples.rt:29:16
 shared-slice-read-result : tie.Need-shared-slice-read-result
 shared-slice-read-result c = search needs
 
--- src/samples.rt:29:16
 cast-result : tie.Need-cast-result
 cast-result c = omega (arith, c .shared-slice-known .given (c .before .before .args .y * c .before .before .args .stride + c .before .before .args .x * c .before .before .args .bytes))
 
--- src/samples.rt:29:9
 returns : tie.Need-returns
 unfolding sampleIn sampleAt pick
 returns c = simp (eq-eqb _ _ (c .before .if1 .taken))
 
--- src/samples.rt:31:5
 shared-slice-read-result-2 : tie.Need-shared-slice-read-result-2
 shared-slice-read-result-2 c = search needs
 
--- src/samples.rt:31:5
 cast-result-2 : tie.Need-cast-result-2
 cast-result-2 c = omega (arith, c .shared-slice-known2 .given (c .before .before .args .y * c .before .before .args .stride + c .before .before .args .x * c .before .before .args .bytes))
 
--- src/samples.rt:31:36
 add-result : tie.Need-add-result
 add-result c = search needs
 
--- src/samples.rt:31:30
 shared-slice-read-result-3 : tie.Need-shared-slice-read-result-3
 shared-slice-read-result-3 c = search needs
 
--- src/samples.rt:31:30
 cast-result-3 : tie.Need-cast-result-3
 cast-result-3 c = omega (arith, c .shared-slice-known3 .given (c .before .before .before .args .y * c .before .before .before .args .stride + c .before .before .before .args .x * c .before .before .before .args .bytes + 1))
 
--- src/samples.rt:31:23
 mul-result : tie.Need-mul-result
 mul-result c = omega (arith, c .shared-slice-known3 .given (c .before .before .before .args .y * c .before .before .before .args .stride + c .before .before .before .args .x * c .before .before .before .args .bytes + 1))
 
--- src/samples.rt:31:5
 add-result-2 : tie.Need-add-result-2
 add-result-2 c = omega (arith, c .shared-slice-known3 .given (c .before .before .before .args .y * c .before .before .before .args .stride + c .before .before .before .args .x * c .before .before .before .args .bytes + 1), c .shared-slice-known3 .given (c .before .before .before .args .y * c .before .before .before .args .stride + c .before .before .before .args .x * c .before .before .before .args .bytes))
 
--- src/samples.rt:23:1
 returns-2 : tie.Need-returns-2
 unfolding sampleIn sampleAt pick
 returns-2 c = simp (ne-eqb _ _ (c .before .before .if1 .left))

@@ -39,61 +39,47 @@ module _ (c : tie.Then5) where
   long : length (take (start + size - start) (drop start (now (c .before .before .before .before .before .before .before .before .before .before .before .args .plane)))) ≡ size
   long = let l = inside in length-take-le (start + size - start) (drop start (now (c .before .before .before .before .before .before .before .before .before .before .before .args .plane))) (omega (arith, length-drop start (now (c .before .before .before .before .before .before .before .before .before .before .before .args .plane)))) ∙ omega arith
 
--- src/samples.rt:153:9
 returns : tie.Need-returns
 unfolding puts
 returns c = (rw (c .if1 .taken) (omega arith), sym (ap (puts (now (c .before .before .before .args .out)) (c .before .before .before .args .at)) (line-none _ _ _ _ (c .if1 .taken))))
 
--- src/samples.rt:159:43
 mul-a : tie.Need-mul-a
 mul-a c = omega (arith, inside (c .before), c .before .before .before .before .before .before .before .before .before .before .before .before .good)
 
--- src/samples.rt:159:29
 add-a : tie.Need-add-a
 add-a c = omega (arith, inside (c .before .before), c .before .before .before .before .before .before .before .before .before .before .before .before .before .good)
 
--- src/samples.rt:160:33
 mul-e : tie.Need-mul-e
 mul-e c = search needs
 
--- src/samples.rt:160:29
 add-e : tie.Need-add-e
 add-e c = omega (arith, inside (c .before .before), c .before .before .before .before .before .before .before .before .before .before .before .before .before .good)
 
--- src/samples.rt:161:46
 sub-copy-row : tie.Need-sub-copy-row
 sub-copy-row c = search needs
 
--- src/samples.rt:161:46
 part-copy-row-start : tie.Need-part-copy-row-start
 part-copy-row-start c = search needs
 
--- src/samples.rt:161:46
 part-copy-row-end : tie.Need-part-copy-row-end
 part-copy-row-end c = inside (c .before .before .before)
 
--- src/samples.rt:161:21
 copy-row-requires : tie.Need-copy-row-requires
 copy-row-requires c κs = rw (long (c .before .before .before .before)) (c .before .before .before .before .before .before .before .before .before .before .before .before .before .before .before .pre .1)
 
--- src/samples.rt:161:21
 same-length : tie.Need-same-length
 same-length c = search needs
 
--- src/samples.rt:161:21
 returns-2 : tie.Need-returns-2
 unfolding Bytes
 returns-2 c = (c .before .before .copy-row .ensures .0 ∙ ap (λ (k : ℕ). c .before .before .before .before .before .before .before .before .before .before .before .before .before .before .before .before .before .before .args .at + k) (long (c .before .before .before .before .before .before .before)), c .before .before .copy-row .ensures .1 ∙ ap (puts (now (c .before .before .before .before .before .before .before .before .before .before .before .before .before .before .before .before .before .before .args .out)) (c .before .before .before .before .before .before .before .before .before .before .before .before .before .before .before .before .before .before .args .at)) (sym (taken (c .before .before .before .before .before .before .before) (λ i. omega (arith, c .before .before .before .before .before .before .before .before .before .before .before .before .before .before .before .before .shared-slice-known .given i)))))
 
--- src/samples.rt:166:5
 copy-line-requires : tie.Need-copy-line-requires
 copy-line-requires c κs = search needs
 
--- src/samples.rt:148:1
 same-length-2 : tie.Need-same-length-2
 same-length-2 c = search needs
 
--- src/samples.rt:148:1
 returns-3 : tie.Need-returns-3
 returns-3 c = search needs
 

@@ -9,19 +9,15 @@ use Rattle.image.proofs.write.hand_back.Reads as reads
 use Rattle.image.proofs.write.hand_back.Lts as lts
 use Rattle.image.proofs.samples.copy_row.Reads as copy-row-reads
 
--- src/lib.rt:144:9
 returns : tie.Need-returns
 returns c = refused-answers _ _ _ (fitted-short _ _ (c .if1 .taken))
 
--- src/lib.rt:146:19
 copy-row-requires : tie.Need-copy-row-requires
 copy-row-requires c κs = search needs
 
--- src/lib.rt:139:1
 same-length : tie.Need-same-length
 same-length c = search needs
 
--- src/lib.rt:139:1
 returns-2 : tie.Need-returns-2
 returns-2 c = done-answers _ (now (c .before .before .before .before .before .before .before .args .«record»)) _ _ _ (fitted-room _ _ (c .before .before .before .before .if1 .left)) (c .before .before .before .before .if1 .left) (c .before .before .copy-row .ensures .0 ∙ zero-add _) (c .before .before .copy-row .ensures .1)
 

@@ -8,43 +8,33 @@ use Rattle.image.proofs.write.head_size.Reads as reads
 use Rattle.image.proofs.write.head_size.Lts as lts
 use Rattle.numbers.proofs.number_length.Reads as number-length-reads
 
--- src/write.rt:55:9
 number-length-requires : tie.Need-number-length-requires
 number-length-requires c κs = search needs
 
--- src/write.rt:56:9
 number-length-requires-2 : tie.Need-number-length-requires-2
 number-length-requires-2 c κs = search needs
 
--- src/write.rt:57:9
 number-length-requires-3 : tie.Need-number-length-requires-3
 number-length-requires-3 c κs = search needs
 
--- src/write.rt:58:9
 number-length-requires-4 : tie.Need-number-length-requires-4
 number-length-requires-4 c κs = search needs
 
--- src/write.rt:59:9
 number-length-requires-5 : tie.Need-number-length-requires-5
 number-length-requires-5 c κs = search needs
 
--- src/write.rt:60:5
 add-result : tie.Need-add-result
 add-result c = search needs
 
--- src/write.rt:60:5
 add-result-2 : tie.Need-add-result-2
 add-result-2 c = search needs
 
--- src/write.rt:60:5
 add-result-3 : tie.Need-add-result-3
 add-result-3 c = search needs
 
--- src/write.rt:60:5
 add-result-4 : tie.Need-add-result-4
 add-result-4 c = search needs
 
--- src/write.rt:51:1
 returns : tie.Need-returns
 unfolding headBytes
 returns c = (simp (length-append, ← (c .before .before .before .before .number-length .ensures .0), ← (c .before .before .before .number-length2 .ensures .0), ← (c .before .before .number-length3 .ensures .0), ← (c .before .number-length4 .ensures .0), ← (c .number-length5 .ensures .0)) (omega arith), omega arith)

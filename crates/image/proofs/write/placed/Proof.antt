@@ -13,48 +13,37 @@ use Rattle.image.proofs.format.Form.row_size.Reads as row-size-reads
 use Rattle.image.proofs.format.PixelFormat.has.Reads as has-reads
 use Rattle.numbers.proofs.number_length.Reads as number-length-reads
 
--- src/write.rt:81:8
 has-requires : tie.Need-has-requires
 has-requires c κs = search needs
 
--- src/write.rt:82:13
 row-size-requires : tie.Need-row-size-requires
 row-size-requires c κs = search needs
 
--- src/write.rt:83:13
 plane-len-requires : tie.Need-plane-len-requires
 plane-len-requires c κs = search needs
 
--- src/write.rt:84:20
 number-length-requires : tie.Need-number-length-requires
 number-length-requires c κs = search needs
 
--- src/write.rt:84:50
 number-length-requires-2 : tie.Need-number-length-requires-2
 number-length-requires-2 c κs = search needs
 
--- src/write.rt:84:20
 add-head : tie.Need-add-head
 add-head c = search needs
 
--- src/write.rt:86:20
 add-t9 : tie.Need-add-t9
 add-t9 c = search needs
 
--- src/write.rt:87:18
 cast-t10 : tie.Need-cast-t10
 cast-t10 c = search needs
 
--- src/write.rt:88:21
 cast-t11 : tie.Need-cast-t11
 cast-t11 c = search needs
 
--- src/write.rt:85:9
 returns : tie.Need-returns
 unfolding placed planeHead pick
 returns c = (simp (sym (c .before .before .before .before .before .has .ensures), c .before .before .before .before .if1 .taken, length-append, c .before .number-length .ensures .0, c .number-length2 .ensures .0, c .before .before .before .row-size .ensures, c .before .before .plane-len .ensures), omega (arith, c .before .number-length .ensures .1, c .number-length2 .ensures .1))
 
--- src/write.rt:76:1
 returns-2 : tie.Need-returns-2
 unfolding placed pick
 returns-2 c = (simp (sym (c .before .has .ensures), c .if1 .left), omega arith)

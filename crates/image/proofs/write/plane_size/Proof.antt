@@ -13,44 +13,34 @@ use Rattle.image.proofs.format.Form.row_size.Reads as row-size-reads
 use Rattle.image.proofs.format.PixelFormat.has.Reads as has-reads
 use Rattle.numbers.proofs.number_length.Reads as number-length-reads
 
--- src/write.rt:39:8
 has-requires : tie.Need-has-requires
 has-requires c κs = search needs
 
--- src/write.rt:40:13
 row-size-requires : tie.Need-row-size-requires
 row-size-requires c κs = search needs
 
--- src/write.rt:41:13
 plane-len-requires : tie.Need-plane-len-requires
 plane-len-requires c κs = search needs
 
--- src/write.rt:42:16
 number-length-requires : tie.Need-number-length-requires
 number-length-requires c κs = search needs
 
--- src/write.rt:42:46
 number-length-requires-2 : tie.Need-number-length-requires-2
 number-length-requires-2 c κs = search needs
 
--- src/write.rt:42:16
 add-result : tie.Need-add-result
 add-result c = search needs
 
--- src/write.rt:42:76
 cast-result : tie.Need-cast-result
 cast-result c = search needs
 
--- src/write.rt:42:16
 add-result-2 : tie.Need-add-result-2
 add-result-2 c = search needs
 
--- src/write.rt:42:9
 returns : tie.Need-returns
 unfolding planeSize planeHead pick
 returns c = (simp (sym (c .before .before .before .before .before .has .ensures), c .before .before .before .before .if1 .taken, length-append, c .before .number-length .ensures .0, c .number-length2 .ensures .0, c .before .before .before .row-size .ensures, c .before .before .plane-len .ensures), omega arith)
 
--- src/write.rt:34:1
 returns-2 : tie.Need-returns-2
 unfolding planeSize pick
 returns-2 c = (simp (sym (c .before .has .ensures), c .if1 .left), omega arith)

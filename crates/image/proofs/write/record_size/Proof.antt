@@ -8,43 +8,33 @@ use Rattle.image.proofs.write.record_size.Lts as lts
 use Rattle.image.proofs.write.head_size.Reads as head-size-reads
 use Rattle.image.proofs.write.plane_size.Reads as plane-size-reads
 
--- src/write.rt:68:9
 head-size-requires : tie.Need-head-size-requires
 head-size-requires c κs = search needs
 
--- src/write.rt:69:9
 plane-size-requires : tie.Need-plane-size-requires
 plane-size-requires c κs = search needs
 
--- src/write.rt:70:9
 plane-size-requires-2 : tie.Need-plane-size-requires-2
 plane-size-requires-2 c κs = search needs
 
--- src/write.rt:71:9
 plane-size-requires-3 : tie.Need-plane-size-requires-3
 plane-size-requires-3 c κs = search needs
 
--- src/write.rt:72:9
 plane-size-requires-4 : tie.Need-plane-size-requires-4
 plane-size-requires-4 c κs = search needs
 
--- src/write.rt:73:5
 add-result : tie.Need-add-result
 add-result c = search needs
 
--- src/write.rt:73:5
 add-result-2 : tie.Need-add-result-2
 add-result-2 c = search needs
 
--- src/write.rt:73:5
 add-result-3 : tie.Need-add-result-3
 add-result-3 c = search needs
 
--- src/write.rt:73:5
 add-result-4 : tie.Need-add-result-4
 add-result-4 c = search needs
 
--- src/write.rt:64:1
 returns : tie.Need-returns
 unfolding sizeOf
 returns c = simp (← (c .before .before .before .before .head-size .ensures .0), ← (c .before .before .before .plane-size .ensures .0), ← (c .before .before .plane-size2 .ensures .0), ← (c .before .plane-size3 .ensures .0), ← (c .plane-size4 .ensures .0)) (omega arith)

@@ -11,43 +11,33 @@ use Rattle.image.proofs.write.tight.Lts as lts
 use Rattle.image.proofs.write.head_size.Reads as head-size-reads
 use Rattle.image.proofs.write.placed.Reads as placed-reads
 
--- src/write.rt:103:41
 head-size-requires : tie.Need-head-size-requires
 head-size-requires c κs = search needs
 
--- src/write.rt:103:9
 placed-requires : tie.Need-placed-requires
 placed-requires c κs = search needs
 
--- src/write.rt:104:37
 add-placed : tie.Need-add-placed
 add-placed c = search needs
 
--- src/write.rt:104:9
 placed-requires-2 : tie.Need-placed-requires-2
 placed-requires-2 c κs = search needs
 
--- src/write.rt:105:37
 add-placed-2 : tie.Need-add-placed-2
 add-placed-2 c = search needs
 
--- src/write.rt:105:9
 placed-requires-3 : tie.Need-placed-requires-3
 placed-requires-3 c κs = search needs
 
--- src/write.rt:106:43
 add-placed-3 : tie.Need-add-placed-3
 add-placed-3 c = search needs
 
--- src/write.rt:106:9
 placed-requires-4 : tie.Need-placed-requires-4
 placed-requires-4 c κs = search needs
 
--- src/write.rt:107:15
 add-end : tie.Need-add-end
 add-end c = search needs
 
--- src/write.rt:99:1
 returns : tie.Need-returns
 unfolding past
 returns c = tight-planes _ 0 _ _ _ _ _ (c .before .before .before .before .before .before .before .before .head-size .ensures .0 ∙ omega arith) (c .before .before .before .before .before .before .before .placed .ensures .0) (c .before .before .before .before .before .placed2 .ensures .0) (c .before .before .before .placed3 .ensures .0) (c .before .placed4 .ensures .0)

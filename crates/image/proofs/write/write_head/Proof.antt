@@ -28,31 +28,24 @@ w3 c = writing-run (numberBytes (c .before .before .before .before .before .befo
 w4 : (c : tie.After-write-number4) → Writing (now (c .before .before .before .before .before .before .before .before .before .before .before .before .before .before .before .before .args .out)) (c .before .before .before .before .before .before .before .before .before .before .before .before .before .before .before .before .args .at) (headBytes (c .before .before .before .before .before .before .before .before .before .before .before .before .before .before .before .before .args .form)) (c .write-number4 .last .0) (c .write-number4 .result) (numberBytes (c .before .before .before .before .before .before .before .before .before .before .before .before .before .before .before .before .args .form .format .alpha))
 w4 c = writing-run (numberBytes (c .before .before .before .before .before .before .before .before .before .before .before .before .before .before .before .before .args .form .format .depth)) (w3 (c .before .before .before .before)) (c .write-number4 .ensures .0) (c .write-number4 .ensures .1)
 
--- src/write.rt:17:9
 write-number-requires : tie.Need-write-number-requires
 write-number-requires c κs = writing-fits (numberBytes (c .before .before .before .args .form .width)) _ (w0 (c .before .before .before))
 
--- src/write.rt:18:9
 write-number-requires-2 : tie.Need-write-number-requires-2
 write-number-requires-2 c κs = writing-fits (numberBytes (c .before .before .before .before .before .before .before .args .form .height)) _ (w1 (c .before .before .before))
 
--- src/write.rt:19:9
 write-number-requires-3 : tie.Need-write-number-requires-3
 write-number-requires-3 c κs = writing-fits (numberBytes (c .before .before .before .before .before .before .before .before .before .before .before .args .form .format .chroma)) _ (w2 (c .before .before .before))
 
--- src/write.rt:20:9
 write-number-requires-4 : tie.Need-write-number-requires-4
 write-number-requires-4 c κs = writing-fits (numberBytes (c .before .before .before .before .before .before .before .before .before .before .before .before .before .before .before .args .form .format .depth)) _ (w3 (c .before .before .before))
 
--- src/write.rt:21:5
 write-number-requires-5 : tie.Need-write-number-requires-5
 write-number-requires-5 c κs = (w4 (c .before .before .before)) .room
 
--- src/write.rt:12:1
 same-length : tie.Need-same-length
 same-length c = search needs
 
--- src/write.rt:12:1
 returns : tie.Need-returns
 returns c = writing-last (w4 (c .before .before .before .before .before .before)) (c .before .before .write-number5 .ensures .0) (c .before .before .write-number5 .ensures .1)
 

@@ -36,27 +36,21 @@ first c =
     (c .write-number .ensures .0 ∙ ap (λ (n : ℕ). c .before .before .before .before .args .at + length (numberBytes n)) (c .before .row-size .ensures))
     (c .write-number .ensures .1 ∙ ap (λ (n : ℕ). puts (now (c .before .before .before .before .args .out)) (c .before .before .before .before .args .at) (numberBytes n)) (c .before .row-size .ensures))
 
--- src/write.rt:29:44
 row-size-requires : tie.Need-row-size-requires
 row-size-requires c κs = search needs
 
--- src/write.rt:29:9
 write-number-requires : tie.Need-write-number-requires
 write-number-requires c κs = rw (c .row-size .ensures) (writing-fits (row (c .before .before .before .args .form) (c .before .before .before .args .part)) (len (c .before .before .before .args .form) (c .before .before .before .args .part)) (start c))
 
--- src/write.rt:30:35
 plane-len-requires : tie.Need-plane-len-requires
 plane-len-requires c κs = search needs
 
--- src/write.rt:30:5
 write-number-requires-2 : tie.Need-write-number-requires-2
 write-number-requires-2 c κs = rw (c .plane-len .ensures) (first (c .before .before .before .before) .room)
 
--- src/write.rt:25:1
 same-length : tie.Need-same-length
 same-length c = search needs
 
--- src/write.rt:25:1
 returns : tie.Need-returns
 returns c = writing-last (first (c .before .before .before .before .before .before .before)) (c .before .before .write-number2 .ensures .0 ∙ ap (λ (n : ℕ). c .before .before .before .before .before .before .before .write-number .result + length (numberBytes n)) (c .before .before .before .plane-len .ensures)) (c .before .before .write-number2 .ensures .1 ∙ ap (λ (n : ℕ). puts (c .before .before .before .before .before .before .before .write-number .last .0) (c .before .before .before .before .before .before .before .write-number .result) (numberBytes n)) (c .before .before .before .plane-len .ensures))
 

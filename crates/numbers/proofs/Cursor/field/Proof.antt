@@ -19,65 +19,50 @@ Inv-loop s bytes at value₀ i₀ value i = (i ≤ bytes) × (value ≡ bigEndia
 abbrev μ-loop : tie.MeasureT-loop
 μ-loop s bytes at value₀ i₀ value i = Prim.Native.Nat._-_ bytes i
 
--- src/lib.rt:101:13
 returns : tie.Need-returns Inv-loop μ-loop
 unfolding fieldAt pick
 returns c = simp (lt-ltb _ _ (c .if1 .taken))
 
--- src/lib.rt:103:12
 sub-if2 : tie.Need-sub-if2 Inv-loop μ-loop
 sub-if2 c = search needs
 
--- src/lib.rt:104:13
 returns-2 : tie.Need-returns-2 Inv-loop μ-loop
 unfolding fieldAt pick
 returns-2 c = simp (le-ltb _ _ (c .before .if1 .left), lt-ltb _ _ (c .if2 .taken))
 
--- src/lib.rt:108:9
 loop-holds : tie.Need-loop-holds Inv-loop μ-loop
 loop-holds c = (omega arith, sym (bigEndian-none _ _), omega arith)
 
--- src/lib.rt:109:21
 mul-value : tie.Need-mul-value Inv-loop μ-loop
 mul-value c = let r = c .before .loop in let h : r .value < 256 ^ 4 = omega (arith, weight-small (r .i) 4 (omega arith)) in omega arith
 
--- src/lib.rt:109:37
 add-value : tie.Need-add-value Inv-loop μ-loop
 add-value c = search needs
 
--- src/lib.rt:109:35
 shared-slice-read-value : tie.Need-shared-slice-read-value Inv-loop μ-loop
 shared-slice-read-value c = search needs
 
--- src/lib.rt:109:35
 cast-value : tie.Need-cast-value Inv-loop μ-loop
 cast-value c = omega (arith, c .shared-slice-known .given ((c .before .before .before .before .before) .args .self .at + c .before .before .loop .i))
 
--- src/lib.rt:109:21
 add-value-2 : tie.Need-add-value-2 Inv-loop μ-loop
 add-value-2 c = let r = c .before .before .loop in let h : r .value < 256 ^ 4 = omega (arith, weight-small (r .i) 4 (omega arith)) in omega (arith, c .shared-slice-known .given ((c .before .before .before .before .before) .args .self .at + r .i))
 
--- src/lib.rt:110:13
 add-i : tie.Need-add-i Inv-loop μ-loop
 add-i c = search needs
 
--- src/lib.rt:108:9
 loop-less : tie.Need-loop-less Inv-loop μ-loop
 loop-less c = search needs
 
--- src/lib.rt:108:9
 loop-again : tie.Need-loop-again Inv-loop μ-loop
 loop-again c = let r = c .before .before .loop in (omega arith, ap (λ (v : ℕ). v * 256 + getD (now (c .before .before .before .before .before .args .s)) (c .before .before .before .before .before .args .self .at + r .i) 0) (r .inv .1) ∙ sym (bigEndian-more _ _ _), weight-more (r .i) (r .value) _ (r .inv .2) (omega (arith, c .shared-slice-known .given (c .before .before .before .before .before .args .self .at + r .i))))
 
--- src/lib.rt:113:20
 cast-t16 : tie.Need-cast-t16 Inv-loop μ-loop
 cast-t16 c = let r = c .before .loop in let h : r .value < 256 ^ 4 = omega (arith, weight-small (r .i) 4 (omega arith)) in omega arith
 
--- src/lib.rt:114:32
 add-t7 : tie.Need-add-t7 Inv-loop μ-loop
 add-t7 c = search needs
 
--- src/lib.rt:95:5
 returns-3 : tie.Need-returns-3 Inv-loop μ-loop
 unfolding fieldAt pick
 returns-3 c = let r = c .before .loop in let e : r .i ≡ c .before .before .before .before .args .bytes = omega arith in simp (le-ltb _ _ (c .before .before .before .if1 .left), le-ltb _ _ (c .before .before .if2 .left), r .inv .1, e)

@@ -5,16 +5,13 @@ use Rattle.overlay.proofs.blend.before.Tie as tie
 use Rattle.overlay.proofs.blend.before.Reads as reads
 use Rattle.overlay.proofs.blend.before.Lts as lts
 
--- src/blend.rt:106:17
 add-result : tie.Need-add-result
 add-result c = search needs
 
--- src/blend.rt:106:9
 returns : tie.Need-returns
 unfolding sideOf
 returns c = simp (c .if1 .taken)
 
--- src/blend.rt:101:1
 returns-2 : tie.Need-returns-2
 unfolding sideOf
 returns-2 c = simp (c .if1 .left)

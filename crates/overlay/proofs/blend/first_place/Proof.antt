@@ -5,16 +5,13 @@ use Rattle.overlay.proofs.blend.first_place.Tie as tie
 use Rattle.overlay.proofs.blend.first_place.Reads as reads
 use Rattle.overlay.proofs.blend.first_place.Lts as lts
 
--- src/blend.rt:95:16
 mul-result : tie.Need-mul-result
 mul-result c = search needs
 
--- src/blend.rt:95:9
 returns : tie.Need-returns
 unfolding base
 returns c = simp (c .if1 .taken)
 
--- src/blend.rt:90:1
 returns-2 : tie.Need-returns-2
 unfolding base
 returns-2 c = simp (c .if1 .left)

@@ -8,39 +8,30 @@ use Rattle.overlay.proofs.blend.lay.Lts as lts
 use Rattle.overlay.proofs.blend.paint_over.Reads as paint-over-reads
 use Rattle.overlay.proofs.blend.veil_over.Reads as veil-over-reads
 
--- src/blend.rt:82:23
 enum-told : tie.Need-enum-told
 enum-told c = search needs
 
--- src/blend.rt:82:23
 paint-over-requires : tie.Need-paint-over-requires
 paint-over-requires c κs = search needs
 
--- src/blend.rt:83:21
 enum-told-2 : tie.Need-enum-told-2
 enum-told-2 c = search needs
 
--- src/blend.rt:83:21
 paint-over-requires-2 : tie.Need-paint-over-requires-2
 paint-over-requires-2 c κs = search needs
 
--- src/blend.rt:84:21
 enum-told-3 : tie.Need-enum-told-3
 enum-told-3 c = search needs
 
--- src/blend.rt:84:21
 paint-over-requires-3 : tie.Need-paint-over-requires-3
 paint-over-requires-3 c κs = search needs
 
--- src/blend.rt:85:24
 enum-told-4 : tie.Need-enum-told-4
 enum-told-4 c = search needs
 
--- src/blend.rt:85:24
 veil-over-requires : tie.Need-veil-over-requires
 veil-over-requires c κs = search needs
 
--- src/blend.rt:77:1
 returns : tie.Need-returns
 unfolding laid
 returns c =
@@ -49,7 +40,6 @@ returns c =
       sym (c .paint-over .ensures),
     )
 
--- src/blend.rt:77:1
 returns-2 : tie.Need-returns-2
 unfolding laid
 returns-2 c =
@@ -58,7 +48,6 @@ returns-2 c =
       sym (c .paint-over2 .ensures),
     )
 
--- src/blend.rt:77:1
 returns-3 : tie.Need-returns-3
 unfolding laid
 returns-3 c =
@@ -67,7 +56,6 @@ returns-3 c =
       sym (c .paint-over3 .ensures),
     )
 
--- src/blend.rt:77:1
 returns-4 : tie.Need-returns-4
 unfolding laid
 returns-4 c =

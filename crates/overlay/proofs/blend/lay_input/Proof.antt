@@ -36,63 +36,48 @@ deep-is c = let e = ap (λ (q : Stretch). q .to) (c .before .before .before .bef
 ended : (c : tie.After-loop Inv-loop μ-loop) → min (stretchOf (c .before .before .before .before .before .before .before .before .before .args .run .«half_down») (c .before .before .before .before .before .before .before .before .before .args .place .vertical) (c .before .before .before .before .before .before .before .before .before .args .fr .form .height) .to) ((c .before .before .before .before .before .before .before .before .before .args .run .start + c .before .before .before .before .before .before .before .before .before .args .run .count + c .before .before .before .before .before .before .before .before .before .args .run .columns - 1) / c .before .before .before .before .before .before .before .before .before .args .run .columns) ≤ c .before .loop .r
 ended c = let e = ap (λ (q : Stretch). q .to) (c .before .before .before .before .before .reach .ensures) in omega (arith, e, c .before .before .before .least .ensures, c .loop-test .left)
 
--- src/blend.rt:269:9
 reach-requires : tie.Need-reach-requires Inv-loop μ-loop
 reach-requires c κs = search needs
 
--- src/blend.rt:272:15
 add-end : tie.Need-add-end Inv-loop μ-loop
 add-end c = omega (arith, c .before .before .before .before .before .pre .2 .ends)
 
--- src/blend.rt:273:32
 add-least : tie.Need-add-least Inv-loop μ-loop
 add-least c = omega (arith, c .before .before .before .before .before .pre .2 .ends, c .before .before .before .before .before .pre .2 .narrow)
 
--- src/blend.rt:273:32
 sub-least : tie.Need-sub-least Inv-loop μ-loop
 sub-least c = omega (arith, c .before .before .before .before .before .pre .2 .wide)
 
--- src/blend.rt:273:31
 div-least : tie.Need-div-least Inv-loop μ-loop
 div-least c = omega (arith, c .before .before .before .before .before .pre .2 .wide)
 
--- src/blend.rt:273:9
 least-requires : tie.Need-least-requires Inv-loop μ-loop
 least-requires c κs = search needs
 
--- src/blend.rt:274:33
 div-most : tie.Need-div-most Inv-loop μ-loop
 div-most c = omega (arith, c .before .before .before .before .before .before .pre .2 .wide)
 
--- src/blend.rt:274:9
 most-requires : tie.Need-most-requires Inv-loop μ-loop
 most-requires c κs = search needs
 
--- src/blend.rt:275:5
 loop-holds : tie.Need-loop-holds Inv-loop μ-loop
 loop-holds c = (begun c, refl, λ j h. rows-begin (now (c .before .before .before .before .before .before .before .args .tray)) (c .before .before .before .before .before .before .before .args .fr) (c .before .before .before .before .before .before .before .args .place) (c .before .before .before .before .before .before .before .args .premultiplied) (c .before .before .before .before .before .before .before .args .part) (c .before .before .before .before .before .before .before .args .top) (c .before .before .before .before .before .before .before .args .run) (c .before .before .before .before .before .before .before .pre .2) j _ _ (c .most .ensures ∙ ap (λ (q : Stretch). max (q .from) (c .before .before .before .before .before .before .before .args .run .start / c .before .before .before .before .before .before .before .args .run .columns)) (c .before .before .before .reach .ensures)))
 
--- src/blend.rt:276:9
 lay-line-requires : tie.Need-lay-line-requires Inv-loop μ-loop
 lay-line-requires c κs = (c .before .before .before .before .before .before .before .before .before .before .pre .0, c .before .before .before .before .before .before .before .before .before .before .pre .1, c .before .before .before .before .before .before .before .before .before .before .pre .2, omega (arith, c .before .before .before .before .before .before .before .before .before .before .pre .3, c .before .before .loop .inv .1), row-begins (c .before .before .loop .r) (c .before .before .before .before .before .before .before .before .before .before .args .run .start + c .before .before .before .before .before .before .before .before .before .before .args .run .count) (c .before .before .before .before .before .before .before .before .before .before .args .run .columns) (c .before .before .before .before .before .before .before .before .before .before .pre .2 .wide) (omega (arith, c .before .loop-test .taken, c .before .before .before .before .least .ensures)), row-shown (now (c .before .before .before .before .before .before .before .before .before .before .args .tray)) (c .before .before .before .before .before .before .before .before .before .before .args .fr) (c .before .before .before .before .before .before .before .before .before .before .args .place) (c .before .before .before .before .before .before .before .before .before .before .args .premultiplied) (c .before .before .before .before .before .before .before .before .before .before .args .part) (c .before .before .before .before .before .before .before .before .before .before .args .top) (c .before .before .before .before .before .before .before .before .before .before .args .run) (c .before .before .before .before .before .before .before .before .before .before .pre .2) (c .before .before .loop .r) (c .before .before .loop .inv .0) (deep-is ((c .before))))
 
--- src/blend.rt:277:9
 add-r : tie.Need-add-r Inv-loop μ-loop
 add-r c = omega (arith, c .before .before .before .before .loop-test .taken)
 
--- src/blend.rt:275:5
 loop-less : tie.Need-loop-less Inv-loop μ-loop
 loop-less c = search needs
 
--- src/blend.rt:275:5
 loop-again : tie.Need-loop-again Inv-loop μ-loop
 loop-again c = (omega (arith, c .before .before .before .before .before .loop .inv .0), c .before .before .lay-line .kept .0 ∙ c .before .before .before .before .before .loop .inv .1, λ j h. rows-more (now (c .before .before .before .before .before .before .before .before .before .before .before .before .before .args .tray)) (c .before .before .before .before .before .before .before .before .before .before .before .before .before .args .fr) (c .before .before .before .before .before .before .before .before .before .before .before .before .before .args .place) (c .before .before .before .before .before .before .before .before .before .before .before .before .before .args .premultiplied) (c .before .before .before .before .before .before .before .before .before .before .before .before .before .args .part) (c .before .before .before .before .before .before .before .before .before .before .before .before .before .args .top) (c .before .before .before .before .before .before .before .before .before .before .before .before .before .args .run) (c .before .before .before .before .before .before .before .before .before .before .before .before .before .pre .2) j _ _ _ (c .before .before .before .before .before .loop .r) (c .before .before .before .before .before .loop .inv .2 j h) (c .before .before .lay-line .ensures j h))
 
--- src/blend.rt:254:1
 same-length : tie.Need-same-length Inv-loop μ-loop
 same-length c = c .before .loop .inv .1
 
--- src/blend.rt:254:1
 returns : tie.Need-returns Inv-loop μ-loop
 returns c = λ j h. c .before .loop .inv .2 j h ∙ rows-end (now (c .before .before .before .before .before .before .before .before .before .args .tray)) (c .before .before .before .before .before .before .before .before .before .args .fr) (c .before .before .before .before .before .before .before .before .before .args .place) (c .before .before .before .before .before .before .before .before .before .args .premultiplied) (c .before .before .before .before .before .before .before .before .before .args .part) (c .before .before .before .before .before .before .before .before .before .args .top) (c .before .before .before .before .before .before .before .before .before .args .run) (c .before .before .before .before .before .before .before .before .before .pre .2) j _ (c .before .loop .r) h (ended c)
 

@@ -25,55 +25,42 @@ Inv-loop acc₀ body tray premultiplied d first part top run count at₀ i₀ ac
 abbrev μ-loop : tie.MeasureT-loop
 μ-loop acc₀ body tray premultiplied d first part top run count at₀ i₀ acc at i = d .count - i
 
--- src/blend.rt:277:5
 loop-holds : tie.Need-loop-holds Inv-loop μ-loop
 loop-holds c = (omega arith, refl, λ j h. rw (sub-zero (c .before .before .before .before .args .d .count)) refl)
 
--- src/blend.rt:278:15
 read-record-requires : tie.Need-read-record-requires Inv-loop μ-loop
 read-record-requires c κs = search needs
 
--- src/blend.rt:280:17
 enum-told : tie.Need-enum-told Inv-loop μ-loop
 enum-told c = search needs
 
--- src/blend.rt:280:17
 same-length : tie.Need-same-length Inv-loop μ-loop
 same-length c = c .before .before .before .before .loop .inv .1
 
--- src/blend.rt:280:17
 returns : tie.Need-returns Inv-loop μ-loop
 returns c = λ j h. sym (c .before .before .before .before .loop .inv .2 j h ∙ all-refused _ _ _ _ _ _ _ _ _ _ _ _ _ (sym (c .before .before .read-record .ensures) ∙ ap frameOut (c .enum-told .given .1)))
 
--- src/blend.rt:282:29
 enum-known-fr : tie.Need-enum-known-fr Inv-loop μ-loop
 enum-known-fr c = search needs
 
--- src/blend.rt:283:21
 offset-requires : tie.Need-offset-requires Inv-loop μ-loop
 offset-requires c κs = (c .before .before .before .before .before .before .before .before .before .before .pre .0, c .before .before .before .before .loop-test .taken)
 
--- src/blend.rt:284:25
 cast-n : tie.Need-cast-n Inv-loop μ-loop
 cast-n c = omega (arith, c .before .before .before .before .before .loop-test .taken, c .before .before .before .before .before .before .before .before .before .before .before .pre .0 .count)
 
--- src/blend.rt:285:34
 shared-slice-read-multiplied : tie.Need-shared-slice-read-multiplied Inv-loop μ-loop
 shared-slice-read-multiplied c = omega (arith, c .before .before .before .before .before .before .before .before .before .before .before .before .pre .1, c .before .before .before .before .before .before .loop-test .taken)
 
--- src/blend.rt:286:17
 lay-input-requires : tie.Need-lay-input-requires Inv-loop μ-loop
 lay-input-requires c κs = (record-inside _ _ _ (sym (c .before .before .before .before .before .before .read-record .ensures) ∙ ap frameOut (c .before .before .before .before .fr .given .1)), c .before .before .before .before .before .before .before .before .before .before .before .before .before .pre .2, c .before .before .before .before .before .before .before .before .before .before .before .before .before .pre .3, omega (arith, c .before .before .before .before .before .before .before .before .before .before .before .before .before .pre .4, c .before .before .before .before .before .before .before .before .loop .inv .1))
 
--- src/blend.rt:290:9
 add-i : tie.Need-add-i Inv-loop μ-loop
 add-i c = omega (arith, c .before .before .before .before .before .before .before .before .before .before .loop-test .taken, c .before .before .before .before .before .before .before .before .before .before .before .before .before .before .before .before .pre .0 .count)
 
--- src/blend.rt:277:5
 loop-less : tie.Need-loop-less Inv-loop μ-loop
 loop-less c = search needs
 
--- src/blend.rt:277:5
 loop-again : tie.Need-loop-again Inv-loop μ-loop
 loop-again c = (
   omega (arith, c .before .before .before .before .before .before .before .before .before .before .loop-test .taken),
@@ -81,11 +68,9 @@ loop-again c = (
   λ j h. c .before .before .before .before .before .before .before .before .before .before .before .loop .inv .2 j h ∙ all-laid _ _ _ _ _ _ _ _ _ _ _ _ _ _ _ _ (c .before .before .before .before .before .before .before .before .before .before .loop-test .taken) (sym (c .before .before .before .before .before .before .before .before .before .read-record .ensures) ∙ ap frameOut (c .before .before .before .before .before .before .before .fr .given .1)) (c .before .before .before .before .before .offset .ensures) refl (c .before .before .lay-input .ensures j h),
 )
 
--- src/blend.rt:259:1
 same-length-2 : tie.Need-same-length-2 Inv-loop μ-loop
 same-length-2 c = c .before .loop .inv .1
 
--- src/blend.rt:259:1
 returns-2 : tie.Need-returns-2 Inv-loop μ-loop
 returns-2 c = λ j h. sym (c .before .loop .inv .2 j h ∙ all-none _ _ _ _ _ _ _ _ _ _ _ _ (omega (arith, c .loop-test .left)))
 

@@ -35,59 +35,45 @@ next c =
     let z : c .before .before .before .before .before .before .before .before .before .before .args .k + c .before .before .before .before .before .loop .i - c .before .before .before .before .before .before .before .before .before .before .args .k ≡ c .before .before .before .before .before .loop .i = omega arith in
     rw (z, ← (c .before .before .before .promoted .ensures), ← (c .before .before .source-alpha .ensures)) (c .lay .ensures)
 
--- src/blend.rt:162:5
 loop-holds : tie.Need-loop-holds Inv-loop μ-loop
 loop-holds c = (omega arith, refl, λ j. sym (pick-false _ _ _ (within-none (c .before .before .before .before .args .k) j)))
 
--- src/blend.rt:163:21
 mul-u : tie.Need-mul-u Inv-loop μ-loop
 mul-u c = omega (arith, walked c)
 
--- src/blend.rt:163:17
 add-u : tie.Need-add-u Inv-loop μ-loop
 add-u c = omega (arith, walked c)
 
--- src/blend.rt:164:13
 promoted-requires : tie.Need-promoted-requires Inv-loop μ-loop
 promoted-requires c κs = c .before .before .before .before .before .before .pre .inside (c .before .loop .i) (c .loop-test .taken)
 
--- src/blend.rt:165:13
 source-alpha-requires : tie.Need-source-alpha-requires Inv-loop μ-loop
 source-alpha-requires c κs = c .before .before .before .before .before .before .before .pre .alphas (c .before .before .loop .i) (c .before .loop-test .taken)
 
--- src/blend.rt:166:18
 add-at : tie.Need-add-at Inv-loop μ-loop
 add-at c = omega (arith, c .before .before .before .before .before .before .before .before .pre .few, c .before .before .loop-test .taken, c .before .before .before .loop .inv .1)
 
--- src/blend.rt:167:17
 mul-v : tie.Need-mul-v Inv-loop μ-loop
 mul-v c = omega (arith, c .before .before .before .before .before .before .before .before .pre .few, c .before .before .loop-test .taken, c .before .before .before .loop .inv .1)
 
--- src/blend.rt:167:17
 slice-read-v : tie.Need-slice-read-v Inv-loop μ-loop
 slice-read-v c = omega (arith, c .before .before .before .before .before .before .before .before .before .pre .few, c .before .before .before .loop-test .taken, c .before .before .before .before .loop .inv .1)
 
--- src/blend.rt:168:19
 lay-requires : tie.Need-lay-requires Inv-loop μ-loop
 lay-requires c κs = c .before .before .before .before .before .before .before .before .before .pre .some
 
--- src/blend.rt:168:9
 mul-acc : tie.Need-mul-acc Inv-loop μ-loop
 mul-acc c = omega (arith, c .before .before .before .before .before .before .before .before .before .before .pre .few, c .before .before .before .before .loop-test .taken, c .before .before .before .before .before .loop .inv .1)
 
--- src/blend.rt:168:9
 slice-write-acc : tie.Need-slice-write-acc Inv-loop μ-loop
 slice-write-acc c = omega (arith, c .before .before .before .before .before .before .before .before .before .before .pre .few, c .before .before .before .before .loop-test .taken, c .before .before .before .before .before .loop .inv .1)
 
--- src/blend.rt:169:9
 add-i : tie.Need-add-i Inv-loop μ-loop
 add-i c = search needs
 
--- src/blend.rt:162:5
 loop-less : tie.Need-loop-less Inv-loop μ-loop
 loop-less c = search needs
 
--- src/blend.rt:162:5
 loop-again : tie.Need-loop-again Inv-loop μ-loop
 loop-again c = (
   search needs,
@@ -95,11 +81,9 @@ loop-again c = (
   stored-more (now (c .before .before .before .before .before .before .before .before .before .before .args .acc)) (c .before .before .before .before .before .loop .acc) (c .before .before .before .before .before .before .before .before .before .before .args .k) (c .before .before .before .before .before .loop .i) (c .lay .result) (λ j v. rowLaid (now (c .before .before .before .before .before .before .before .before .before .before .args .plane)) (now (c .before .before .before .before .before .before .before .before .before .before .args .alpha)) (c .before .before .before .before .before .before .before .before .before .before .args .s) (c .before .before .before .before .before .before .before .before .before .before .args .x + (j - c .before .before .before .before .before .before .before .before .before .before .args .k) * c .before .before .before .before .before .before .before .before .before .before .args .step) (c .before .before .before .before .before .before .before .before .before .before .args .y) v) (omega (arith, c .before .before .before .before .before .before .before .before .before .before .pre .few, c .before .before .before .before .loop-test .taken, c .before .before .before .before .before .loop .inv .1)) (c .before .before .before .before .before .loop .inv .2) (next c),
 )
 
--- src/blend.rt:141:1
 same-length : tie.Need-same-length Inv-loop μ-loop
 same-length c = c .before .loop .inv .1
 
--- src/blend.rt:141:1
 returns : tie.Need-returns Inv-loop μ-loop
 unfolding within
 returns c = λ j. c .before .loop .inv .2 j ∙ ap (λ (i : ℕ). pick (within (c .before .before .before .before .before .before .args .k) i j) (rowLaid (now (c .before .before .before .before .before .before .args .plane)) (now (c .before .before .before .before .before .before .args .alpha)) (c .before .before .before .before .before .before .args .s) (c .before .before .before .before .before .before .args .x + (j - c .before .before .before .before .before .before .args .k) * c .before .before .before .before .before .before .args .step) (c .before .before .before .before .before .before .args .y) (getD (now (c .before .before .before .before .before .before .args .acc)) j 0)) (getD (now (c .before .before .before .before .before .before .args .acc)) j 0)) (ended c)

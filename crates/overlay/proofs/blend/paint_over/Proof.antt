@@ -11,68 +11,52 @@ use Rattle.overlay.proofs.blend.paint_over.Lts as lts
 use Rattle.overlay.proofs.blend.least.Reads as least-reads
 use Rattle.overlay.proofs.blend.less.Reads as less-reads
 
--- src/blend.rt:59:31
 less-requires : tie.Need-less-requires
 less-requires c κs = search needs
 
--- src/blend.rt:59:18
 mul-under : tie.Need-mul-under
 mul-under c = omega (arith, under-small (c .before .args .v) (c .before .args .top) (c .less .result) (omega arith) (omega arith) (omega (arith, c .less .ensures)))
 
--- src/blend.rt:59:18
 add-under : tie.Need-add-under
 add-under c = omega (arith, under-small (c .before .args .v) (c .before .args .top) (c .less .result) (omega arith) (omega arith) (omega (arith, c .less .ensures)))
 
--- src/blend.rt:59:17
 div-under : tie.Need-div-under
 div-under c = search needs
 
--- src/blend.rt:61:22
 mul-least : tie.Need-mul-least
 mul-least c = omega (arith, sample-product (c .before .before .args .m) (c .before .before .args .top) (omega arith) (omega arith))
 
--- src/blend.rt:61:22
 add-least : tie.Need-add-least
 add-least c = omega (arith, sample-product (c .before .before .args .m) (c .before .before .args .top) (omega arith) (omega arith), share-small (c .before .before .args .v) (c .before .before .args .top) (c .before .less .result) (omega arith) (omega arith) (omega (arith, c .before .less .ensures)))
 
--- src/blend.rt:61:37
 mul-least-2 : tie.Need-mul-least-2
 mul-least-2 c = omega (arith, sample-product (c .before .before .args .top) (c .before .before .args .top) (omega arith) (omega arith))
 
--- src/blend.rt:61:16
 least-requires : tie.Need-least-requires
 least-requires c κs = search needs
 
--- src/blend.rt:61:16
 cast-result : tie.Need-cast-result
 cast-result c = omega (arith, c .least .ensures, sample-product (c .before .before .before .args .top) (c .before .before .before .args .top) (omega arith) (omega arith))
 
--- src/blend.rt:61:9
 returns : tie.Need-returns
 unfolding paint pick
 returns c = rw (c .before .if1 .taken, ← (c .before .before .less .ensures)) (c .least .ensures)
 
--- src/blend.rt:63:11
 mul-least-3 : tie.Need-mul-least-3
 mul-least-3 c = omega (arith, sample-product (c .before .before .args .m) (c .before .before .args .a) (omega arith) (omega arith))
 
--- src/blend.rt:63:11
 add-least-2 : tie.Need-add-least-2
 add-least-2 c = omega (arith, sample-product (c .before .before .args .m) (c .before .before .args .a) (omega arith) (omega arith), share-small (c .before .before .args .v) (c .before .before .args .top) (c .before .less .result) (omega arith) (omega arith) (omega (arith, c .before .less .ensures)))
 
--- src/blend.rt:63:26
 mul-least-4 : tie.Need-mul-least-4
 mul-least-4 c = omega (arith, sample-product (c .before .before .args .top) (c .before .before .args .top) (omega arith) (omega arith))
 
--- src/blend.rt:63:5
 least-requires-2 : tie.Need-least-requires-2
 least-requires-2 c κs = search needs
 
--- src/blend.rt:63:5
 cast-result-2 : tie.Need-cast-result-2
 cast-result-2 c = omega (arith, c .least2 .ensures, sample-product (c .before .before .before .args .top) (c .before .before .before .args .top) (omega arith) (omega arith))
 
--- src/blend.rt:52:1
 returns-2 : tie.Need-returns-2
 unfolding paint pick
 returns-2 c = rw (c .before .if1 .left, ← (c .before .before .less .ensures)) (c .least2 .ensures)

@@ -15,25 +15,20 @@ use Rattle.image.proofs.format.PixelFormat.bytes_per_sample.Reads as bytes-per-
 use Rattle.image.proofs.format.PixelFormat.has.Reads as has-reads
 use Rattle.image.proofs.sample.Reads as sample-reads
 
--- src/blend.rt:135:8
 has-requires : tie.Need-has-requires
 has-requires c κs = search needs
 
--- src/blend.rt:136:37
 bytes-per-sample-requires : tie.Need-bytes-per-sample-requires
 bytes-per-sample-requires c κs = search needs
 
--- src/blend.rt:136:9
 sample-requires : tie.Need-sample-requires
 unfolding hasPart
 sample-requires c κs = rw (c .bytes-per-sample .ensures) (bytes-few _ .0, bytes-few _ .1, c .before .before .before .before .before .pre (sym (c .before .before .has .ensures) ∙ c .before .if1 .taken))
 
--- src/blend.rt:136:9
 returns : tie.Need-returns
 unfolding alphaIn hasPart
 returns c = c .sample .ensures ∙ ap (λ (b : ℕ). sampleIn (now (c .before .before .before .before .before .before .args .alpha)) b (c .before .before .before .before .before .before .args .s .«alpha_stride») (c .before .before .before .before .before .before .args .x) (c .before .before .before .before .before .before .args .y)) (c .before .bytes-per-sample .ensures) ∙ sym (pick-true (hasAlpha (c .before .before .before .before .before .before .args .s .format)) _ _ (sym (c .before .before .before .has .ensures) ∙ c .before .before .if1 .taken))
 
--- src/blend.rt:130:1
 returns-2 : tie.Need-returns-2
 unfolding alphaIn hasPart
 returns-2 c = sym (pick-false _ _ _ (sym (c .before .has .ensures) ∙ c .if1 .left))

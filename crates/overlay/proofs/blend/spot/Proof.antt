@@ -7,23 +7,18 @@ use Rattle.overlay.proofs.blend.spot.Reads as reads
 use Rattle.overlay.proofs.blend.spot.Lts as lts
 use Rattle.overlay.proofs.blend.less.Reads as less-reads
 
--- src/blend.rt:196:14
 cast-less : tie.Need-cast-less
 cast-less c = search needs
 
--- src/blend.rt:196:10
 add-less : tie.Need-add-less
 add-less c = search needs
 
--- src/blend.rt:196:33
 cast-less-2 : tie.Need-cast-less-2
 cast-less-2 c = search needs
 
--- src/blend.rt:196:5
 less-requires : tie.Need-less-requires
 less-requires c κs = search needs
 
--- src/blend.rt:192:1
 returns : tie.Need-returns
 unfolding spotAt
 returns c = c .less .ensures

@@ -4,12 +4,10 @@ use Rattle.overlay.proofs.blend.step_of.Tie as tie
 use Rattle.overlay.proofs.blend.step_of.Reads as reads
 use Rattle.overlay.proofs.blend.step_of.Lts as lts
 
--- src/blend.rt:203:9
 returns : tie.Need-returns
 unfolding pick
 returns c = simp (c .if1 .taken)
 
--- src/blend.rt:199:1
 returns-2 : tie.Need-returns-2
 unfolding pick
 returns-2 c = simp (c .if1 .left)

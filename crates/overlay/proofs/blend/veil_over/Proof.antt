@@ -10,35 +10,27 @@ use Rattle.overlay.proofs.blend.veil_over.Lts as lts
 use Rattle.overlay.proofs.blend.least.Reads as least-reads
 use Rattle.overlay.proofs.blend.less.Reads as less-reads
 
--- src/blend.rt:73:29
 less-requires : tie.Need-less-requires
 less-requires c κs = search needs
 
--- src/blend.rt:73:16
 mul-least : tie.Need-mul-least
 mul-least c = omega (arith, under-small (c .before .args .v) (c .before .args .top) (c .less .result) (omega arith) (omega arith) (omega (arith, c .less .ensures)))
 
--- src/blend.rt:73:16
 add-least : tie.Need-add-least
 add-least c = omega (arith, under-small (c .before .args .v) (c .before .args .top) (c .less .result) (omega arith) (omega arith) (omega (arith, c .less .ensures)))
 
--- src/blend.rt:73:15
 div-least : tie.Need-div-least
 div-least c = search needs
 
--- src/blend.rt:73:11
 add-least-2 : tie.Need-add-least-2
 add-least-2 c = omega (arith, share-small (c .before .args .v) (c .before .args .top) (c .less .result) (omega arith) (omega arith) (omega (arith, c .less .ensures)))
 
--- src/blend.rt:73:5
 least-requires : tie.Need-least-requires
 least-requires c κs = search needs
 
--- src/blend.rt:73:5
 cast-result : tie.Need-cast-result
 cast-result c = search needs
 
--- src/blend.rt:67:1
 returns : tie.Need-returns
 unfolding veil
 returns c = rw (← (c .before .less .ensures)) (c .least .ensures)

@@ -11,40 +11,31 @@ use Rattle.overlay.proofs.draw.draw_overlay.Tie as tie
 use Rattle.overlay.proofs.draw.draw_overlay.Reads as reads
 use Rattle.overlay.proofs.draw.draw_overlay.Lts as lts
 
--- src/x
 fill-to-ycbcr-requires : tie.Need-fill-to-ycbcr-requires
 fill-to-ycbcr-requires c κs = search needs
 
--- src/x
 enum-known-samples : tie.Need-enum-known-samples
 enum-known-samples c = search needs
 
--- src/x
 enum-told : tie.Need-enum-told
 enum-told c = search needs
 
--- src/x
 returns : tie.Need-returns
 returns c = not-done _ _ (sym (ap filledOut (c .enum-told .given .1)) ∙ c .before .before .fill-to-ycbcr .ensures ∙ fill-taken (c .before .before .before .before .before .before .before .before .before .before .before .args .plan .descriptor .«canvas_fill») (c .before .before .before .before .before .before .before .before .before .before .before .args .plan .form .format .depth) (c .before .before .before .before .before .before .before .before .before .before .before .args .colour) (c .before .before .before .before .before .before .before .before .before .before .before .pre .0 .form .low) (c .before .before .before .before .before .before .before .before .before .before .before .pre .0 .form .high))
 
--- src/x
 fill-alpha-requires : tie.Need-fill-alpha-requires
 fill-alpha-requires c κs = c .before .before .before .before .before .before .before .before .before .before .before .before .pre .0 .form .high
 
--- src/x
 top-requires : tie.Need-top-requires
 top-requires c κs = c .before .before .before .before .before .before .before .before .before .before .before .before .before .pre .0 .form .high
 
--- src/x
 write-overlay-requires : tie.Need-write-overlay-requires
 unfolding fillFor
 write-overlay-requires c κs = (c .before .before .before .before .before .before .before .before .before .before .before .before .before .before .before .pre .0, c .before .top .ensures, drawn-room (c .before .before .before .before .before .before .before .before .before .before .before .before .before .before .before .args .plan .form) _ _ _ _ (layersAt (now (c .before .before .before .before .before .before .before .before .before .before .before .before .before .before .before .args .body)) (now (c .before .before .before .before .before .before .before .before .before .before .before .before .before .before .before .args .tray)) (now (c .before .before .before .before .before .before .before .before .before .before .before .before .before .before .before .args .premultiplied)) (c .before .before .before .before .before .before .before .before .before .before .before .before .before .before .before .args .plan)) _ (done-same _ _ (sym (ap filledOut (c .before .before .before .before .samples .given .1)) ∙ c .before .before .before .before .before .before .fill-to-ycbcr .ensures ∙ fill-taken (c .before .before .before .before .before .before .before .before .before .before .before .before .before .before .before .args .plan .descriptor .«canvas_fill») (c .before .before .before .before .before .before .before .before .before .before .before .before .before .before .before .args .plan .form .format .depth) (c .before .before .before .before .before .before .before .before .before .before .before .before .before .before .before .args .colour) (c .before .before .before .before .before .before .before .before .before .before .before .before .before .before .before .pre .0 .form .low) (c .before .before .before .before .before .before .before .before .before .before .before .before .before .before .before .pre .0 .form .high))) (c .before .before .fill-alpha .ensures) (c .before .before .before .before .before .before .before .before .before .before .before .before .before .before .before .pre .1))
 
--- src/x
 same-length : tie.Need-same-length
 same-length c = search needs
 
--- src/x
 returns-2 : tie.Need-returns-2
 unfolding fillFor
 returns-2 c = drawn-answer (c .before .before .before .before .before .before .before .before .before .before .before .before .before .before .before .before .before .before .args .plan .form) _ _ _ _ (layersAt (now (c .before .before .before .before .before .before .before .before .before .before .before .before .before .before .before .before .before .before .args .body)) (now (c .before .before .before .before .before .before .before .before .before .before .before .before .before .before .before .before .before .before .args .tray)) (now (c .before .before .before .before .before .before .before .before .before .before .before .before .before .before .before .before .before .before .args .premultiplied)) (c .before .before .before .before .before .before .before .before .before .before .before .before .before .before .before .before .before .before .args .plan)) _ _ _ (done-same _ _ (sym (ap filledOut (c .before .before .before .before .before .before .before .samples .given .1)) ∙ c .before .before .before .before .before .before .before .before .before .fill-to-ycbcr .ensures ∙ fill-taken (c .before .before .before .before .before .before .before .before .before .before .before .before .before .before .before .before .before .before .args .plan .descriptor .«canvas_fill») (c .before .before .before .before .before .before .before .before .before .before .before .before .before .before .before .before .before .before .args .plan .form .format .depth) (c .before .before .before .before .before .before .before .before .before .before .before .before .before .before .before .before .before .before .args .colour) (c .before .before .before .before .before .before .before .before .before .before .before .before .before .before .before .before .before .before .pre .0 .form .low) (c .before .before .before .before .before .before .before .before .before .before .before .before .before .before .before .before .before .before .pre .0 .form .high))) (c .before .before .before .before .before .fill-alpha .ensures) (c .before .before .write-overlay .ensures)

@@ -5,44 +5,36 @@ use Rattle.overlay.proofs.draw.fill_part.Tie as tie
 use Rattle.overlay.proofs.draw.fill_part.Reads as reads
 use Rattle.overlay.proofs.draw.fill_part.Lts as lts
 
--- src/draw.rt:32:23
 enum-told : tie.Need-enum-told
 enum-told c = search needs
 
--- src/draw.rt:33:21
 enum-told-2 : tie.Need-enum-told-2
 enum-told-2 c = search needs
 
--- src/draw.rt:34:21
 enum-told-3 : tie.Need-enum-told-3
 enum-told-3 c = search needs
 
--- src/draw.rt:35:24
 enum-told-4 : tie.Need-enum-told-4
 enum-told-4 c = search needs
 
--- src/draw.rt:27:1
 returns : tie.Need-returns
 unfolding fillPart
 returns c =
     simp (
     c .enum-told .given .1)
 
--- src/draw.rt:27:1
 returns-2 : tie.Need-returns-2
 unfolding fillPart
 returns-2 c =
     simp (
     c .enum-told2 .given .1)
 
--- src/draw.rt:27:1
 returns-3 : tie.Need-returns-3
 unfolding fillPart
 returns-3 c =
     simp (
     c .enum-told3 .given .1)
 
--- src/draw.rt:27:1
 returns-4 : tie.Need-returns-4
 unfolding fillPart
 returns-4 c =

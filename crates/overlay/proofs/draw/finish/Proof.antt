@@ -8,43 +8,33 @@ use Rattle.overlay.proofs.draw.finish.Lts as lts
 use Rattle.overlay.proofs.blend.least.Reads as least-reads
 use Rattle.overlay.proofs.draw.settle_by.Reads as settle-by-reads
 
--- src/draw.rt:68:23
 enum-told : tie.Need-enum-told
 enum-told c = search needs
 
--- src/draw.rt:68:23
 settle-by-requires : tie.Need-settle-by-requires
 settle-by-requires c κs = search needs
 
--- src/draw.rt:69:21
 enum-told-2 : tie.Need-enum-told-2
 enum-told-2 c = search needs
 
--- src/draw.rt:69:21
 settle-by-requires-2 : tie.Need-settle-by-requires-2
 settle-by-requires-2 c κs = search needs
 
--- src/draw.rt:70:21
 enum-told-3 : tie.Need-enum-told-3
 enum-told-3 c = search needs
 
--- src/draw.rt:70:21
 settle-by-requires-3 : tie.Need-settle-by-requires-3
 settle-by-requires-3 c κs = search needs
 
--- src/draw.rt:71:30
 enum-told-4 : tie.Need-enum-told-4
 enum-told-4 c = search needs
 
--- src/draw.rt:71:24
 least-requires : tie.Need-least-requires
 least-requires c κs = search needs
 
--- src/draw.rt:71:24
 cast-result : tie.Need-cast-result
 cast-result c = search needs
 
--- src/draw.rt:64:1
 returns : tie.Need-returns
 unfolding settled
 returns c =
@@ -53,7 +43,6 @@ returns c =
       sym (c .settle-by .ensures),
     )
 
--- src/draw.rt:64:1
 returns-2 : tie.Need-returns-2
 unfolding settled
 returns-2 c =
@@ -62,7 +51,6 @@ returns-2 c =
       sym (c .settle-by2 .ensures),
     )
 
--- src/draw.rt:64:1
 returns-3 : tie.Need-returns-3
 unfolding settled
 returns-3 c =
@@ -71,7 +59,6 @@ returns-3 c =
       sym (c .settle-by3 .ensures),
     )
 
--- src/draw.rt:64:1
 returns-4 : tie.Need-returns-4
 unfolding settled
 returns-4 c =

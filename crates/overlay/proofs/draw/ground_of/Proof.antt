@@ -11,70 +11,54 @@ use Rattle.overlay.proofs.draw.ground_of.Reads as reads
 use Rattle.overlay.proofs.draw.ground_of.Lts as lts
 use Rattle.overlay.proofs.draw.fill_part.Reads as fill-part-reads
 
--- src/draw.rt:43:16
 fill-part-requires : tie.Need-fill-part-requires
 fill-part-requires c κs = search needs
 
--- src/draw.rt:43:16
 cast-fill : tie.Need-cast-fill
 cast-fill c = search needs
 
--- src/draw.rt:45:30
 enum-told : tie.Need-enum-told
 enum-told c = search needs
 
--- src/draw.rt:45:30
 cast-result : tie.Need-cast-result
 cast-result c = search needs
 
--- src/draw.rt:45:23
 mul-result : tie.Need-mul-result
 mul-result c = omega (arith, sample-product (c .before .before .before .fill-part .result) (c .before .before .before .before .args .g .alpha) (search needs) (search needs))
 
--- src/draw.rt:46:28
 enum-told-2 : tie.Need-enum-told-2
 enum-told-2 c = search needs
 
--- src/draw.rt:46:28
 cast-result-2 : tie.Need-cast-result-2
 cast-result-2 c = search needs
 
--- src/draw.rt:46:21
 mul-result-2 : tie.Need-mul-result-2
 mul-result-2 c = omega (arith, sample-product (c .before .before .before .fill-part .result) (c .before .before .before .before .args .g .alpha) (search needs) (search needs))
 
--- src/draw.rt:47:28
 enum-told-3 : tie.Need-enum-told-3
 enum-told-3 c = search needs
 
--- src/draw.rt:47:28
 cast-result-3 : tie.Need-cast-result-3
 cast-result-3 c = search needs
 
--- src/draw.rt:47:21
 mul-result-3 : tie.Need-mul-result-3
 mul-result-3 c = omega (arith, sample-product (c .before .before .before .fill-part .result) (c .before .before .before .before .args .g .alpha) (search needs) (search needs))
 
--- src/draw.rt:48:24
 enum-told-4 : tie.Need-enum-told-4
 enum-told-4 c = search needs
 
--- src/draw.rt:40:1
 returns : tie.Need-returns
 unfolding ground fillPart
 returns c = ap (λ (k : ℕ). k * c .before .before .before .before .args .g .alpha) (c .before .before .before .fill-part .ensures) ∙ rw (c .before .enum-told .given .1)
 
--- src/draw.rt:40:1
 returns-2 : tie.Need-returns-2
 unfolding ground fillPart
 returns-2 c = ap (λ (k : ℕ). k * c .before .before .before .before .args .g .alpha) (c .before .before .before .fill-part .ensures) ∙ rw (c .before .enum-told2 .given .1)
 
--- src/draw.rt:40:1
 returns-3 : tie.Need-returns-3
 unfolding ground fillPart
 returns-3 c = ap (λ (k : ℕ). k * c .before .before .before .before .args .g .alpha) (c .before .before .before .fill-part .ensures) ∙ rw (c .before .enum-told3 .given .1)
 
--- src/draw.rt:40:1
 returns-4 : tie.Need-returns-4
 unfolding ground fillPart
 returns-4 c = c .before .before .fill-part .ensures ∙ rw (c .enum-told4 .given .1)

@@ -13,35 +13,27 @@ use Rattle.overlay.proofs.draw.lay_block.Tie as tie
 use Rattle.overlay.proofs.draw.lay_block.Reads as reads
 use Rattle.overlay.proofs.draw.lay_block.Lts as lts
 
--- src/x
 lay-inputs-requires : tie.Need-lay-inputs-requires
 lay-inputs-requires c κs = (c .before .before .before .before .before .before .before .before .before .before .pre .0 .offsets, c .before .before .before .before .before .before .before .before .before .before .pre .0 .list, c .before .before .before .before .before .before .before .before .before .before .pre .1, c .before .before .before .before .before .before .before .before .before .before .pre .2, c .before .before .before .before .before .before .before .before .before .before .pre .3)
 
--- src/x
 lay-inputs-requires-2 : tie.Need-lay-inputs-requires-2
 lay-inputs-requires-2 c κs = (c .before .before .before .before .before .before .before .before .before .before .before .before .before .before .pre .0 .offsets, c .before .before .before .before .before .before .before .before .before .before .before .before .before .before .pre .0 .list, c .before .before .before .before .before .before .before .before .before .before .before .before .before .before .pre .1, c .before .before .before .before .before .before .before .before .before .before .before .before .before .before .pre .2, c .before .before .before .before .before .before .before .before .before .before .before .before .before .before .pre .4)
 
--- src/x
 bytes-per-sample-requires : tie.Need-bytes-per-sample-requires
 bytes-per-sample-requires c κs = search needs
 
--- src/x
 write-run-requires : tie.Need-write-run-requires
 write-run-requires c κs = (rw (c .before .before .before .bytes-per-sample .ensures) (bytes-few (c .before .before .before .before .before .before .before .before .before .before .before .before .before .before .before .before .before .before .before .before .before .args .plan .form .format) .0), rw (c .before .before .before .bytes-per-sample .ensures) (bytes-few (c .before .before .before .before .before .before .before .before .before .before .before .before .before .before .before .before .before .before .before .before .before .args .plan .form .format) .1), omega (arith, c .before .before .before .before .before .before .before .before .before .before .before .before .before .before .before .before .before .before .before .before .before .pre .3, c .before .before .before .before .before .before .before .before .before .before .lay-inputs .kept .0), omega (arith, c .before .before .before .before .before .before .before .before .before .before .before .before .before .before .before .before .before .before .before .before .before .pre .4, c .before .before .before .before .before .before .lay-inputs2 .kept .0), rw (c .before .before .before .bytes-per-sample .ensures) (c .before .before .before .before .before .before .before .before .before .before .before .before .before .before .before .before .before .before .before .before .before .pre .5))
 
--- src/x
 same-length : tie.Need-same-length
 same-length c = search needs
 
--- src/x
 same-length-2 : tie.Need-same-length-2
 same-length-2 c = search needs
 
--- src/x
 same-length-3 : tie.Need-same-length-3
 same-length-3 c = search needs
 
--- src/x
 returns : tie.Need-returns
 returns c = (
   c .before .before .write-run .ensures .0 ∙ ap (λ (b : ℕ). c .before .before .before .before .before .before .before .before .before .before .before .before .before .before .before .before .before .before .before .before .before .before .before .before .args .at + c .before .before .before .before .before .before .before .before .before .before .before .before .before .before .before .before .before .before .before .before .before .before .before .before .args .run .count * b) (c .before .before .before .before .before .before .bytes-per-sample .ensures),

@@ -8,28 +8,22 @@ use Rattle.overlay.proofs.draw.settle_by.Reads as reads
 use Rattle.overlay.proofs.draw.settle_by.Lts as lts
 use Rattle.overlay.proofs.blend.least.Reads as least-reads
 
--- src/draw.rt:57:9
 returns : tie.Need-returns
 unfolding settle pick
 returns c = simp (eq-eqb _ _ (c .if1 .taken))
 
--- src/draw.rt:61:12
 add-least : tie.Need-add-least
 add-least c = search needs
 
--- src/draw.rt:61:11
 div-least : tie.Need-div-least
 div-least c = search needs
 
--- src/draw.rt:61:5
 least-requires : tie.Need-least-requires
 least-requires c κs = search needs
 
--- src/draw.rt:61:5
 cast-result : tie.Need-cast-result
 cast-result c = search needs
 
--- src/draw.rt:53:1
 returns-2 : tie.Need-returns-2
 unfolding settle pick
 returns-2 c = rw (ne-eqb _ _ (c .before .if1 .left)) (c .least .ensures)

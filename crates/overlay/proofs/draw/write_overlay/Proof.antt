@@ -27,31 +27,24 @@ w2 c = writing-run (planeBytes (overlayPic (c .before .before .before .before .b
 w3 : (c : tie.After-write-plane3) → Writing (now (c .before .before .before .before .before .before .before .before .before .before .before .before .before .before .before .before .before .before .args .out)) 0 (encode (overlayPic (c .before .before .before .before .before .before .before .before .before .before .before .before .before .before .before .before .before .before .args .plan .form) (backdropFill (c .before .before .before .before .before .before .before .before .before .before .before .before .before .before .before .before .before .before .args .g)) (layersAt (now (c .before .before .before .before .before .before .before .before .before .before .before .before .before .before .before .before .before .before .args .body)) (now (c .before .before .before .before .before .before .before .before .before .before .before .before .before .before .before .before .before .before .args .tray)) (now (c .before .before .before .before .before .before .before .before .before .before .before .before .before .before .before .before .before .before .args .premultiplied)) (c .before .before .before .before .before .before .before .before .before .before .before .before .before .before .before .before .before .before .args .plan)))) (c .write-plane3 .last .0) (c .write-plane3 .result) (planeBytes (overlayPic (c .before .before .before .before .before .before .before .before .before .before .before .before .before .before .before .before .before .before .args .plan .form) (backdropFill (c .before .before .before .before .before .before .before .before .before .before .before .before .before .before .before .before .before .before .args .g)) (layersAt (now (c .before .before .before .before .before .before .before .before .before .before .before .before .before .before .before .before .before .before .args .body)) (now (c .before .before .before .before .before .before .before .before .before .before .before .before .before .before .before .before .before .before .args .tray)) (now (c .before .before .before .before .before .before .before .before .before .before .before .before .before .before .before .before .before .before .args .premultiplied)) (c .before .before .before .before .before .before .before .before .before .before .before .before .before .before .before .before .before .before .args .plan))) Alpha)
 w3 c = writing-run (planeBytes (overlayPic (c .before .before .before .before .before .before .before .before .before .before .before .before .before .before .before .before .before .before .args .plan .form) (backdropFill (c .before .before .before .before .before .before .before .before .before .before .before .before .before .before .before .before .before .before .args .g)) (layersAt (now (c .before .before .before .before .before .before .before .before .before .before .before .before .before .before .before .before .before .before .args .body)) (now (c .before .before .before .before .before .before .before .before .before .before .before .before .before .before .before .before .before .before .args .tray)) (now (c .before .before .before .before .before .before .before .before .before .before .before .before .before .before .before .before .before .before .args .premultiplied)) (c .before .before .before .before .before .before .before .before .before .before .before .before .before .before .before .before .before .before .args .plan))) Cr) (w2 ((c .before .before .before .before))) (c .write-plane3 .ensures .0) (c .write-plane3 .ensures .1)
 
--- src/x
 write-head-requires : tie.Need-write-head-requires
 write-head-requires c κs = writing-fits (headBytes (c .before .before .before .before .before .args .plan .form)) _ (w ((c .before .before .before .before .before)))
 
--- src/x
 write-plane-requires : tie.Need-write-plane-requires
 write-plane-requires c κs = (c .before .before .before .before .before .before .before .before .before .pre .0, c .before .before .before .before .before .before .before .before .before .pre .1, writing-fits (planeBytes (overlayPic (c .before .before .before .before .before .before .before .before .before .args .plan .form) (backdropFill (c .before .before .before .before .before .before .before .before .before .args .g)) (layersAt (now (c .before .before .before .before .before .before .before .before .before .args .body)) (now (c .before .before .before .before .before .before .before .before .before .args .tray)) (now (c .before .before .before .before .before .before .before .before .before .args .premultiplied)) (c .before .before .before .before .before .before .before .before .before .args .plan))) Luma) _ (w0 ((c .before .before .before))))
 
--- src/x
 write-plane-requires-2 : tie.Need-write-plane-requires-2
 write-plane-requires-2 c κs = (c .before .before .before .before .before .before .before .before .before .before .before .before .before .pre .0, c .before .before .before .before .before .before .before .before .before .before .before .before .before .pre .1, writing-fits (planeBytes (overlayPic (c .before .before .before .before .before .before .before .before .before .before .before .before .before .args .plan .form) (backdropFill (c .before .before .before .before .before .before .before .before .before .before .before .before .before .args .g)) (layersAt (now (c .before .before .before .before .before .before .before .before .before .before .before .before .before .args .body)) (now (c .before .before .before .before .before .before .before .before .before .before .before .before .before .args .tray)) (now (c .before .before .before .before .before .before .before .before .before .before .before .before .before .args .premultiplied)) (c .before .before .before .before .before .before .before .before .before .before .before .before .before .args .plan))) Cb) _ (w1 ((c .before .before .before))))
 
--- src/x
 write-plane-requires-3 : tie.Need-write-plane-requires-3
 write-plane-requires-3 c κs = (c .before .before .before .before .before .before .before .before .before .before .before .before .before .before .before .before .before .pre .0, c .before .before .before .before .before .before .before .before .before .before .before .before .before .before .before .before .before .pre .1, writing-fits (planeBytes (overlayPic (c .before .before .before .before .before .before .before .before .before .before .before .before .before .before .before .before .before .args .plan .form) (backdropFill (c .before .before .before .before .before .before .before .before .before .before .before .before .before .before .before .before .before .args .g)) (layersAt (now (c .before .before .before .before .before .before .before .before .before .before .before .before .before .before .before .before .before .args .body)) (now (c .before .before .before .before .before .before .before .before .before .before .before .before .before .before .before .before .before .args .tray)) (now (c .before .before .before .before .before .before .before .before .before .before .before .before .before .before .before .before .before .args .premultiplied)) (c .before .before .before .before .before .before .before .before .before .before .before .before .before .before .before .before .before .args .plan))) Cr) _ (w2 ((c .before .before .before))))
 
--- src/x
 write-plane-requires-4 : tie.Need-write-plane-requires-4
 write-plane-requires-4 c κs = (c .before .before .before .before .before .before .before .before .before .before .before .before .before .before .before .before .before .before .before .before .before .pre .0, c .before .before .before .before .before .before .before .before .before .before .before .before .before .before .before .before .before .before .before .before .before .pre .1, w3 ((c .before .before .before)) .room)
 
--- src/x
 same-length : tie.Need-same-length
 same-length c = search needs
 
--- src/x
 returns : tie.Need-returns
 returns c = writing-ended (w3 ((c .before .before .before .before .before .before))) (c .before .before .write-plane4 .ensures .0) (c .before .before .write-plane4 .ensures .1)
 

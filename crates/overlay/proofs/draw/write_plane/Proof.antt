@@ -19,27 +19,21 @@ start c = writing-begin _ _ _ _ (plane-some (overlayPic (c .before .before .befo
 first : (c : tie.After-write-plane-head) → Writing (now (c .before .before .before .before .before .before .before .before .before .before .args .out)) (c .before .before .before .before .before .before .before .before .before .before .args .at) (planeBytes (overlayPic (c .before .before .before .before .before .before .before .before .before .before .args .plan .form) (backdropFill (c .before .before .before .before .before .before .before .before .before .before .args .g)) (layersAt (now (c .before .before .before .before .before .before .before .before .before .before .args .body)) (now (c .before .before .before .before .before .before .before .before .before .before .args .tray)) (now (c .before .before .before .before .before .before .before .before .before .before .args .premultiplied)) (c .before .before .before .before .before .before .before .before .before .before .args .plan))) (c .before .before .before .before .before .before .before .before .before .before .args .part)) (c .write-plane-head .last .0) (c .write-plane-head .result) (rowsBytes (overlayPic (c .before .before .before .before .before .before .before .before .before .before .args .plan .form) (backdropFill (c .before .before .before .before .before .before .before .before .before .before .args .g)) (layersAt (now (c .before .before .before .before .before .before .before .before .before .before .args .body)) (now (c .before .before .before .before .before .before .before .before .before .before .args .tray)) (now (c .before .before .before .before .before .before .before .before .before .before .args .premultiplied)) (c .before .before .before .before .before .before .before .before .before .before .args .plan))) (c .before .before .before .before .before .before .before .before .before .before .args .part))
 first c = writing-run (planeHead (c .before .before .before .before .before .before .before .before .before .before .args .plan .form) (c .before .before .before .before .before .before .before .before .before .before .args .part)) (start ((c .before .before))) (c .write-plane-head .ensures .0) (c .write-plane-head .ensures .1)
 
--- src/x
 has-requires : tie.Need-has-requires
 has-requires c κs = search needs
 
--- src/x
 write-plane-head-requires : tie.Need-write-plane-head-requires
 write-plane-head-requires c κs = (c .before .before .before .before .before .before .before .before .before .pre .0 .form, writing-fits (planeHead (c .before .before .before .before .before .before .before .before .before .args .plan .form) (c .before .before .before .before .before .before .before .before .before .args .part)) _ (start ((c .before))))
 
--- src/x
 write-rows-requires : tie.Need-write-rows-requires
 write-rows-requires c κs = (c .before .before .before .before .before .before .before .before .before .before .before .before .before .pre .0, c .before .before .before .before .before .before .before .before .before .before .before .before .before .pre .1, first ((c .before .before .before)) .room)
 
--- src/x
 same-length : tie.Need-same-length
 same-length c = search needs
 
--- src/x
 returns : tie.Need-returns
 returns c = writing-last (first ((c .before .before .before .before .before .before))) (c .before .before .write-rows .ensures .0) (c .before .before .write-rows .ensures .1)
 
--- src/x
 returns-2 : tie.Need-returns-2
 unfolding overlayPic
 returns-2 c = writing-none (now (c .before .before .before .before .before .before .before .before .args .out)) (c .before .before .before .before .before .before .before .before .args .at) _ (plane-none (overlayPic (c .before .before .before .before .before .before .before .before .args .plan .form) (backdropFill (c .before .before .before .before .before .before .before .before .args .g)) (layersAt (now (c .before .before .before .before .before .before .before .before .args .body)) (now (c .before .before .before .before .before .before .before .before .args .tray)) (now (c .before .before .before .before .before .before .before .before .args .premultiplied)) (c .before .before .before .before .before .before .before .before .args .plan))) (c .before .before .before .before .before .before .before .before .args .part) (sym (c .before .has .ensures) ∙ c .if1 .left))

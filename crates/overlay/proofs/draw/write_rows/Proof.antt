@@ -58,60 +58,46 @@ going : (c : tie.After-least Inv-loop μ-loop) → Writing (now (c .before .befo
 unfolding block
 going c = writing-as (c .before .before .loop .inv .1) (flat-next (bytesOf (c .before .before .before .before .before .before .before .before .before .before .before .before .before .args .plan .form .format)) (λ q. placeAt (c .before .before .before .before .before .before .before .before .before .before .before .before .before .args .g .top) (backdropFill (c .before .before .before .before .before .before .before .before .before .before .before .before .before .args .g)) (layersAt (now (c .before .before .before .before .before .before .before .before .before .before .before .before .before .args .body)) (now (c .before .before .before .before .before .before .before .before .before .before .before .before .before .args .tray)) (now (c .before .before .before .before .before .before .before .before .before .before .before .before .before .args .premultiplied)) (c .before .before .before .before .before .before .before .before .before .before .before .before .before .args .plan)) (c .before .before .before .before .before .before .before .before .before .before .before .before .before .args .part) (base (c .before .before .before .before .half-width .result) (q % c .before .before .before .before .before .before .columns .result)) (base (c .before .before .before .half-height .result) (q / c .before .before .before .before .before .before .columns .result))) (c .before .before .loop .start) (c .least .result) (c .before .before .before .before .before .rows .result * c .before .before .before .before .before .before .columns .result) (within c .0))
 
--- src/draw.rt:149:9
 columns-requires : tie.Need-columns-requires Inv-loop μ-loop
 columns-requires c κs = search needs
 
--- src/draw.rt:150:9
 rows-requires : tie.Need-rows-requires Inv-loop μ-loop
 rows-requires c κs = search needs
 
--- src/draw.rt:151:9
 half-width-requires : tie.Need-half-width-requires Inv-loop μ-loop
 half-width-requires c κs = search needs
 
--- src/draw.rt:152:9
 half-height-requires : tie.Need-half-height-requires Inv-loop μ-loop
 half-height-requires c κs = search needs
 
--- src/draw.rt:153:17
 mul-total : tie.Need-mul-total Inv-loop μ-loop
 mul-total c = omega (arith, small c)
 
--- src/draw.rt:156:5
 loop-holds : tie.Need-loop-holds Inv-loop μ-loop
 loop-holds c = (omega arith, writing-begin _ _ _ _ (flat (c)) (c .before .before .before .before .before .before .before .before .before .before .pre .2))
 
--- src/draw.rt:157:27
 sub-least : tie.Need-sub-least Inv-loop μ-loop
 sub-least c = search needs
 
--- src/draw.rt:157:13
 least-requires : tie.Need-least-requires Inv-loop μ-loop
 least-requires c κs = search needs
 
--- src/draw.rt:165:9
 write-block-requires : tie.Need-write-block-requires Inv-loop μ-loop
 write-block-requires c κs = (c .before .before .before .before .before .before .before .before .before .before .before .before .before .before .pre .0, rw (c .before .before .before .before .before .before .before .before .before .before .before .before .before .before .pre .1) (top-some _ (c .before .before .before .before .before .before .before .before .before .before .before .before .before .before .pre .0 .form .low)), stripe ((c .before .before .before .before)) (c .before .before .before .loop .start) (c .before .least .result) (within ((c .before)) .0), within ((c .before)) .1, rw (← (long ((c .before)))) (writing-fits (block ((c .before))) _ (going ((c .before)))))
 
--- src/draw.rt:176:9
 add-start : tie.Need-add-start Inv-loop μ-loop
 add-start c = omega (arith, within ((c .before .before .before .before)), small ((c .before .before .before .before .before .before .before)))
 
--- src/draw.rt:156:5
 loop-less : tie.Need-loop-less Inv-loop μ-loop
 loop-less c = omega (arith, within ((c .before .before .before .before)), c .before .before .before .before .before .loop-test .taken)
 
--- src/draw.rt:156:5
 loop-again : tie.Need-loop-again Inv-loop μ-loop
 unfolding block acrossAt downAt
 loop-again c = (within ((c .before .before .before .before)) .0, writing-run (block ((c .before .before .before .before))) (going ((c .before .before .before .before))) (c .before .before .write-block .ensures .0 ∙ ap (λ (k : ℕ). c .before .before .before .before .before .before .loop .i + k) (sym (long ((c .before .before .before .before))))) (c .before .before .write-block .ensures .1))
 
--- src/draw.rt:132:1
 same-length : tie.Need-same-length Inv-loop μ-loop
 same-length c = c .before .loop .inv .1 .long
 
--- src/draw.rt:132:1
 returns : tie.Need-returns Inv-loop μ-loop
 returns c = writing-done (writing-as (c .before .loop .inv .1) (span-end _ _ _ (c .loop-test .left)))
 

@@ -40,57 +40,44 @@ going : (c : tie.In-loop Inv-loop μ-loop) → Writing (now (c .before .before .
 unfolding item
 going c = writing-as (c .before .loop .inv .2) (step c)
 
--- src/draw.rt:91:9
 fill-part-requires : tie.Need-fill-part-requires Inv-loop μ-loop
 fill-part-requires c κs = search needs
 
--- src/draw.rt:94:5
 loop-holds : tie.Need-loop-holds Inv-loop μ-loop
 unfolding samplesOf
 loop-holds c = (omega arith, omega arith, writing-start _ _ _ (omega (arith, c .before .before .before .before .pre .4, length-samplesOf (c .before .before .before .before .args .bytes) (λ j. settled (c .before .before .before .before .args .g .top) (c .before .before .before .before .args .part) (c .fill-part .result) (getD (now (c .before .before .before .before .args .colour)) j 0) (getD (now (c .before .before .before .before .args .opacity)) j 0)) (c .before .before .before .before .args .n) (c .before .before .before .before .pre .0) (c .before .before .before .before .pre .1))))
 
--- src/draw.rt:95:17
 mul-v : tie.Need-mul-v Inv-loop μ-loop
 mul-v c = omega (arith, c .before .before .before .before .before .before .pre .2, c .loop-test .taken)
 
--- src/draw.rt:95:17
 shared-slice-read-v : tie.Need-shared-slice-read-v Inv-loop μ-loop
 shared-slice-read-v c = omega (arith, c .before .before .before .before .before .before .before .pre .2, c .before .loop-test .taken)
 
--- src/draw.rt:96:17
 mul-a : tie.Need-mul-a Inv-loop μ-loop
 mul-a c = omega (arith, c .before .before .before .before .before .before .before .pre .3, c .before .loop-test .taken)
 
--- src/draw.rt:96:17
 shared-slice-read-a : tie.Need-shared-slice-read-a Inv-loop μ-loop
 shared-slice-read-a c = omega (arith, c .before .before .before .before .before .before .before .before .pre .3, c .before .before .loop-test .taken)
 
--- src/draw.rt:97:46
 finish-requires : tie.Need-finish-requires Inv-loop μ-loop
 finish-requires c κs = search needs
 
--- src/draw.rt:97:9
 put-sample-requires : tie.Need-put-sample-requires Inv-loop μ-loop
 put-sample-requires c κs = (c .before .before .before .before .before .before .before .before .before .before .pre .0, c .before .before .before .before .before .before .before .before .before .before .pre .1, rw (← (long ((c .before .before .before .before)))) (writing-fits (item ((c .before .before .before .before)) (c .before .before .before .before .before .loop .k)) _ (going ((c .before .before .before .before)))))
 
--- src/draw.rt:98:9
 add-k : tie.Need-add-k Inv-loop μ-loop
 add-k c = search needs
 
--- src/draw.rt:94:5
 loop-less : tie.Need-loop-less Inv-loop μ-loop
 loop-less c = search needs
 
--- src/draw.rt:94:5
 loop-again : tie.Need-loop-again Inv-loop μ-loop
 unfolding item
 loop-again c = (omega (arith, c .before .before .before .before .before .before .before .loop-test .taken), omega (arith, c .before .before .put-sample .ensures .0, c .before .before .before .before .before .before .before .before .loop .inv .1), writing-run (item ((c .before .before .before .before .before .before .before)) (c .before .before .before .before .before .before .before .before .loop .k)) (going ((c .before .before .before .before .before .before .before))) (c .before .before .put-sample .ensures .0 ∙ ap (λ (k : ℕ). c .before .before .before .before .before .before .before .before .loop .i + k) (sym (long ((c .before .before .before .before .before .before .before))))) (c .before .before .put-sample .ensures .1 ∙ ap (puts (c .before .before .before .before .before .before .before .before .loop .out) (c .before .before .before .before .before .before .before .before .loop .i)) (ap (sampleBytes (c .before .before .before .before .before .before .before .before .before .before .before .before .before .args .bytes)) (c .before .before .before .finish .ensures))))
 
--- src/draw.rt:76:1
 same-length : tie.Need-same-length Inv-loop μ-loop
 same-length c = c .before .loop .inv .2 .long
 
--- src/draw.rt:76:1
 returns : tie.Need-returns Inv-loop μ-loop
 returns c = let e : c .before .loop .k ≡ c .before .before .before .before .before .before .args .n = omega (arith, c .before .loop .inv .0, c .loop-test .left) in (c .before .loop .inv .1 ∙ ap (λ (x : ℕ). c .before .before .before .before .before .before .args .at + x * c .before .before .before .before .before .before .args .bytes) e, writing-done (writing-as (c .before .loop .inv .2) (span-end _ _ _ (c .loop-test .left))) .1 ∙ ap (puts (now (c .before .before .before .before .before .before .args .out)) (c .before .before .before .before .before .before .args .at)) (ap (λ (q : ℕ). samplesOf (c .before .before .before .before .before .before .args .bytes) (λ j. settled (c .before .before .before .before .before .before .args .g .top) (c .before .before .before .before .before .before .args .part) q (getD (now (c .before .before .before .before .before .before .args .colour)) j 0) (getD (now (c .before .before .before .before .before .before .args .opacity)) j 0)) (c .before .before .before .before .before .before .args .n)) (c .before .before .fill-part .ensures)))
 

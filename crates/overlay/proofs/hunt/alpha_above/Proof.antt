@@ -38,71 +38,54 @@ Inv-search tray first count top found₀ at₀ i₀ found at i = (i ≤ count) �
 abbrev μ-search : tie.MeasureT-search
 μ-search tray first count top found₀ at₀ i₀ found at i = count - i
 
--- src/hunt.rt:65:5
 search-holds : tie.Need-search-holds Inv-loop2 μ-loop2 Inv-loop μ-loop Inv-search μ-search
 search-holds c = (omega arith, refl, rw (sub-zero (c .before .args .count)) refl)
 
--- src/hunt.rt:66:13
 alpha-at-requires : tie.Need-alpha-at-requires Inv-loop2 μ-loop2 Inv-loop μ-loop Inv-search μ-search
 alpha-at-requires c κs = search needs
 
--- src/hunt.rt:70:13
 plane-data-requires : tie.Need-plane-data-requires Inv-loop2 μ-loop2 Inv-loop μ-loop Inv-search μ-search
 plane-data-requires c κs = seen-inside (now (c .before .before .before .before .before .args .tray)) (c .before .before .before .search .at) (c .before .before .before .before .before .args .top) (c .before .alpha-at .result) _ (c .before .alpha-at .ensures) refl
 
--- src/hunt.rt:73:9
 loop-holds : tie.Need-loop-holds Inv-loop2 μ-loop2 Inv-loop μ-loop Inv-search μ-search
 loop-holds c = (omega arith, c .before .before .before .before .search .inv .1, below-none _)
 
--- src/hunt.rt:74:13
 loop2-holds : tie.Need-loop2-holds Inv-loop2 μ-loop2 Inv-loop μ-loop Inv-search μ-search
 loop2-holds c = (omega arith, c .before .loop .inv .1, below-none _)
 
--- src/hunt.rt:75:20
 sample-requires : tie.Need-sample-requires Inv-loop2 μ-loop2 Inv-loop μ-loop Inv-search μ-search
 sample-requires c κs = seen-shown (now (c .before .before .before .before .before .before .before .before .before .before .args .tray)) (c .before .before .before .before .before .before .before .before .search .at) (c .before .before .before .before .before .before .before .before .before .before .args .top) (c .before .before .before .before .before .before .alpha-at .result) _ (c .before .before .before .before .before .before .alpha-at .ensures) (c .before .before .before .before .plane-data .ensures) (c .before .loop2 .x) (c .before .before .before .loop .y) (c .loop2-test .taken) (c .before .before .loop-test .taken)
 
--- src/hunt.rt:74:17
 add-x : tie.Need-add-x Inv-loop2 μ-loop2 Inv-loop μ-loop Inv-search μ-search
 add-x c = search needs
 
--- src/hunt.rt:74:13
 loop2-less : tie.Need-loop2-less Inv-loop2 μ-loop2 Inv-loop μ-loop Inv-search μ-search
 loop2-less c = search needs
 
--- src/hunt.rt:74:13
 loop2-again : tie.Need-loop2-again Inv-loop2 μ-loop2 Inv-loop μ-loop Inv-search μ-search
 loop2-again c = (search needs, c .before .before .before .loop2 .inv .1, below-more _ _ (c .before .before .before .loop2 .inv .2) (rw (c .before .sample .ensures) at (c .if1 .left)))
 
--- src/hunt.rt:73:13
 add-y : tie.Need-add-y Inv-loop2 μ-loop2 Inv-loop μ-loop Inv-search μ-search
 add-y c = search needs
 
--- src/hunt.rt:73:9
 loop-less : tie.Need-loop-less Inv-loop2 μ-loop2 Inv-loop μ-loop Inv-search μ-search
 loop-less c = search needs
 
--- src/hunt.rt:73:9
 loop-again : tie.Need-loop-again Inv-loop2 μ-loop2 Inv-loop μ-loop Inv-search μ-search
 loop-again c = (search needs, c .before .loop2 .inv .1, below-more _ _ (c .before .before .before .loop .inv .2) (λ x h. c .before .loop2 .inv .2 x (lt-of-lt-of-le h (c .loop2-test .left))))
 
--- src/hunt.rt:65:18
 add-i : tie.Need-add-i Inv-loop2 μ-loop2 Inv-loop μ-loop Inv-search μ-search
 add-i c = search needs
 
--- src/hunt.rt:65:5
 search-less : tie.Need-search-less Inv-loop2 μ-loop2 Inv-loop μ-loop Inv-search μ-search
 search-less c = search needs
 
--- src/hunt.rt:65:5
 search-again : tie.Need-search-again Inv-loop2 μ-loop2 Inv-loop μ-loop Inv-search μ-search
 search-again c = (search needs, c .before .loop .inv .1, c .before .before .before .before .before .before .search .inv .2 ∙ seen-clear (now (c .before .before .before .before .before .before .before .before .args .tray)) (c .before .before .before .before .before .before .search .at) (c .before .before .before .before .before .before .before .before .args .top) (c .before .before .before .before .alpha-at .result) _ (c .before .before .before .before .alpha-at .ensures) (c .before .before .plane-data .ensures) _ (omega (arith, c .before .before .before .before .before .search-test .taken)) (λ y g x h. c .before .loop .inv .2 y (lt-of-lt-of-le g (c .loop-test .left)) x h) ∙ ap (λ (k : ℕ). some (alphaAbove (now (c .before .before .before .before .before .before .before .before .args .tray)) (c .before .before .before .before .before .before .before .before .args .top)) (framesFrom k (now (c .before .before .before .before .before .before .before .before .args .tray)) (c .before .before .before .before .alpha-at .result .end))) (less-one _ _))
 
--- src/hunt.rt:60:1
 returns : tie.Need-returns Inv-loop2 μ-loop2 Inv-loop μ-loop Inv-search μ-search
 returns c = c .before .search .inv .1 ∙ sym (c .before .search .inv .2 ∙ some-none _ _ _ _ (omega (arith, c .search-test .left)))
 
--- src/hunt.rt:60:1
 returns-2 : tie.Need-returns-2 Inv-loop2 μ-loop2 Inv-loop μ-loop Inv-search μ-search
 returns-2 c = sym (c .before .before .before .before .before .before .before .before .before .before .search .inv .2 ∙ seen-found (now (c .before .before .before .before .before .before .before .before .before .before .before .before .args .tray)) (c .before .before .before .before .before .before .before .before .before .before .search .at) (c .before .before .before .before .before .before .before .before .before .before .before .before .args .top) (c .before .before .before .before .before .before .before .before .alpha-at .result) _ (c .before .before .before .before .before .before .before .before .alpha-at .ensures) (c .before .before .before .before .before .before .plane-data .ensures) _ (c .before .before .before .loop2 .x) (c .before .before .before .before .before .loop .y) (omega (arith, c .before .before .before .before .before .before .before .before .before .search-test .taken)) (c .before .before .loop2-test .taken) (c .before .before .before .before .loop-test .taken) (rw (c .before .sample .ensures) at (c .if1 .taken)))
 

@@ -14,52 +14,40 @@ use Rattle.image.proofs.format.PixelFormat.has.Reads as has-reads
 use Rattle.image.proofs.read_record.Reads as read-record-reads
 use Rattle.overlay.proofs.hunt.no_alpha.Reads as no-alpha-reads
 
--- src/hunt.rt:39:11
 read-record-requires : tie.Need-read-record-requires
 read-record-requires c κs = search needs
 
--- src/hunt.rt:40:34
 enum-told : tie.Need-enum-told
 enum-told c = search needs
 
--- src/hunt.rt:40:34
 no-alpha-requires : tie.Need-no-alpha-requires
 no-alpha-requires c κs = search needs
 
--- src/hunt.rt:41:25
 enum-known-fr : tie.Need-enum-known-fr
 enum-known-fr c = search needs
 
--- src/hunt.rt:44:17
 has-requires : tie.Need-has-requires
 has-requires c κs = search needs
 
--- src/hunt.rt:45:17
 no-alpha-requires-2 : tie.Need-no-alpha-requires-2
 no-alpha-requires-2 c κs = search needs
 
--- src/hunt.rt:45:17
 returns : tie.Need-returns
 unfolding hasPart
 returns c = c .no-alpha2 .ensures ∙ sym (found-none _ _ _ (sym (c .before .before .before .before .before .before .before .before .read-record .ensures) ∙ ap frameOut (c .before .before .before .before .before .before .fr .given .1)) (not-true _ (ap not (sym (c .before .before .has .ensures)) ∙ c .before .if1 .taken)))
 
--- src/hunt.rt:50:24
 bytes-per-sample-requires : tie.Need-bytes-per-sample-requires
 bytes-per-sample-requires c κs = search needs
 
--- src/hunt.rt:51:26
 cast-t13 : tie.Need-cast-t13
 cast-t13 c = search needs
 
--- src/hunt.rt:52:23
 cast-t14 : tie.Need-cast-t14
 cast-t14 c = search needs
 
--- src/hunt.rt:36:1
 returns-2 : tie.Need-returns-2
 returns-2 c = c .no-alpha .ensures ∙ sym (found-refused _ _ _ (sym (c .before .before .before .read-record .ensures) ∙ ap frameOut (c .before .enum-told .given .1)))
 
--- src/hunt.rt:36:1
 returns-3 : tie.Need-returns-3
 unfolding hasPart
 returns-3 c = sym (found-some _ _ _ _ (sym (c .before .before .before .before .before .before .before .before .before .before .before .read-record .ensures) ∙ ap frameOut (c .before .before .before .before .before .before .before .before .before .fr .given .1)) (not-false _ (ap not (sym (c .before .before .before .before .before .has .ensures)) ∙ c .before .before .before .before .if1 .left)) (c .before .before .bytes-per-sample .ensures))

@@ -5,7 +5,6 @@ use Rattle.overlay.proofs.hunt.no_alpha.Tie as tie
 use Rattle.overlay.proofs.hunt.no_alpha.Reads as reads
 use Rattle.overlay.proofs.hunt.no_alpha.Lts as lts
 
--- src/hunt.rt:20:1
 returns : tie.Need-returns
 unfolding noAlpha
 returns c = refl

@@ -4,12 +4,10 @@ use Rattle.overlay.proofs.inputs.choose.Tie as tie
 use Rattle.overlay.proofs.inputs.choose.Reads as reads
 use Rattle.overlay.proofs.inputs.choose.Lts as lts
 
--- src/inputs.rt:74:9
 returns : tie.Need-returns
 unfolding pick
 returns c = simp (c .if1 .taken)
 
--- src/inputs.rt:70:1
 returns-2 : tie.Need-returns-2
 unfolding pick
 returns-2 c = simp (c .if1 .left)

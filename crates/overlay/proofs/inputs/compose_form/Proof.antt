@@ -14,39 +14,30 @@ use Rattle.image.proofs.both.Reads as both-reads
 use Rattle.image.proofs.either.Reads as either-reads
 use Rattle.overlay.proofs.inputs.choose.Reads as choose-reads
 
--- src/inputs.rt:84:9
 both-requires : tie.Need-both-requires
 both-requires c κs = search needs
 
--- src/inputs.rt:85:9
 needs-444-requires : tie.Need-needs-444-requires
 needs-444-requires c κs = search needs
 
--- src/inputs.rt:87:9
 either-requires : tie.Need-either-requires
 either-requires c κs = search needs
 
--- src/inputs.rt:86:9
 either-requires-2 : tie.Need-either-requires-2
 either-requires-2 c κs = search needs
 
--- src/inputs.rt:91:23
 fill-alpha-requires : tie.Need-fill-alpha-requires
 fill-alpha-requires c κs = search needs
 
--- src/inputs.rt:91:67
 top-requires : tie.Need-top-requires
 top-requires c κs = search needs
 
--- src/inputs.rt:96:21
 choose-requires : tie.Need-choose-requires
 choose-requires c κs = search needs
 
--- src/inputs.rt:98:20
 choose-requires-2 : tie.Need-choose-requires-2
 choose-requires-2 c κs = search needs
 
--- src/inputs.rt:80:1
 returns : tie.Need-returns
 unfolding notedForm isMono
 returns c =

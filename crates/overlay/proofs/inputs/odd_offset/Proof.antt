@@ -8,19 +8,15 @@ use Rattle.overlay.proofs.inputs.odd_offset.Lts as lts
 use Rattle.image.proofs.either.Reads as either-reads
 use Rattle.image.proofs.is_odd.Reads as is-odd-reads
 
--- src/inputs.rt:51:19
 is-odd-requires : tie.Need-is-odd-requires
 is-odd-requires c κs = search needs
 
--- src/inputs.rt:51:36
 is-odd-requires-2 : tie.Need-is-odd-requires-2
 is-odd-requires-2 c κs = search needs
 
--- src/inputs.rt:51:5
 either-requires : tie.Need-either-requires
 either-requires c κs = search needs
 
--- src/inputs.rt:48:1
 returns : tie.Need-returns
 unfolding oddOffset
 returns c =

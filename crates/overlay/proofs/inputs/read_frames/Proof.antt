@@ -21,68 +21,52 @@ Inv-loop body tray d first f count at₀ i₀ so-far₀ at i so-far = (i ≤ d .
 abbrev μ-loop : tie.MeasureT-loop
 μ-loop body tray d first f count at₀ i₀ so-far₀ at i so-far = d .count - i
 
--- src/inputs.rt:121:21
 is-odd-requires : tie.Need-is-odd-requires Inv-loop μ-loop
 is-odd-requires c κs = search needs
 
--- src/inputs.rt:122:19
 is-odd-requires-2 : tie.Need-is-odd-requires-2 Inv-loop μ-loop
 is-odd-requires-2 c κs = search needs
 
--- src/inputs.rt:124:5
 loop-holds : tie.Need-loop-holds Inv-loop μ-loop
 unfolding nothingNoted
 loop-holds c = (omega arith, seen-none _ _ _ _ _ _ (rw (c .before .is-odd .ensures, c .is-odd2 .ensures) refl))
 
--- src/inputs.rt:125:15
 read-record-requires : tie.Need-read-record-requires Inv-loop μ-loop
 read-record-requires c κs = search needs
 
--- src/inputs.rt:126:32
 enum-known-e : tie.Need-enum-known-e Inv-loop μ-loop
 enum-known-e c = search needs
 
--- src/inputs.rt:127:17
 returns : tie.Need-returns Inv-loop μ-loop
 returns c = sym (plan-refused _ _ _ _ _ _ (c .before .before .before .before .before .loop .inv .1 .left ∙ preceded-refused (c .before .before .before .before .before .loop .inv .1 .seen) _ _ _ _ (omega (arith, c .before .before .before .before .loop-test .taken)) (sym (c .before .before .before .read-record .ensures) ∙ ap frameOut (c .before .e .given .1))))
 
--- src/inputs.rt:129:29
 enum-known-fr : tie.Need-enum-known-fr Inv-loop μ-loop
 enum-known-fr c = search needs
 
--- src/inputs.rt:130:51
 offset-requires : tie.Need-offset-requires Inv-loop μ-loop
 offset-requires c κs = (c .before .before .before .before .before .before .before .before .before .before .pre .0, c .before .before .before .before .loop-test .taken)
 
--- src/inputs.rt:130:17
 note-requires : tie.Need-note-requires Inv-loop μ-loop
 note-requires c κs = search needs
 
--- src/inputs.rt:134:9
 add-i : tie.Need-add-i Inv-loop μ-loop
 add-i c = omega (arith, c .before .before .before .before .before .before .loop-test .taken, c .before .before .before .before .before .before .before .before .before .before .before .before .pre .0 .count)
 
--- src/inputs.rt:124:5
 loop-less : tie.Need-loop-less Inv-loop μ-loop
 loop-less c = search needs
 
--- src/inputs.rt:124:5
 loop-again : tie.Need-loop-again Inv-loop μ-loop
 loop-again c = (omega (arith, c .before .before .before .before .before .before .loop-test .taken), seen-more _ _ _ _ _ _ _ _ _ _ _ (c .before .before .before .before .before .before .loop-test .taken) (sym (c .before .before .before .before .before .read-record .ensures) ∙ ap frameOut (c .before .before .before .fr .given .1)) (c .note .ensures) (c .before .offset .ensures) (c .before .before .before .before .before .before .before .loop .inv .1))
 
--- src/inputs.rt:137:9
 returns-2 : tie.Need-returns-2 Inv-loop μ-loop
 returns-2 c = sym (plan-refused _ _ _ _ _ _ (c .before .before .loop .inv .1 .left ∙ preceded-left (c .before .before .loop .inv .1 .seen) _ _ _ (omega (arith, c .before .loop-test .left)) (c .if1 .taken)))
 
--- src/inputs.rt:140:9
 returns-3 : tie.Need-returns-3 Inv-loop μ-loop
 returns-3 c = sym (plan-depth _ _ _ _ _ (c .before .before .before .loop .inv .1 .seen) _ (c .before .before .before .loop .inv .1 .left ∙ preceded-end (c .before .before .before .loop .inv .1 .seen) _ _ _ (omega (arith, c .before .before .loop-test .left)) (c .before .if1 .left)) (c .before .before .before .loop .inv .1 .notes) (c .if2 .taken))
 
--- src/inputs.rt:145:15
 compose-form-requires : tie.Need-compose-form-requires Inv-loop μ-loop
 compose-form-requires c κs = c .before .before .before .before .before .before .before .before .pre .1
 
--- src/inputs.rt:104:1
 returns-4 : tie.Need-returns-4 Inv-loop μ-loop
 returns-4 c = sym (plan-done _ _ _ _ _ (c .before .before .before .before .loop .inv .1 .seen) _ (c .before .before .before .before .loop .inv .1 .left ∙ preceded-end (c .before .before .before .before .loop .inv .1 .seen) _ _ _ (omega (arith, c .before .before .before .loop-test .left)) (c .before .before .if1 .left)) (c .before .before .before .before .loop .inv .1 .notes) _ (c .before .if2 .left) (c .compose-form .ensures))
 

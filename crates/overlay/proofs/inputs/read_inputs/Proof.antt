@@ -13,51 +13,39 @@ use Rattle.derived.proofs.overlay.OverlayDescriptor.parse.Reads as parse-reads
 use Rattle.image.proofs.read_record.Reads as read-record-reads
 use Rattle.overlay.proofs.inputs.read_frames.Reads as read-frames-reads
 
--- src/inputs.rt:160:11
 parse-requires : tie.Need-parse-requires
 parse-requires c κs = search needs
 
--- src/inputs.rt:161:30
 enum-known-e : tie.Need-enum-known-e
 enum-known-e c = search needs
 
--- src/inputs.rt:162:27
 enum-known-d : tie.Need-enum-known-d
 enum-known-d c = search needs
 
--- src/inputs.rt:164:17
 returns : tie.Need-returns
 returns c = sym (plan-none _ _ _ _ _ (record { chroma = 0; depth = 0; alpha = 0 }) _ (sym (c .before .before .before .before .parse .ensures) ∙ ap overlayOut (c .before .before .d .given .1)) (c .if1 .taken))
 
--- src/inputs.rt:167:17
 returns-2 : tie.Need-returns-2
 returns-2 c = sym (plan-list _ _ _ _ _ (record { chroma = 0; depth = 0; alpha = 0 }) _ (sym (c .before .before .before .before .before .parse .ensures) ∙ ap overlayOut (c .before .before .before .d .given .1)) (c .before .if1 .left) (c .if2 .taken))
 
--- src/inputs.rt:169:19
 read-record-requires : tie.Need-read-record-requires
 read-record-requires c κs = search needs
 
--- src/inputs.rt:170:36
 enum-known-e-2 : tie.Need-enum-known-e-2
 enum-known-e-2 c = search needs
 
--- src/inputs.rt:171:33
 enum-known-fr : tie.Need-enum-known-fr
 enum-known-fr c = search needs
 
--- src/inputs.rt:173:21
 read-frames-requires : tie.Need-read-frames-requires
 read-frames-requires c κs = (overlay-taken _ _ _ (sym (c .before .before .before .before .before .before .before .before .before .before .parse .ensures) ∙ ap overlayOut (c .before .before .before .before .before .before .before .before .d .given .1)) .0, record-sound _ _ _ (sym (c .before .before .before .before .read-record .ensures) ∙ ap frameOut (c .before .before .fr .given .1)) .form .high)
 
--- src/inputs.rt:151:1
 returns-3 : tie.Need-returns-3
 returns-3 c = sym (plan-body _ _ _ _ _ _ (sym (c .before .before .before .parse .ensures) ∙ ap overlayOut (c .before .e .given .1)))
 
--- src/inputs.rt:151:1
 returns-4 : tie.Need-returns-4
 returns-4 c = sym (plan-record _ _ _ _ _ (record { chroma = 0; depth = 0; alpha = 0 }) _ (sym (c .before .before .before .before .before .before .before .before .before .parse .ensures) ∙ ap overlayOut (c .before .before .before .before .before .before .before .d .given .1)) (c .before .before .before .before .before .if1 .left) (c .before .before .before .before .if2 .left) _ (sym (c .before .before .before .read-record .ensures) ∙ ap frameOut (c .before .e2 .given .1)))
 
--- src/inputs.rt:151:1
 returns-5 : tie.Need-returns-5
 returns-5 c = c .read-frames .ensures ∙ sym (plan-noted _ _ _ _ _ _ _ (sym (c .before .before .before .before .before .before .before .before .before .before .before .parse .ensures) ∙ ap overlayOut (c .before .before .before .before .before .before .before .before .before .d .given .1)) (c .before .before .before .before .before .before .before .if1 .left) (c .before .before .before .before .before .before .if2 .left) _ (sym (c .before .before .before .before .before .read-record .ensures) ∙ ap frameOut (c .before .before .before .fr .given .1)) refl)
 

@@ -10,31 +10,24 @@ use Rattle.point.proofs.names.name_input.Lts as lts
 use Rattle.point.proofs.names.reaches.Reads as reaches-reads
 use Rattle.point.proofs.names.spot_at.Reads as spot-at-reads
 
--- src/names.rt:57:9
 reaches-requires : tie.Need-reaches-requires
 reaches-requires c κs = search needs
 
--- src/names.rt:58:9
 returns : tie.Need-returns
 returns c = lies-beside _ _ _ _ _ (ap not (sym (c .before .reaches .ensures)) ∙ c .if1 .taken)
 
--- src/names.rt:60:9
 reaches-requires-2 : tie.Need-reaches-requires-2
 reaches-requires-2 c κs = search needs
 
--- src/names.rt:61:9
 returns-2 : tie.Need-returns-2
 returns-2 c = lies-above _ _ _ _ _ (ap not (sym (c .before .before .before .reaches .ensures)) ∙ c .before .before .if1 .left) (ap not (sym (c .before .reaches2 .ensures)) ∙ c .if2 .taken)
 
--- src/names.rt:65:12
 spot-at-requires : tie.Need-spot-at-requires
 spot-at-requires c κs = not-false _ (ap not (sym (c .before .before .before .reaches .ensures)) ∙ c .before .before .if1 .left)
 
--- src/names.rt:66:12
 spot-at-requires-2 : tie.Need-spot-at-requires-2
 spot-at-requires-2 c κs = not-false _ (ap not (sym (c .before .before .reaches2 .ensures)) ∙ c .before .if2 .left)
 
--- src/names.rt:53:1
 returns-3 : tie.Need-returns-3
 returns-3 c = lies-over _ _ _ _ _ (ap not (sym (c .before .before .before .before .before .reaches .ensures)) ∙ c .before .before .before .before .if1 .left) (ap not (sym (c .before .before .before .reaches2 .ensures)) ∙ c .before .before .if2 .left) _ _ (c .before .spot-at .ensures) (c .spot-at2 .ensures)
 

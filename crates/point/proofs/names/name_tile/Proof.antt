@@ -8,31 +8,24 @@ use Rattle.point.proofs.names.name_tile.Tie as tie
 use Rattle.point.proofs.names.name_tile.Reads as reads
 use Rattle.point.proofs.names.name_tile.Lts as lts
 
--- src/names.rt:29:16
 div-t5 : tie.Need-div-t5
 div-t5 c = search needs
 
--- src/names.rt:29:16
 mul-t6 : tie.Need-mul-t6
 mul-t6 c = omega (arith, rows-small (c .before .before .before .before .before .args .t) (c .before .before .before .before .before .args .l) (c .before .before .before .before .before .pre))
 
--- src/names.rt:29:48
 div-t7 : tie.Need-div-t7
 div-t7 c = search needs
 
--- src/names.rt:29:16
 add-t8 : tie.Need-add-t8
 add-t8 c = omega (arith, input-small (c .before .before .before .before .before .before .before .args .t) (c .before .before .before .before .before .before .before .args .l) (c .before .before .before .before .before .before .before .pre))
 
--- src/names.rt:30:12
 rem-t9 : tie.Need-rem-t9
 rem-t9 c = search needs
 
--- src/names.rt:31:12
 rem-t10 : tie.Need-rem-t10
 rem-t10 c = search needs
 
--- src/names.rt:22:1
 returns : tie.Need-returns
 unfolding gridNames
 returns c = refl

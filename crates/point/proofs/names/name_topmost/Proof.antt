@@ -23,47 +23,36 @@ Inv-loop body tray d first l count at₀ i₀ found₀ at i found = (i ≤ d .co
 abbrev μ-loop : tie.MeasureT-loop
 μ-loop body tray d first l count at₀ i₀ found₀ at i found = d .count - i
 
--- src/names.rt:85:5
 loop-holds : tie.Need-loop-holds Inv-loop μ-loop
 loop-holds c = (omega arith, rw (sub-zero (c .before .before .args .d .count)) refl)
 
--- src/names.rt:86:15
 read-record-requires : tie.Need-read-record-requires Inv-loop μ-loop
 read-record-requires c κs = search needs
 
--- src/names.rt:88:17
 enum-told : tie.Need-enum-told Inv-loop μ-loop
 enum-told c = search needs
 
--- src/names.rt:88:17
 returns : tie.Need-returns Inv-loop μ-loop
 returns c = sym (c .before .before .before .before .loop .inv .1 ∙ top-refused _ _ _ _ _ _ _ _ (sym (c .before .before .read-record .ensures) ∙ ap frameOut (c .enum-told .given .1)))
 
--- src/names.rt:90:29
 enum-known-fr : tie.Need-enum-known-fr Inv-loop μ-loop
 enum-known-fr c = search needs
 
--- src/names.rt:91:43
 offset-requires : tie.Need-offset-requires Inv-loop μ-loop
 offset-requires c κs = (c .before .before .before .before .before .before .before .before .pre, c .before .before .before .before .loop-test .taken)
 
--- src/names.rt:91:17
 name-input-requires : tie.Need-name-input-requires Inv-loop μ-loop
 name-input-requires c κs = search needs
 
--- src/names.rt:95:9
 add-i : tie.Need-add-i Inv-loop μ-loop
 add-i c = omega (arith, c .before .before .before .before .before .before .loop-test .taken, c .before .before .before .before .before .before .before .before .before .before .pre .count)
 
--- src/names.rt:85:5
 loop-less : tie.Need-loop-less Inv-loop μ-loop
 loop-less c = search needs
 
--- src/names.rt:85:5
 loop-again : tie.Need-loop-again Inv-loop μ-loop
 loop-again c = (omega (arith, c .before .before .before .before .before .before .loop-test .taken), c .before .before .before .before .before .before .before .loop .inv .1 ∙ top-next _ _ _ _ _ _ _ _ _ _ (c .before .before .before .before .before .before .loop-test .taken) (sym (c .before .before .before .before .before .read-record .ensures) ∙ ap frameOut (c .before .before .before .fr .given .1)) (c .before .offset .ensures) (c .name-input .ensures))
 
--- src/names.rt:71:1
 returns-2 : tie.Need-returns-2 Inv-loop μ-loop
 returns-2 c = sym (c .before .loop .inv .1 ∙ top-none _ _ _ _ _ _ _ (omega (arith, c .loop-test .left)))
 

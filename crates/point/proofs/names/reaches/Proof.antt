@@ -6,27 +6,21 @@ use Rattle.point.proofs.names.reaches.Reads as reads
 use Rattle.point.proofs.names.reaches.Lts as lts
 use Rattle.image.proofs.both.Reads as both-reads
 
--- src/names.rt:39:25
 cast-at : tie.Need-cast-at
 cast-at c = search needs
 
--- src/names.rt:39:14
 add-at : tie.Need-add-at
 add-at c = search needs
 
--- src/names.rt:40:17
 cast-ahead : tie.Need-cast-ahead
 cast-ahead c = search needs
 
--- src/names.rt:41:35
 add-both : tie.Need-add-both
 add-both c = search needs
 
--- src/names.rt:41:5
 both-requires : tie.Need-both-requires
 both-requires c κs = search needs
 
--- src/names.rt:36:1
 returns : tie.Need-returns
 unfolding covers
 returns c = c .both .ensures

@@ -8,27 +8,21 @@ use Rattle.point.proofs.names.spot_at.Tie as tie
 use Rattle.point.proofs.names.spot_at.Reads as reads
 use Rattle.point.proofs.names.spot_at.Lts as lts
 
--- src/names.rt:49:17
 cast-result : tie.Need-cast-result
 cast-result c = search needs
 
--- src/names.rt:49:6
 add-result : tie.Need-add-result
 add-result c = search needs
 
--- src/names.rt:49:35
 cast-result-2 : tie.Need-cast-result-2
 cast-result-2 c = search needs
 
--- src/names.rt:49:6
 sub-result : tie.Need-sub-result
 sub-result c = covers-facts (c .before .before .args .side) (c .before .before .args .o) (c .before .before .args .x) (c .before .before .pre) .0
 
--- src/names.rt:49:5
 cast-result-3 : tie.Need-cast-result-3
 cast-result-3 c = omega (arith, c .before .before .fits .side, covers-facts (c .before .before .args .side) (c .before .before .args .o) (c .before .before .args .x) (c .before .before .pre) .1)
 
--- src/names.rt:45:1
 returns : tie.Need-returns
 unfolding spotAt
 returns c = refl

@@ -40,70 +40,54 @@ total c =
     let w = weighing-done (c .before .before .before .before .before .args .down) (rowOf ((c .before .before .before .before .before))) ((c .before .before .before .before .before .args .across .end - c .before .before .before .before .before .args .across .start) * 65535) (c .before .before .before .before .before .pre .tall .some) (c .before .loop .j) (c .before .loop .sum) (c .before .loop .inv .1) (rw (c .before .loop .inv .0) at (c .loop-test .left)) in
     (w .0, sum-whole (c .before .loop .sum) (c .before .before .before .before .before .args .across .end - c .before .before .before .before .before .args .across .start) (c .before .before .before .before .before .args .down .end - c .before .before .before .before .before .args .down .start) (w .1))
 
--- src/area.rt:102:17
 add-past : tie.Need-add-past Inv-loop μ-loop
 add-past c = let k = area-ends _ _ _ (c .before .before .args .across) (c .before .before .args .down) (c .before .before .pre) in omega (arith, k .1)
 
--- src/area.rt:105:5
 loop-holds : tie.Need-loop-holds Inv-loop μ-loop
 unfolding firstOf pastOf
 loop-holds c = (refl, weighing-start (c .before .before .before .args .down) _ _ (c .before .before .before .pre .tall .some))
 
--- src/area.rt:106:16
 row-sum-requires : tie.Need-row-sum-requires Inv-loop μ-loop
 row-sum-requires c κs = row-sum-fits _ _ _ _ (c .before .before .before .before .before .args .down) _ (c .before .before .before .before .before .pre) (left (c))
 
--- src/area.rt:106:59
 weight-requires : tie.Need-weight-requires Inv-loop μ-loop
 weight-requires c κs = let k = area-ends _ _ _ (c .before .before .before .before .before .before .args .across) (c .before .before .before .before .before .before .args .down) (c .before .before .before .before .before .before .pre) in (c .before .before .before .before .before .before .pre .tall .some, omega (arith, k .1), c .before .before .loop .inv .1 .low, left ((c .before)))
 
--- src/area.rt:106:16
 mul-sum : tie.Need-mul-sum Inv-loop μ-loop
 mul-sum c = let k = area-ends _ _ _ (c .before .before .before .before .before .before .before .args .across) (c .before .before .before .before .before .before .before .args .down) (c .before .before .before .before .before .before .before .pre) in omega (arith, mul-below (2 ^ 54) 256 (c .before .row-sum .result) (c .weight .result) (omega (arith, c .before .row-sum .ensures .1, k .0)) (c .weight .ensures .1))
 
--- src/area.rt:106:9
 add-sum : tie.Need-add-sum Inv-loop μ-loop
 add-sum c = let f = weighing-fits (c .before .before .before .before .before .before .before .args .down) (rowOf ((c .before .before .before .before .before .before .before))) ((c .before .before .before .before .before .before .before .args .across .end - c .before .before .before .before .before .before .before .args .across .start) * 65535) (c .before .before .before .before .before .before .before .pre .tall .some) (c .before .before .before .loop .j) (c .before .before .before .loop .sum) (c .before .before .before .loop .inv .1) (left ((c .before .before))) (few ((c .before))) in
     let n = sum-whole _ (c .before .before .before .before .before .before .before .args .across .end - c .before .before .before .before .before .before .before .args .across .start) (c .before .before .before .before .before .before .before .args .down .end - c .before .before .before .before .before .before .before .args .down .start) f in
     omega (arith, n, whole ((c .before .before .before .before .before .before .before)) .1, ap₂ (λ (a b : ℕ). a * b) (c .before .row-sum .ensures .0) (c .weight .ensures .0))
 
--- src/area.rt:107:9
 add-j : tie.Need-add-j Inv-loop μ-loop
 add-j c = search needs
 
--- src/area.rt:105:5
 loop-less : tie.Need-loop-less Inv-loop μ-loop
 loop-less c = search needs
 
--- src/area.rt:105:5
 loop-again : tie.Need-loop-again Inv-loop μ-loop
 loop-again c = (c .before .before .before .loop .inv .0, weighing-step (c .before .before .before .before .before .before .before .args .down) (rowOf ((c .before .before .before .before .before .before .before))) ((c .before .before .before .before .before .before .before .args .across .end - c .before .before .before .before .before .before .before .args .across .start) * 65535) (c .before .before .before .before .before .before .before .pre .tall .some) (c .before .before .before .loop .j) (c .before .before .before .loop .sum) (c .before .before .before .loop .inv .1) (left ((c .before .before))) (few ((c .before))) _ (ap₂ (λ (a b : ℕ). c .before .before .before .loop .sum + a * b) (c .before .row-sum .ensures .0) (c .weight .ensures .0)))
 
--- src/area.rt:109:18
 sub-whole : tie.Need-sub-whole Inv-loop μ-loop
 sub-whole c = omega (arith, c .before .before .before .before .before .before .pre .wide .some)
 
--- src/area.rt:109:48
 sub-whole-2 : tie.Need-sub-whole-2 Inv-loop μ-loop
 sub-whole-2 c = omega (arith, c .before .before .before .before .before .before .before .pre .tall .some)
 
--- src/area.rt:109:17
 mul-whole : tie.Need-mul-whole Inv-loop μ-loop
 mul-whole c = omega (arith, whole ((c .before .before .before .before .before .before .before)) .1)
 
--- src/area.rt:110:7
 add-result : tie.Need-add-result Inv-loop μ-loop
 add-result c = omega (arith, whole ((c .before .before .before .before .before .before .before)) .1, total ((c .before .before)) .1)
 
--- src/area.rt:110:6
 div-result : tie.Need-div-result Inv-loop μ-loop
 div-result c = omega (arith, whole ((c .before .before .before .before .before .before .before)) .0)
 
--- src/area.rt:110:5
 cast-result : tie.Need-cast-result Inv-loop μ-loop
 cast-result c = fits-under _ _ 65536 (mean-small _ _ _ (omega (arith, whole ((c .before .before .before .before .before .before .before)) .0)) (total ((c .before .before)) .1)) tt
 
--- src/area.rt:98:1
 returns : tie.Need-returns Inv-loop μ-loop
 unfolding areaMean rounded
 returns c = ap (λ (n : ℕ). rounded n ((c .before .before .before .before .before .before .before .args .across .end - c .before .before .before .before .before .before .before .args .across .start) * (c .before .before .before .before .before .before .before .args .down .end - c .before .before .before .before .before .before .before .args .down .start))) (total ((c .before .before)) .0)

@@ -14,84 +14,64 @@ use Rattle.resample.proofs.area.footprint.Lts as lts
 use Rattle.resample.proofs.area.above.Reads as above-reads
 use Rattle.resample.proofs.area.least.Reads as least-reads
 
--- src/area.rt:62:20
 mul-t8 : tie.Need-mul-t8
 mul-t8 c = omega (arith, axis-small (c .before .args .k) (c .before .args .a .from) (omega (arith, c .before .pre .0, c .before .pre .2)) (c .before .pre .3))
 
--- src/area.rt:62:20
 mul-t9 : tie.Need-mul-t9
 mul-t9 c = omega (arith, axis-small (c .before .args .k) (c .before .args .a .from) (omega (arith, c .before .pre .0, c .before .pre .2)) (c .before .pre .3))
 
--- src/area.rt:62:20
 div-t10 : tie.Need-div-t10
 div-t10 c = search needs
 
--- src/area.rt:63:19
 add-t11 : tie.Need-add-t11
 add-t11 c = search needs
 
--- src/area.rt:63:18
 mul-t12 : tie.Need-mul-t12
 mul-t12 c = omega (arith, axis-small (c .before .args .k + 1) (c .before .args .a .from) (omega (arith, c .before .pre .0, c .before .pre .2)) (c .before .pre .3))
 
--- src/area.rt:63:18
 mul-t13 : tie.Need-mul-t13
 mul-t13 c = omega (arith, axis-small (c .before .args .k + 1) (c .before .args .a .from) (omega (arith, c .before .pre .0, c .before .pre .2)) (c .before .pre .3))
 
--- src/area.rt:63:18
 div-t14 : tie.Need-div-t14
 div-t14 c = search needs
 
--- src/area.rt:61:9
 returns : tie.Need-returns
 unfolding footOf shareOf
 returns c = sym (pick-true _ _ _ (le-leb _ _ (c .if1 .taken)))
 
--- src/area.rt:66:19
 mul-centre : tie.Need-mul-centre
 mul-centre c = search needs
 
--- src/area.rt:66:19
 add-centre : tie.Need-add-centre
 add-centre c = search needs
 
--- src/area.rt:66:18
 mul-centre-2 : tie.Need-mul-centre-2
 mul-centre-2 c = omega (arith, axis-small (2 * c .before .args .k + 1) (c .before .args .a .from) (omega (arith, c .before .pre .0, c .before .pre .2)) (c .before .pre .3))
 
--- src/area.rt:66:18
 mul-centre-3 : tie.Need-mul-centre-3
 mul-centre-3 c = omega (arith, axis-small (2 * c .before .args .k + 1) (c .before .args .a .from) (omega (arith, c .before .pre .0, c .before .pre .2)) (c .before .pre .3))
 
--- src/area.rt:66:46
 mul-centre-4 : tie.Need-mul-centre-4
 mul-centre-4 c = search needs
 
--- src/area.rt:66:18
 div-centre : tie.Need-div-centre
 div-centre c = search needs
 
--- src/area.rt:67:23
 above-requires : tie.Need-above-requires
 above-requires c κs = search needs
 
--- src/area.rt:67:50
 sub-least : tie.Need-sub-least
 sub-least c = search needs
 
--- src/area.rt:67:43
 mul-least : tie.Need-mul-least
 mul-least c = search needs
 
--- src/area.rt:67:9
 least-requires : tie.Need-least-requires
 least-requires c κs = search needs
 
--- src/area.rt:70:14
 add-t17 : tie.Need-add-t17
 add-t17 c = omega (arith, c .least .ensures, least-le (c .before .above .result) (256 * (c .before .before .before .args .a .from - 1)) .1, c .before .before .before .pre .3)
 
--- src/area.rt:54:1
 returns-2 : tie.Need-returns-2
 unfolding footOf aroundOf
 returns-2 c = ap (λ (n : ℕ). record { start = n; end = n + 256 }) (c .least .ensures ∙ ap (λ (n : ℕ). least n (256 * (c .before .before .before .args .a .from - 1))) (c .before .above .ensures)) ∙ sym (pick-false _ _ _ (lt-leb _ _ (c .before .before .if1 .left)))

@@ -6,7 +6,6 @@ use Rattle.resample.proofs.area.greatest.Tie as tie
 use Rattle.resample.proofs.area.greatest.Reads as reads
 use Rattle.resample.proofs.area.greatest.Lts as lts
 
--- src/area.rt:37:9
 returns : tie.Need-returns
 unfolding greatest pick
 returns c =
@@ -15,7 +14,6 @@ returns c =
       le-leb _ _ (c .if1 .taken),
     )
 
--- src/area.rt:33:1
 returns-2 : tie.Need-returns-2
 unfolding greatest pick
 returns-2 c =

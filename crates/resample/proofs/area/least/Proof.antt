@@ -6,7 +6,6 @@ use Rattle.resample.proofs.area.least.Tie as tie
 use Rattle.resample.proofs.area.least.Reads as reads
 use Rattle.resample.proofs.area.least.Lts as lts
 
--- src/area.rt:28:9
 returns : tie.Need-returns
 unfolding least pick
 returns c =
@@ -15,7 +14,6 @@ returns c =
       le-leb _ _ (c .if1 .taken),
     )
 
--- src/area.rt:24:1
 returns-2 : tie.Need-returns-2
 unfolding least pick
 returns-2 c =

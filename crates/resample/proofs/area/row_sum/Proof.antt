@@ -28,48 +28,37 @@ column c = past-in (c .before .before .before .before .before .args .f) _ _ (c .
 few : (c : tie.After-weight Inv-loop μ-loop) → sampleIn (now (c .before .before .before .before .before .before .before .args .plane)) (c .before .before .before .before .before .before .before .args .bytes) (c .before .before .before .before .before .before .before .args .stride) (c .before .before .before .loop .j) (c .before .before .before .before .before .before .before .args .y) ≤ 65535
 few c = rw (← (c .before .sample .ensures)) (omega (arith, c .before .sample .ok))
 
--- src/area.rt:87:17
 add-past : tie.Need-add-past Inv-loop μ-loop
 add-past c = omega (arith, c .before .before .pre .wide .inside, c .before .before .pre .size)
 
--- src/area.rt:90:5
 loop-holds : tie.Need-loop-holds Inv-loop μ-loop
 unfolding firstOf pastOf
 loop-holds c = (refl, weighing-start (c .before .before .before .args .f) _ 65535 (c .before .before .before .pre .wide .some))
 
--- src/area.rt:91:16
 sample-requires : tie.Need-sample-requires Inv-loop μ-loop
 sample-requires c κs = (c .before .before .before .before .before .pre .some, c .before .before .before .before .before .pre .few, c .before .before .before .before .before .pre .inside _ (column (c)))
 
--- src/area.rt:91:16
 cast-sum : tie.Need-cast-sum Inv-loop μ-loop
 cast-sum c = search needs
 
--- src/area.rt:91:69
 weight-requires : tie.Need-weight-requires Inv-loop μ-loop
 weight-requires c κs = (c .before .before .before .before .before .before .pre .wide .some, omega (arith, c .before .before .before .before .before .before .pre .wide .inside, c .before .before .before .before .before .before .pre .size), c .before .before .loop .inv .1 .low, rw (c .before .before .loop .inv .0) at (c .before .loop-test .taken))
 
--- src/area.rt:91:16
 mul-sum : tie.Need-mul-sum Inv-loop μ-loop
 mul-sum c = omega (arith, mul-below 65535 256 (c .before .sample .result) (c .weight .result) (omega (arith, c .before .sample .ok)) (c .weight .ensures .1))
 
--- src/area.rt:91:9
 add-sum : tie.Need-add-sum Inv-loop μ-loop
 add-sum c = omega (arith, c .before .before .before .before .before .before .before .pre .wide .inside, c .before .before .before .before .before .before .before .pre .size, weighing-fits (c .before .before .before .before .before .before .before .args .f) (λ x. sampleIn (now (c .before .before .before .before .before .before .before .args .plane)) (c .before .before .before .before .before .before .before .args .bytes) (c .before .before .before .before .before .before .before .args .stride) x (c .before .before .before .before .before .before .before .args .y)) 65535 (c .before .before .before .before .before .before .before .pre .wide .some) (c .before .before .before .loop .j) (c .before .before .before .loop .sum) (c .before .before .before .loop .inv .1) (rw (c .before .before .before .loop .inv .0) at (c .before .before .loop-test .taken)) (few (c)), ap₂ (λ (a b : ℕ). a * b) (c .before .sample .ensures) (c .weight .ensures .0))
 
--- src/area.rt:92:9
 add-j : tie.Need-add-j Inv-loop μ-loop
 add-j c = search needs
 
--- src/area.rt:90:5
 loop-less : tie.Need-loop-less Inv-loop μ-loop
 loop-less c = search needs
 
--- src/area.rt:90:5
 loop-again : tie.Need-loop-again Inv-loop μ-loop
 loop-again c = (c .before .before .before .loop .inv .0, weighing-step (c .before .before .before .before .before .before .before .args .f) _ 65535 (c .before .before .before .before .before .before .before .pre .wide .some) (c .before .before .before .loop .j) (c .before .before .before .loop .sum) (c .before .before .before .loop .inv .1) (rw (c .before .before .before .loop .inv .0) at (c .before .before .loop-test .taken)) (few (c)) _ (ap₂ (λ (a b : ℕ). c .before .before .before .loop .sum + a * b) (c .before .sample .ensures) (c .weight .ensures .0)))
 
--- src/area.rt:83:1
 returns : tie.Need-returns Inv-loop μ-loop
 returns c = weighing-done (c .before .before .before .before .before .args .f) _ 65535 (c .before .before .before .before .before .pre .wide .some) (c .before .loop .j) (c .before .loop .sum) (c .before .loop .inv .1) (rw (c .before .loop .inv .0) at (c .loop-test .left))
 

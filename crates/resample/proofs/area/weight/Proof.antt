@@ -12,31 +12,24 @@ use Rattle.resample.proofs.area.weight.Lts as lts
 use Rattle.resample.proofs.area.greatest.Reads as greatest-reads
 use Rattle.resample.proofs.area.least.Reads as least-reads
 
--- src/area.rt:79:18
 mul-least : tie.Need-mul-least
 mul-least c = let t = touched (c .args .f) (c .args .j) (c .pre .2) (c .pre .3) in omega (arith, t .0, c .pre .1)
 
--- src/area.rt:79:18
 add-least : tie.Need-add-least
 add-least c = let t = touched (c .args .f) (c .args .j) (c .pre .2) (c .pre .3) in omega (arith, t .0, c .pre .1)
 
--- src/area.rt:79:5
 least-requires : tie.Need-least-requires
 least-requires c κs = search needs
 
--- src/area.rt:79:53
 mul-greatest : tie.Need-mul-greatest
 mul-greatest c = let t = touched (c .before .args .f) (c .before .args .j) (c .before .pre .2) (c .before .pre .3) in omega (arith, t .0, c .before .pre .1)
 
--- src/area.rt:79:35
 greatest-requires : tie.Need-greatest-requires
 greatest-requires c κs = search needs
 
--- src/area.rt:79:5
 sub-result : tie.Need-sub-result
 sub-result c = rw (c .before .least .ensures, c .greatest .ensures) (weight-some (c .before .before .args .f) (c .before .before .args .j) (c .before .before .pre .0) (c .before .before .pre .2) (c .before .before .pre .3))
 
--- src/area.rt:75:1
 returns : tie.Need-returns
 unfolding weightOf
 returns c = (ap₂ (λ (a b : ℕ). a - b) (c .before .least .ensures) (c .greatest .ensures), rw (c .before .least .ensures, c .greatest .ensures) (weight-le (c .before .before .args .f) (c .before .before .args .j) (c .before .before .pre .0) (c .before .before .pre .2) (c .before .before .pre .3)))

@@ -15,47 +15,36 @@ use Rattle.resample.proofs.attach.cover_size.Reads as cover-size-reads
 use Rattle.resample.proofs.attach.part_size.Reads as part-size-reads
 use Rattle.resample.proofs.attach.with_alpha.Reads as with-alpha-reads
 
--- src/attach.rt:150:33
 with-alpha-requires : tie.Need-with-alpha-requires
 with-alpha-requires c κs = search needs
 
--- src/attach.rt:150:9
 head-size-requires : tie.Need-head-size-requires
 head-size-requires c κs = search needs
 
--- src/attach.rt:151:9
 part-size-requires : tie.Need-part-size-requires
 part-size-requires c κs = search needs
 
--- src/attach.rt:152:9
 part-size-requires-2 : tie.Need-part-size-requires-2
 part-size-requires-2 c κs = search needs
 
--- src/attach.rt:153:9
 part-size-requires-3 : tie.Need-part-size-requires-3
 part-size-requires-3 c κs = search needs
 
--- src/attach.rt:154:5
 add-result : tie.Need-add-result
 add-result c = search needs
 
--- src/attach.rt:154:5
 add-result-2 : tie.Need-add-result-2
 add-result-2 c = search needs
 
--- src/attach.rt:154:5
 add-result-3 : tie.Need-add-result-3
 add-result-3 c = search needs
 
--- src/attach.rt:154:29
 cover-size-requires : tie.Need-cover-size-requires
 cover-size-requires c κs = (c .before .before .before .before .before .before .before .before .pre .0 .sound .form, c .before .before .before .before .before .before .before .before .pre .1)
 
--- src/attach.rt:154:5
 add-result-4 : tie.Need-add-result-4
 add-result-4 c = search needs
 
--- src/attach.rt:145:1
 returns : tie.Need-returns
 returns c = omega (arith, length-attach (now (c .before .before .before .before .before .before .before .before .before .args .s)) (c .before .before .before .before .before .before .before .before .before .args .fr) (now (c .before .before .before .before .before .before .before .before .before .args .t)) (c .before .before .before .before .before .before .before .before .before .args .gr), c .before .before .before .before .head-size .ensures .0 ∙ ap (λ (m : Form). length (headBytes m)) (c .before .before .before .before .before .with-alpha .ensures), c .before .before .before .part-size .ensures .0, c .before .before .part-size2 .ensures .0, c .before .part-size3 .ensures .0, c .cover-size .ensures .0)
 

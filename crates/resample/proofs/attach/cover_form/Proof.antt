@@ -5,7 +5,6 @@ use Rattle.resample.proofs.attach.cover_form.Tie as tie
 use Rattle.resample.proofs.attach.cover_form.Reads as reads
 use Rattle.resample.proofs.attach.cover_form.Lts as lts
 
--- src/attach.rt:39:1
 returns : tie.Need-returns
 unfolding lumaForm
 returns c = refl

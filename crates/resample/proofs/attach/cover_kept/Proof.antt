@@ -7,16 +7,13 @@ use Rattle.resample.proofs.attach.cover_kept.Reads as reads
 use Rattle.resample.proofs.attach.cover_kept.Lts as lts
 use Rattle.resample.proofs.write.same_size.Reads as same-size-reads
 
--- src/attach.rt:60:8
 same-size-requires : tie.Need-same-size-requires
 same-size-requires c κs = search needs
 
--- src/attach.rt:67:9
 returns : tie.Need-returns
 unfolding coverKept
 returns c = simp (sym (c .before .before .before .same-size .ensures), c .before .before .if1 .taken)
 
--- src/attach.rt:55:1
 returns-2 : tie.Need-returns-2
 unfolding coverKept
 returns-2 c = simp (sym (c .before .same-size .ensures), c .if1 .left)

@@ -14,27 +14,21 @@ use Rattle.resample.proofs.attach.cover_form.Reads as cover-form-reads
 use Rattle.resample.proofs.attach.cover_kept.Reads as cover-kept-reads
 use Rattle.resample.proofs.attach.kept_size.Reads as kept-size-reads
 
--- src/attach.rt:139:8
 cover-kept-requires : tie.Need-cover-kept-requires
 cover-kept-requires c κs = search needs
 
--- src/attach.rt:140:9
 kept-size-requires : tie.Need-kept-size-requires
 kept-size-requires c κs = luma-fits _ _ (c .before .before .before .before .pre .1)
 
--- src/attach.rt:140:9
 returns : tie.Need-returns
 returns c = (c .kept-size .ensures .0 ∙ ap length (sym (cover-as-is _ _ _ (sym (c .before .before .cover-kept .ensures) ∙ c .before .if1 .taken))), c .kept-size .ensures .1)
 
--- src/attach.rt:142:23
 cover-form-requires : tie.Need-cover-form-requires
 cover-form-requires c κs = search needs
 
--- src/attach.rt:142:5
 plane-size-requires : tie.Need-plane-size-requires
 plane-size-requires c κs = rw (c .cover-form .ensures) (luma-sound _ (c .before .before .before .before .before .pre .0))
 
--- src/attach.rt:134:1
 returns-2 : tie.Need-returns-2
 returns-2 c = (c .plane-size .ensures .0 ∙ ap (λ (n : Form). planeSize n Luma) (c .before .cover-form .ensures) ∙ sym (length-cover _ _ _ (sym (c .before .before .before .cover-kept .ensures) ∙ c .before .before .if1 .left)), c .plane-size .ensures .1)
 

@@ -24,27 +24,21 @@ there c = sym (c .before .before .before .has .ensures) ∙ c .before .before .i
 same : (c : tie.After-plane) → keptPlane (now (c .before .before .before .before .before .before .before .before .args .s)) (c .plane .result) ≡ keptPart (now (c .before .before .before .before .before .before .before .before .args .s)) (c .before .before .before .before .before .before .before .before .args .fr) (c .before .before .before .before .before .before .before .before .args .part)
 same c = ap (keptPlane (now (c .before .before .before .before .before .before .before .before .args .s))) (c .plane .ensures) ∙ sym (kept-some _ _ _ (there c))
 
--- src/attach.rt:98:8
 has-requires : tie.Need-has-requires
 has-requires c κs = search needs
 
--- src/attach.rt:99:39
 plane-requires : tie.Need-plane-requires
 plane-requires c κs = search needs
 
--- src/attach.rt:99:9
 keep-plane-requires : tie.Need-keep-plane-requires
 keep-plane-requires c κs = (rw (c .plane .ensures) (kept-fits _ _ _ (c .before .before .before .before .before .before .before .before .pre .0) (there (c))), rw (same (c)) (c .before .before .before .before .before .before .before .before .pre .1))
 
--- src/attach.rt:99:9
 same-length : tie.Need-same-length
 same-length c = search needs
 
--- src/attach.rt:99:9
 returns : tie.Need-returns
 returns c = (c .before .before .keep-plane .ensures .0 ∙ ap (λ (l : List ℕ). c .before .before .before .before .before .before .before .before .before .before .before .args .at + length l) (same ((c .before .before .before))), c .before .before .keep-plane .ensures .1 ∙ ap (puts (now (c .before .before .before .before .before .before .before .before .before .before .before .args .out)) (c .before .before .before .before .before .before .before .before .before .before .before .args .at)) (same ((c .before .before .before))))
 
--- src/attach.rt:92:1
 returns-2 : tie.Need-returns-2
 returns-2 c = writing-none (now (c .before .before .before .before .before .before .args .out)) (c .before .before .before .before .before .before .args .at) _ (kept-none _ _ _ (sym (c .before .has .ensures) ∙ c .if1 .left))
 

@@ -32,35 +32,27 @@ w1 c = writing-run (numberBytes (c .before .before .before .before .before .args
 w2 : (c : tie.After-write-number2) → Writing (now (c .before .before .before .before .before .before .before .before .before .before .args .out)) (c .before .before .before .before .before .before .before .before .before .before .args .at) (keptPlane (now (c .before .before .before .before .before .before .before .before .before .before .args .s)) (c .before .before .before .before .before .before .before .before .before .before .args .q)) (c .write-number2 .last .0) (c .write-number2 .result) (dataOf (now (c .before .before .before .before .before .before .before .before .before .before .args .s)) (c .before .before .before .before .before .before .before .before .before .before .args .q))
 w2 c = writing-run (numberBytes (c .before .before .before .before .before .before .before .before .before .before .args .q .len)) (w1 ((c .before .before .before .before .before))) (c .write-number2 .ensures .0) (c .write-number2 .ensures .1)
 
--- src/attach.rt:77:44
 cast-write-number : tie.Need-cast-write-number
 cast-write-number c = search needs
 
--- src/attach.rt:77:9
 write-number-requires : tie.Need-write-number-requires
 write-number-requires c κs = omega (arith, room (c .before .before .before .before))
 
--- src/attach.rt:78:43
 cast-write-number-2 : tie.Need-cast-write-number-2
 cast-write-number-2 c = search needs
 
--- src/attach.rt:78:9
 write-number-requires-2 : tie.Need-write-number-requires-2
 write-number-requires-2 c κs = writing-fits (numberBytes (c .before .before .before .before .before .before .before .before .before .args .q .len)) _ (w1 ((c .before .before .before .before)))
 
--- src/attach.rt:79:29
 plane-data-requires : tie.Need-plane-data-requires
 plane-data-requires c κs = search needs
 
--- src/attach.rt:79:5
 copy-row-requires : tie.Need-copy-row-requires
 copy-row-requires c κs = rw (c .plane-data .ensures) (w2 ((c .before .before .before .before)) .room)
 
--- src/attach.rt:73:1
 same-length : tie.Need-same-length
 same-length c = search needs
 
--- src/attach.rt:73:1
 returns : tie.Need-returns
 returns c = writing-last (w2 ((c .before .before .before .before .before .before .before))) (c .before .before .copy-row .ensures .0 ∙ ap (λ (l : List ℕ). c .before .before .before .before .before .before .before .write-number2 .result + length l) (c .before .before .before .plane-data .ensures)) (c .before .before .copy-row .ensures .1 ∙ ap (puts (c .before .before .before .before .before .before .before .write-number2 .last .0) (c .before .before .before .before .before .before .before .write-number2 .result)) (c .before .before .before .plane-data .ensures))
 

@@ -8,31 +8,24 @@ use Rattle.resample.proofs.attach.kept_size.Reads as reads
 use Rattle.resample.proofs.attach.kept_size.Lts as lts
 use Rattle.numbers.proofs.number_length.Reads as number-length-reads
 
--- src/attach.rt:88:28
 cast-number-length : tie.Need-cast-number-length
 cast-number-length c = search needs
 
--- src/attach.rt:88:5
 number-length-requires : tie.Need-number-length-requires
 number-length-requires c κs = search needs
 
--- src/attach.rt:88:70
 cast-number-length-2 : tie.Need-cast-number-length-2
 cast-number-length-2 c = search needs
 
--- src/attach.rt:88:47
 number-length-requires-2 : tie.Need-number-length-requires-2
 number-length-requires-2 c κs = search needs
 
--- src/attach.rt:88:5
 add-result : tie.Need-add-result
 add-result c = search needs
 
--- src/attach.rt:88:5
 add-result-2 : tie.Need-add-result-2
 add-result-2 c = search needs
 
--- src/attach.rt:83:1
 returns : tie.Need-returns
 returns c = let l = length-keptPlane (now (c .before .before .before .before .args .s)) (c .before .before .before .before .args .q) (c .before .before .before .before .pre .inside) in (omega (arith, c .before .number-length .ensures .0, c .number-length2 .ensures .0, l), omega (arith, c .before .number-length .ensures .1, c .number-length2 .ensures .1, c .before .before .before .before .pre .len))
 

@@ -18,23 +18,18 @@ use Rattle.resample.proofs.attach.kept_size.Reads as kept-size-reads
 there : (c : tie.After-plane) → hasPart (c .before .before .before .before .before .before .args .fr .form .format) (c .before .before .before .before .before .before .args .part) ≡ true
 there c = sym (c .before .before .has .ensures) ∙ c .before .if1 .taken
 
--- src/attach.rt:110:8
 has-requires : tie.Need-has-requires
 has-requires c κs = search needs
 
--- src/attach.rt:111:29
 plane-requires : tie.Need-plane-requires
 plane-requires c κs = search needs
 
--- src/attach.rt:111:9
 kept-size-requires : tie.Need-kept-size-requires
 kept-size-requires c κs = rw (c .plane .ensures) (kept-fits _ _ _ (c .before .before .before .before .before .before .pre) (there (c)))
 
--- src/attach.rt:111:9
 returns : tie.Need-returns
 returns c = (c .kept-size .ensures .0 ∙ ap length (ap (keptPlane (now (c .before .before .before .before .before .before .before .args .s))) (c .before .plane .ensures) ∙ sym (kept-some _ _ _ (there ((c .before))))), c .kept-size .ensures .1)
 
--- src/attach.rt:104:1
 returns-2 : tie.Need-returns-2
 returns-2 c = (sym (ap length (kept-none _ _ _ (sym (c .before .has .ensures) ∙ c .if1 .left))), omega arith)
 

@@ -5,7 +5,6 @@ use Rattle.resample.proofs.attach.with_alpha.Tie as tie
 use Rattle.resample.proofs.attach.with_alpha.Reads as reads
 use Rattle.resample.proofs.attach.with_alpha.Lts as lts
 
--- src/attach.rt:23:1
 returns : tie.Need-returns
 unfolding withAlpha
 returns c = refl

@@ -9,19 +9,15 @@ use Rattle.resample.proofs.depth.top_at.Tie as tie
 use Rattle.resample.proofs.depth.top_at.Reads as reads
 use Rattle.resample.proofs.depth.top_at.Lts as lts
 
--- src/depth.rt:26:7
 shl-result : tie.Need-shl-result
 shl-result c = search needs
 
--- src/depth.rt:26:6
 sub-result : tie.Need-sub-result
 sub-result c = omega (arith, shift-small 16 (c .args .depth) (c .pre .1) (lit≤ tt))
 
--- src/depth.rt:26:5
 cast-result : tie.Need-cast-result
 cast-result c = search needs
 
--- src/depth.rt:22:1
 returns : tie.Need-returns
 unfolding topAt
 returns c = let b = top-bounds (c .args .depth) (c .pre .0) (c .pre .1) in let e = shift-small 16 (c .args .depth) (c .pre .1) (lit≤ tt) in (omega (arith, e), omega (arith, e, b .0), omega (arith, e, b .1))

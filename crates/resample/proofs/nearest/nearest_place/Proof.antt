@@ -10,19 +10,15 @@ use Rattle.resample.proofs.nearest.nearest_place.Tie as tie
 use Rattle.resample.proofs.nearest.nearest_place.Reads as reads
 use Rattle.resample.proofs.nearest.nearest_place.Lts as lts
 
--- src/nearest.rt:25:9
 returns : tie.Need-returns
 returns c = sym (ap (λ (n : ℕ). nearPlace n (c .before .args .a .to) (c .before .args .k)) (c .if1 .taken) ∙ near-same _ _ (c .before .pre .0))
 
--- src/nearest.rt:27:5
 mul-result : tie.Need-mul-result
 mul-result c = omega (arith, mul-below (2 ^ 30) (2 ^ 30) (c .before .args .k) (c .before .args .a .from) (omega (arith, c .before .pre .1, c .before .pre .2)) (c .before .pre .3))
 
--- src/nearest.rt:27:5
 div-result : tie.Need-div-result
 div-result c = search needs
 
--- src/nearest.rt:18:1
 returns-2 : tie.Need-returns-2
 unfolding nearPlace
 returns-2 c = refl

@@ -10,31 +10,24 @@ use Rattle.image.proofs.format.PixelFormat.bytes_per_sample.Reads as bytes-per-
 use Rattle.image.proofs.format.PixelFormat.columns.Reads as columns-reads
 use Rattle.image.proofs.format.PixelFormat.rows.Reads as rows-reads
 
--- src/write.rt:131:16
 bytes-per-sample-requires : tie.Need-bytes-per-sample-requires
 bytes-per-sample-requires c κs = search needs
 
--- src/write.rt:133:19
 bytes-per-sample-requires-2 : tie.Need-bytes-per-sample-requires-2
 bytes-per-sample-requires-2 c κs = search needs
 
--- src/write.rt:135:19
 columns-requires : tie.Need-columns-requires
 columns-requires c κs = search needs
 
--- src/write.rt:136:17
 columns-requires-2 : tie.Need-columns-requires-2
 columns-requires-2 c κs = search needs
 
--- src/write.rt:139:19
 rows-requires : tie.Need-rows-requires
 rows-requires c κs = search needs
 
--- src/write.rt:140:17
 rows-requires-2 : tie.Need-rows-requires-2
 rows-requires-2 c κs = search needs
 
--- src/write.rt:125:1
 returns : tie.Need-returns
 unfolding rasterOf acrossOf downOf columnsOf rowsOf
 returns c =

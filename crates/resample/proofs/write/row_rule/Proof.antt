@@ -8,24 +8,19 @@ use Rattle.resample.proofs.write.row_rule.Lts as lts
 use Rattle.resample.proofs.area.footprint.Reads as footprint-reads
 use Rattle.resample.proofs.nearest.nearest_place.Reads as nearest-place-reads
 
--- src/write.rt:62:20
 enum-known-rule : tie.Need-enum-known-rule
 enum-known-rule c = search needs
 
--- src/write.rt:63:16
 nearest-place-requires : tie.Need-nearest-place-requires
 nearest-place-requires c κs = search needs
 
--- src/write.rt:66:37
 enum-told : tie.Need-enum-told
 enum-told c = search needs
 
--- src/write.rt:66:37
 footprint-requires : tie.Need-footprint-requires
 unfolding RuleFits
 footprint-requires c κs = let k = rw (c .enum-told .given .1) at (c .before .before .before .pre .0) in (c .before .before .before .pre .2, c .before .before .before .pre .1 .some, k .1 .new, k .1 .old)
 
--- src/write.rt:55:1
 returns : tie.Need-returns
 unfolding rowOf
 returns c =
@@ -34,7 +29,6 @@ returns c =
       sym (c .nearest-place .ensures),
     )
 
--- src/write.rt:55:1
 returns-2 : tie.Need-returns-2
 unfolding rowOf
 returns-2 c =

@@ -28,40 +28,31 @@ far : (c : tie.After-row2) → AreaAxis (c .before .before .before .before .args
 unfolding RowFits
 far c = rw (c .row2 .given .1) at (c .before .before .before .before .pre .1)
 
--- src/write.rt:77:23
 enum-known-row : tie.Need-enum-known-row
 enum-known-row c = search needs
 
--- src/write.rt:79:17
 nearest-place-requires : tie.Need-nearest-place-requires
 nearest-place-requires c κs = search needs
 
--- src/write.rt:80:26
 sample-requires : tie.Need-sample-requires
 sample-requires c κs = (c .before .before .before .before .before .before .before .pre .0 .some, c .before .before .before .before .before .before .before .pre .0 .few, c .before .before .before .before .before .before .before .pre .0 .inside _ _ (rw (c .nearest-place .ensures) (near-in _ _ _ (c .before .before .before .before .before .before .before .pre .0 .across .some) (c .before .before .before .before .before .before .before .pre .2))) (near ((c .before .before .before)) .1))
 
--- src/write.rt:80:13
 level-requires : tie.Need-level-requires
 level-requires c κs = near ((c .before .before .before .before)) .0
 
--- src/write.rt:82:23
 enum-known-row-2 : tie.Need-enum-known-row-2
 enum-known-row-2 c = search needs
 
--- src/write.rt:86:13
 footprint-requires : tie.Need-footprint-requires
 footprint-requires c κs = let k = far ((c .before)) .0 in (c .before .before .before .before .before .pre .2, c .before .before .before .before .before .pre .0 .across .some, k .new, k .old)
 
--- src/write.rt:82:32
 area-sample-requires : tie.Need-area-sample-requires
 area-sample-requires c κs = rw (c .footprint .ensures) (area-fits _ _ _ _ (c .before .before .before .before .before .before .pre .0) (rw (c .before .before .row2 .given .1) at (c .before .before .before .before .before .before .pre .1)) (c .before .before .before .before .before .before .pre .2))
 
--- src/write.rt:71:1
 returns : tie.Need-returns
 unfolding rasterAt rowAt
 returns c = c .level .ensures ∙ ap (levelOf (c .before .before .before .before .before .row .given .0 .0 .depths .old) (c .before .before .before .before .before .row .given .0 .0 .depths .new)) (c .before .sample .ensures ∙ ap (λ (u : ℕ). sampleIn (now (c .before .before .before .before .before .before .before .before .before .args .plane)) (c .before .before .before .before .before .before .before .before .before .args .r .bytes) (c .before .before .before .before .before .before .before .before .before .args .r .stride) u (c .before .before .before .before .before .row .given .0 .0 .y)) (c .before .before .nearest-place .ensures)) ∙ sym (ap (λ (q : RowRule). rasterAt (now (c .before .before .before .before .before .before .before .before .before .args .plane)) (c .before .before .before .before .before .before .before .before .before .args .r) q (c .before .before .before .before .before .before .before .before .before .args .x)) (c .before .before .before .before .before .row .given .1))
 
--- src/write.rt:71:1
 returns-2 : tie.Need-returns-2
 unfolding rasterAt rowAt
 returns-2 c = c .area-sample .ensures ∙ ap (λ (f : Foot). areaMean f (c .before .before .before .row2 .given .0 .0) (λ x y. sampleIn (now (c .before .before .before .before .before .before .before .args .plane)) (c .before .before .before .before .before .before .before .args .r .bytes) (c .before .before .before .before .before .before .before .args .r .stride) x y)) (c .before .footprint .ensures) ∙ sym (ap (λ (q : RowRule). rasterAt (now (c .before .before .before .before .before .before .before .args .plane)) (c .before .before .before .before .before .before .before .args .r) q (c .before .before .before .before .before .before .before .args .x)) (c .before .before .before .row2 .given .1))

@@ -5,14 +5,12 @@ use Rattle.resample.proofs.write.same_size.Tie as tie
 use Rattle.resample.proofs.write.same_size.Reads as reads
 use Rattle.resample.proofs.write.same_size.Lts as lts
 
--- src/write.rt:200:9
 returns : tie.Need-returns
 unfolding sameSize
 returns c =
     simp (
     eq-eqb _ _ (c .before .before .if1 .taken))
 
--- src/write.rt:196:1
 returns-2 : tie.Need-returns-2
 unfolding sameSize
 returns-2 c =

@@ -42,36 +42,28 @@ module _ (c : tie.In-loop Inv-loop μ-loop) where
   room : c .before .loop .i + c .before .before .before .before .before .args .r .«to_bytes» ≤ length (c .before .loop .out)
   room = rw (← long) (writing-fits (item (c .before .loop .x)) _ (writing-as (c .before .loop .inv .1) step))
 
--- src/write.rt:101:5
 loop-holds : tie.Need-loop-holds Inv-loop μ-loop
 unfolding rasterRow samplesOf
 loop-holds c = (refl, writing-start _ _ _ (rw (length-rasterRow (now (c .before .before .before .args .plane)) (c .before .before .before .args .r) (c .before .before .before .args .row) (c .before .before .before .pre .0)) (c .before .before .before .pre .2)))
 
--- src/write.rt:102:51
 row-sample-requires : tie.Need-row-sample-requires Inv-loop μ-loop
 row-sample-requires c κs = (c .before .before .before .before .before .before .pre .0, c .before .before .before .before .before .before .pre .1, left ((c .before)))
 
--- src/write.rt:102:9
 put-sample-requires : tie.Need-put-sample-requires Inv-loop μ-loop
 put-sample-requires c κs = (c .before .before .before .before .before .before .before .pre .0 .toSome, c .before .before .before .before .before .before .before .pre .0 .toFew, room ((c .before .before)))
 
--- src/write.rt:103:9
 add-x : tie.Need-add-x Inv-loop μ-loop
 add-x c = search needs
 
--- src/write.rt:101:5
 loop-less : tie.Need-loop-less Inv-loop μ-loop
 loop-less c = search needs
 
--- src/write.rt:101:5
 loop-again : tie.Need-loop-again Inv-loop μ-loop
 loop-again c = (c .before .before .before .before .before .before .loop .inv .0, writing-run (item ((c .before .before .before .before .before)) (c .before .before .before .before .before .before .loop .x)) (writing-as (c .before .before .before .before .before .before .loop .inv .1) (step ((c .before .before .before .before .before)))) (c .before .before .put-sample .ensures .0 ∙ ap (λ (k : ℕ). c .before .before .before .before .before .before .loop .i + k) (sym (long ((c .before .before .before .before .before))))) (c .before .before .put-sample .ensures .1 ∙ ap (λ (v : ℕ). puts (c .before .before .before .before .before .before .loop .out) (c .before .before .before .before .before .before .loop .i) (sampleBytes (c .before .before .before .before .before .before .before .before .before .before .args .r .«to_bytes») v)) (c .before .before .before .row-sample .ensures)))
 
--- src/write.rt:93:1
 same-length : tie.Need-same-length Inv-loop μ-loop
 same-length c = c .before .loop .inv .1 .long
 
--- src/write.rt:93:1
 returns : tie.Need-returns Inv-loop μ-loop
 returns c = let w = writing-done (writing-as (c .before .loop .inv .1) (span-end _ _ _ (rw (c .before .loop .inv .0) at (c .loop-test .left)))) in (w .0 ∙ ap (λ (k : ℕ). c .before .before .before .before .before .args .at + k) (length-rasterRow (now (c .before .before .before .before .before .args .plane)) (c .before .before .before .before .before .args .r) (c .before .before .before .before .before .args .row) (c .before .before .before .before .before .pre .0)), w .1)
 

@@ -41,36 +41,28 @@ module _ (c : tie.In-loop Inv-loop μ-loop) where
   room : c .before .loop .i + c .before .before .before .before .before .args .r .across .to * c .before .before .before .before .before .args .r .«to_bytes» ≤ length (c .before .loop .out)
   room = rw (← long) (writing-fits (item (c .before .loop .y)) _ (writing-as (c .before .loop .inv .1) step))
 
--- src/write.rt:117:5
 loop-holds : tie.Need-loop-holds Inv-loop μ-loop
 unfolding rasterBytes
 loop-holds c = (refl, writing-start _ _ _ (rw (length-rasterBytes (now (c .before .before .before .args .plane)) (c .before .before .before .args .r) (c .before .before .before .pre .0)) (c .before .before .before .pre .2)))
 
--- src/write.rt:118:41
 row-rule-requires : tie.Need-row-rule-requires Inv-loop μ-loop
 row-rule-requires c κs = (c .before .before .before .before .before .before .pre .1, c .before .before .before .before .before .before .pre .0 .down, left ((c .before)))
 
--- src/write.rt:118:9
 write-row-requires : tie.Need-write-row-requires Inv-loop μ-loop
 write-row-requires c κs = (c .before .before .before .before .before .before .before .pre .0, rw (c .row-rule .ensures) (row-fits _ _ _ _ (c .before .before .before .before .before .before .before .pre .1) (c .before .before .before .before .before .before .before .pre .0 .down) (left ((c .before .before)))), room ((c .before .before)))
 
--- src/write.rt:119:9
 add-y : tie.Need-add-y Inv-loop μ-loop
 add-y c = search needs
 
--- src/write.rt:117:5
 loop-less : tie.Need-loop-less Inv-loop μ-loop
 loop-less c = search needs
 
--- src/write.rt:117:5
 loop-again : tie.Need-loop-again Inv-loop μ-loop
 loop-again c = (c .before .before .before .before .before .before .loop .inv .0, writing-run (item ((c .before .before .before .before .before)) (c .before .before .before .before .before .before .loop .y)) (writing-as (c .before .before .before .before .before .before .loop .inv .1) (step ((c .before .before .before .before .before)))) (c .before .before .write-row .ensures .0 ∙ ap (λ (k : ℕ). c .before .before .before .before .before .before .loop .i + k) (sym (long ((c .before .before .before .before .before))))) (c .before .before .write-row .ensures .1 ∙ ap (λ (q : RowRule). puts (c .before .before .before .before .before .before .loop .out) (c .before .before .before .before .before .before .loop .i) (rasterRow (now (c .before .before .before .before .before .before .before .before .before .before .args .plane)) (c .before .before .before .before .before .before .before .before .before .before .args .r) q)) (c .before .before .before .row-rule .ensures)))
 
--- src/write.rt:109:1
 same-length : tie.Need-same-length Inv-loop μ-loop
 same-length c = c .before .loop .inv .1 .long
 
--- src/write.rt:109:1
 returns : tie.Need-returns Inv-loop μ-loop
 returns c = let w = writing-done (writing-as (c .before .loop .inv .1) (span-end _ _ _ (rw (c .before .loop .inv .0) at (c .loop-test .left)))) in (w .0 ∙ ap (λ (k : ℕ). c .before .before .before .before .before .args .at + k) (length-rasterBytes (now (c .before .before .before .before .before .args .plane)) (c .before .before .before .before .before .args .r) (c .before .before .before .before .before .pre .0)), w .1)
 

@@ -8,23 +8,18 @@ use Rattle.scene.proofs.carry.clear.Reads as reads
 use Rattle.scene.proofs.carry.clear.Lts as lts
 use Rattle.image.proofs.fill_row.Reads as fill-row-reads
 
--- src/carry.rt:126:17
 sub-n : tie.Need-sub-n
 sub-n c = search needs
 
--- src/carry.rt:127:9
 fill-row-requires : tie.Need-fill-row-requires
 fill-row-requires c κs = search needs
 
--- src/carry.rt:122:1
 same-length : tie.Need-same-length
 same-length c = search needs
 
--- src/carry.rt:122:1
 returns : tie.Need-returns
 returns c = c .before .before .fill-row .ensures .1 ∙ cleared _ _ _ (omega (arith, c .before .before .before .before .if1 .taken)) refl
 
--- src/carry.rt:122:1
 returns-2 : tie.Need-returns-2
 returns-2 c = cleared-none _ _ (c .if1 .left)
 

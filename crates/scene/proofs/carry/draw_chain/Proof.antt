@@ -19,60 +19,46 @@ Inv-loop s essential-only output₀ spare₀ next₀ left₀ held₀ output spar
 abbrev μ-loop : tie.MeasureT-loop
 μ-loop s essential-only output₀ spare₀ next₀ left₀ held₀ output spare next left held = left
 
--- src/carry.rt:110:5
 loop-holds : tie.Need-loop-holds Inv-loop μ-loop
 loop-holds c = record { ready = c .before .before .before .pre; same = refl; long = refl; other = refl }
 
--- src/carry.rt:111:34
 read-entry-requires : tie.Need-read-entry-requires Inv-loop μ-loop
 read-entry-requires c κs = search needs
 
--- src/carry.rt:111:29
 enum-known-e : tie.Need-enum-known-e Inv-loop μ-loop
 enum-known-e c = search needs
 
--- src/carry.rt:112:13
 enum-told : tie.Need-enum-told Inv-loop μ-loop
 enum-told c = search needs
 
--- src/carry.rt:112:13
 same-length : tie.Need-same-length Inv-loop μ-loop
 same-length c = search needs
 
--- src/carry.rt:112:13
 same-length-2 : tie.Need-same-length-2 Inv-loop μ-loop
 same-length-2 c = search needs
 
--- src/carry.rt:112:13
 returns : tie.Need-returns Inv-loop μ-loop
 returns c = entries-read _ _ _ _ _ (c .before .before .before .loop-test .taken) (c .before .before .before .before .loop .inv .ready .read) (sym (c .before .before .read-entry .ensures) ∙ ap entryOut (c .enum-told .given .1))
 
--- src/carry.rt:114:9
 draw-entry-requires : tie.Need-draw-entry-requires Inv-loop μ-loop
 draw-entry-requires c κs = search needs
 
--- src/carry.rt:116:9
 sub-left : tie.Need-sub-left Inv-loop μ-loop
 sub-left c = search needs
 
--- src/carry.rt:110:5
 loop-less : tie.Need-loop-less Inv-loop μ-loop
 loop-less c = search needs
 
--- src/carry.rt:110:5
 loop-again : tie.Need-loop-again Inv-loop μ-loop
 unfolding buffers
 loop-again c = going-on _ _ _ _ _ _ _ _ _ (c .before .before .before .before .before .before .before .before .before .before .before .before .loop .inv) _ (c .before .before .before .before .before .before .before .before .before .before .before .loop-test .taken) (sym (c .before .before .before .before .before .before .before .before .before .before .read-entry .ensures) ∙ ap entryOut (c .before .before .before .before .before .before .before .before .e .given .1)) (c .before .before .before .before .draw-entry .ensures)
 
--- src/carry.rt:96:1
 same-length-3 : tie.Need-same-length-3 Inv-loop μ-loop
 same-length-3 c = search needs
 
--- src/carry.rt:96:1
 same-length-4 : tie.Need-same-length-4 Inv-loop μ-loop
 same-length-4 c = search needs
 
--- src/carry.rt:96:1
 returns-2 : tie.Need-returns-2 Inv-loop μ-loop
 returns-2 c = going-ends _ _ _ _ _ _ _ _ _ _ _ (c .before .loop .inv) (c .loop-test .left)
 

@@ -10,45 +10,35 @@ use Rattle.scene.proofs.carry.draw_entry.Lts as lts
 use Rattle.scene.proofs.carry.draw_into.Reads as draw-into-reads
 use Rattle.scene.proofs.carry.is_drawn.Reads as is-drawn-reads
 
--- src/carry.rt:79:8
 is-drawn-requires : tie.Need-is-drawn-requires
 is-drawn-requires c κs = search needs
 
--- src/carry.rt:83:23
 draw-into-requires : tie.Need-draw-into-requires
 draw-into-requires c κs = search needs
 
--- src/carry.rt:82:13
 same-length : tie.Need-same-length
 same-length c = search needs
 
--- src/carry.rt:82:13
 same-length-2 : tie.Need-same-length-2
 same-length-2 c = search needs
 
--- src/carry.rt:82:13
 returns : tie.Need-returns
 unfolding movedOn buffers
 returns c = sym (pick-true _ _ _ (sym (c .before .before .before .before .before .before .before .is-drawn .ensures) ∙ c .before .before .before .before .before .before .if1 .taken) ∙ crossed-over _ _ _ _ _ _ _ (c .before .before .before .before .before .if2 .taken) (c .before .before .draw-into .ensures .0) (c .before .before .draw-into .ensures .1))
 
--- src/carry.rt:88:19
 draw-into-requires-2 : tie.Need-draw-into-requires-2
 draw-into-requires-2 c κs = search needs
 
--- src/carry.rt:87:9
 same-length-3 : tie.Need-same-length-3
 same-length-3 c = search needs
 
--- src/carry.rt:87:9
 same-length-4 : tie.Need-same-length-4
 same-length-4 c = search needs
 
--- src/carry.rt:87:9
 returns-2 : tie.Need-returns-2
 unfolding movedOn buffers
 returns-2 c = sym (pick-true _ _ _ (sym (c .before .before .before .before .before .before .before .is-drawn .ensures) ∙ c .before .before .before .before .before .before .if1 .taken) ∙ crossed-back _ _ _ _ _ _ _ (c .before .before .before .before .before .if2 .left) (c .before .before .draw-into2 .ensures .0) (c .before .before .draw-into2 .ensures .1))
 
--- src/carry.rt:69:1
 returns-3 : tie.Need-returns-3
 unfolding movedOn buffers
 returns-3 c = sym (pick-false _ _ _ (sym (c .before .is-drawn .ensures) ∙ c .if1 .left))

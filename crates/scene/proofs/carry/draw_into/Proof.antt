@@ -9,23 +9,18 @@ use Rattle.scene.proofs.carry.draw_into.Lts as lts
 use Rattle.scene.proofs.carry.draw_step.Reads as draw-step-reads
 use Rattle.scene.proofs.carry.wrote.Reads as wrote-reads
 
--- src/carry.rt:58:9
 slice-aggregate-record : tie.Need-slice-aggregate-record
 slice-aggregate-record c = sym (length-take-le _ _ (c .before .before .before .pre))
 
--- src/carry.rt:59:11
 draw-step-requires : tie.Need-draw-step-requires
 draw-step-requires c κs = search needs
 
--- src/carry.rt:59:5
 wrote-requires : tie.Need-wrote-requires
 wrote-requires c κs = search needs
 
--- src/carry.rt:53:1
 same-length : tie.Need-same-length
 same-length c = search needs
 
--- src/carry.rt:53:1
 returns : tie.Need-returns
 returns c = (c .wrote .ensures ∙ ap wroteOf (c .before .before .before .draw-step .ensures .0), c .before .before .before .draw-step .ensures .1)
 

@@ -11,83 +11,63 @@ use Rattle.transform.proofs.apply_clap.Reads as apply-clap-reads
 use Rattle.transform.proofs.apply_imir.Reads as apply-imir-reads
 use Rattle.transform.proofs.apply_irot.Reads as apply-irot-reads
 
--- src/carry.rt:21:53
 enum-told : tie.Need-enum-told
 enum-told c = search needs
 
--- src/carry.rt:21:28
 hand-back-requires : tie.Need-hand-back-requires
 hand-back-requires c κs = search needs
 
--- src/carry.rt:22:24
 enum-known-property : tie.Need-enum-known-property
 enum-known-property c = search needs
 
--- src/carry.rt:22:30
 apply-clap-requires : tie.Need-apply-clap-requires
 apply-clap-requires c κs = search needs
 
--- src/carry.rt:23:24
 enum-known-property-2 : tie.Need-enum-known-property-2
 enum-known-property-2 c = search needs
 
--- src/carry.rt:23:30
 apply-irot-requires : tie.Need-apply-irot-requires
 apply-irot-requires c κs = search needs
 
--- src/carry.rt:24:24
 enum-known-property-3 : tie.Need-enum-known-property-3
 enum-known-property-3 c = search needs
 
--- src/carry.rt:24:30
 apply-imir-requires : tie.Need-apply-imir-requires
 apply-imir-requires c κs = search needs
 
--- src/carry.rt:25:24
 enum-known-property-4 : tie.Need-enum-known-property-4
 enum-known-property-4 c = search needs
 
--- src/carry.rt:25:30
 apply-iscl-requires : tie.Need-apply-iscl-requires
 apply-iscl-requires c κs = search needs
 
--- src/carry.rt:16:1
 same-length : tie.Need-same-length
 same-length c = search needs
 
--- src/carry.rt:16:1
 returns : tie.Need-returns
 returns c = answers-as _ _ _ _ _ (step-other _ _ _ (c .before .before .before .before .enum-told .given .1)) (c .before .before .hand-back .ensures)
 
--- src/carry.rt:16:1
 same-length-2 : tie.Need-same-length-2
 same-length-2 c = search needs
 
--- src/carry.rt:16:1
 returns-2 : tie.Need-returns-2
 returns-2 c = answers-as _ _ _ _ _ (step-clap _ _ _ _ (c .before .before .before .before .before .property .given .1)) (c .before .before .apply-clap .ensures)
 
--- src/carry.rt:16:1
 same-length-3 : tie.Need-same-length-3
 same-length-3 c = search needs
 
--- src/carry.rt:16:1
 returns-3 : tie.Need-returns-3
 returns-3 c = answers-as _ _ _ _ _ (step-irot _ _ _ _ (c .before .before .before .before .before .property2 .given .1)) (c .before .before .apply-irot .ensures)
 
--- src/carry.rt:16:1
 same-length-4 : tie.Need-same-length-4
 same-length-4 c = search needs
 
--- src/carry.rt:16:1
 returns-4 : tie.Need-returns-4
 returns-4 c = answers-as _ _ _ _ _ (step-imir _ _ _ _ (c .before .before .before .before .before .property3 .given .1)) (c .before .before .apply-imir .ensures)
 
--- src/carry.rt:16:1
 same-length-5 : tie.Need-same-length-5
 same-length-5 c = search needs
 
--- src/carry.rt:16:1
 returns-5 : tie.Need-returns-5
 returns-5 c = answers-as _ _ _ _ _ (step-iscl _ _ _ _ (c .before .before .before .before .before .property4 .given .1)) (c .before .before .apply-iscl .ensures)
 

@@ -9,27 +9,21 @@ use Rattle.scene.proofs.carry.finish_scene.Lts as lts
 use Rattle.scene.proofs.carry.clear.Reads as clear-reads
 use Rattle.scene.proofs.carry.draw_chain.Reads as draw-chain-reads
 
--- src/carry.rt:143:9
 draw-chain-requires : tie.Need-draw-chain-requires
 draw-chain-requires c κs = search needs
 
--- src/carry.rt:144:5
 clear-requires : tie.Need-clear-requires
 clear-requires c κs = search needs
 
--- src/carry.rt:145:5
 clear-requires-2 : tie.Need-clear-requires-2
 clear-requires-2 c κs = search needs
 
--- src/carry.rt:132:1
 same-length : tie.Need-same-length
 same-length c = search needs
 
--- src/carry.rt:132:1
 same-length-2 : tie.Need-same-length-2
 same-length-2 c = search needs
 
--- src/carry.rt:132:1
 returns : tie.Need-returns
 returns c = record { answer = ap Wrote (c .before .before .before .before .before .before .before .before .before .before .before .before .draw-chain .ensures .size); output = c .before .before .before .before .before .before .clear .ensures ∙ ended-output _ _ _ _ _ _ (c .before .before .before .before .before .before .before .before .before .before .before .before .draw-chain .ensures); spare = c .before .before .clear2 .ensures ∙ ended-spare _ _ _ _ _ _ (c .before .before .before .before .before .before .before .before .before .before .before .before .draw-chain .ensures) }
 

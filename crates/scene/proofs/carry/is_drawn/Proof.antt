@@ -8,25 +8,20 @@ use Rattle.scene.proofs.carry.is_drawn.Reads as reads
 use Rattle.scene.proofs.carry.is_drawn.Lts as lts
 use Rattle.scene.proofs.course.is_move.Reads as is-move-reads
 
--- src/carry.rt:36:13
 is-move-requires : tie.Need-is-move-requires
 is-move-requires c κs = search needs
 
--- src/carry.rt:36:13
 returns : tie.Need-returns
 unfolding draws applies
 returns c = simp (c .before .before .if1 .taken, c .before .if2 .taken, sym (c .is-move .ensures))
 
--- src/carry.rt:38:9
 returns-2 : tie.Need-returns-2
 unfolding draws applies
 returns-2 c = simp (c .before .if1 .taken, c .if2 .left)
 
--- src/carry.rt:40:5
 is-move-requires-2 : tie.Need-is-move-requires-2
 is-move-requires-2 c κs = search needs
 
--- src/carry.rt:30:1
 returns-3 : tie.Need-returns-3
 unfolding draws applies
 returns-3 c = simp (c .before .if1 .left, sym (c .is-move2 .ensures))

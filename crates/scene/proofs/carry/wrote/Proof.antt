@@ -5,22 +5,18 @@ use Rattle.scene.proofs.carry.wrote.Tie as tie
 use Rattle.scene.proofs.carry.wrote.Reads as reads
 use Rattle.scene.proofs.carry.wrote.Lts as lts
 
--- src/carry.rt:46:23
 enum-known-a : tie.Need-enum-known-a
 enum-known-a c = search needs
 
--- src/carry.rt:47:31
 enum-told : tie.Need-enum-told
 enum-told c = search needs
 
--- src/carry.rt:42:1
 returns : tie.Need-returns
 unfolding wroteOf
 returns c =
     simp (
     c .before .a .given .1)
 
--- src/carry.rt:42:1
 returns-2 : tie.Need-returns-2
 unfolding wroteOf
 returns-2 c =

@@ -5,11 +5,9 @@ use Rattle.scene.proofs.course.flip.Tie as tie
 use Rattle.scene.proofs.course.flip.Reads as reads
 use Rattle.scene.proofs.course.flip.Lts as lts
 
--- src/course.rt:61:9
 returns : tie.Need-returns
 returns c = sym (pick-true _ _ _ (c .if1 .taken))
 
--- src/course.rt:57:1
 returns-2 : tie.Need-returns-2
 returns-2 c = sym (pick-false _ _ _ (c .if1 .left))
 

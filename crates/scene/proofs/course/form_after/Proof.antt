@@ -19,97 +19,75 @@ use Rattle.props.proofs.iscl.Iscl.output_size.Reads as output-size-reads
 use Rattle.transform.proofs.crop_form.Reads as crop-form-reads
 use Rattle.transform.proofs.turn_form.Reads as turn-form-reads
 
--- src/course.rt:62:28
 enum-told : tie.Need-enum-told
 enum-told c = search needs
 
--- src/course.rt:63:24
 enum-known-property : tie.Need-enum-known-property
 enum-known-property c = search needs
 
--- src/course.rt:64:17
 resolve-requires : tie.Need-resolve-requires
 resolve-requires c κs = search needs
 
--- src/course.rt:65:32
 enum-known-found : tie.Need-enum-known-found
 enum-known-found c = search needs
 
--- src/course.rt:66:42
 enum-told-2 : tie.Need-enum-told-2
 enum-told-2 c = search needs
 
--- src/course.rt:66:42
 refusal-requires : tie.Need-refusal-requires
 refusal-requires c κs = refused-no-rect _ _ (c .enum-told2 .given .1)
 
--- src/course.rt:66:17
 returns : tie.Need-returns
 unfolding formAfter
 returns c = simp (c .before .before .before .before .before .property .given .1) (sym (then-refused _ (sym (c .before .before .before .resolve .ensures) ∙ ap resolvedOut (c .refusal .ensures))))
 
--- src/course.rt:68:28
 crop-form-requires : tie.Need-crop-form-requires
 crop-form-requires c κs = search needs
 
--- src/course.rt:70:24
 enum-known-property-2 : tie.Need-enum-known-property-2
 enum-known-property-2 c = search needs
 
--- src/course.rt:70:45
 turn-form-requires : tie.Need-turn-form-requires
 turn-form-requires c κs = search needs
 
--- src/course.rt:71:30
 enum-told-3 : tie.Need-enum-told-3
 enum-told-3 c = search needs
 
--- src/course.rt:72:24
 enum-known-property-3 : tie.Need-enum-known-property-3
 enum-known-property-3 c = search needs
 
--- src/course.rt:72:36
 output-size-requires : tie.Need-output-size-requires
 output-size-requires c κs = search needs
 
--- src/course.rt:73:33
 enum-known-e : tie.Need-enum-known-e
 enum-known-e c = search needs
 
--- src/course.rt:74:30
 enum-known-z : tie.Need-enum-known-z
 enum-known-z c = search needs
 
--- src/course.rt:74:51
 sized-requires : tie.Need-sized-requires
 sized-requires c κs = search needs
 
--- src/course.rt:57:1
 returns-2 : tie.Need-returns-2
 unfolding formAfter
 returns-2 c = simp (c .enum-told .given .1)
 
--- src/course.rt:57:1
 returns-3 : tie.Need-returns-3
 unfolding formAfter
 returns-3 c = simp (c .before .before .before .before .before .before .property .given .1) (ap done (c .crop-form .ensures) ∙ sym (then-done _ (sym (c .before .before .before .before .resolve .ensures) ∙ ap resolvedOut (c .before .before .found .given .1))))
 
--- src/course.rt:57:1
 returns-4 : tie.Need-returns-4
 unfolding formAfter
 returns-4 c = simp (c .before .before .property2 .given .1) (ap done (c .turn-form .ensures))
 
--- src/course.rt:57:1
 returns-5 : tie.Need-returns-5
 unfolding formAfter
 returns-5 c = simp (c .enum-told3 .given .1)
 
--- src/course.rt:57:1
 returns-6 : tie.Need-returns-6
 unfolding formAfter
 returns-6 c = simp (c .before .before .before .before .before .property3 .given .1) (sym (then-refused _ (sym (c .before .before .before .output-size .ensures) ∙ ap sizeOut (c .before .e .given .1))))
 
--- src/course.rt:57:1
 returns-7 : tie.Need-returns-7
 unfolding formAfter
 returns-7 c = simp (c .before .before .before .before .before .before .property3 .given .1) (ap done (c .sized .ensures) ∙ sym (then-done _ (sym (c .before .before .before .before .output-size .ensures) ∙ ap sizeOut (c .before .before .z .given .1))))

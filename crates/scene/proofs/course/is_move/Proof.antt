@@ -5,55 +5,45 @@ use Rattle.scene.proofs.course.is_move.Tie as tie
 use Rattle.scene.proofs.course.is_move.Reads as reads
 use Rattle.scene.proofs.course.is_move.Lts as lts
 
--- src/course.rt:48:28
 enum-told : tie.Need-enum-told
 enum-told c = search needs
 
--- src/course.rt:49:30
 enum-told-2 : tie.Need-enum-told-2
 enum-told-2 c = search needs
 
--- src/course.rt:50:30
 enum-told-3 : tie.Need-enum-told-3
 enum-told-3 c = search needs
 
--- src/course.rt:51:30
 enum-told-4 : tie.Need-enum-told-4
 enum-told-4 c = search needs
 
--- src/course.rt:52:30
 enum-told-5 : tie.Need-enum-told-5
 enum-told-5 c = search needs
 
--- src/course.rt:44:1
 returns : tie.Need-returns
 unfolding moves
 returns c =
     simp (
     c .enum-told .given .1)
 
--- src/course.rt:44:1
 returns-2 : tie.Need-returns-2
 unfolding moves
 returns-2 c =
     simp (
     c .enum-told2 .given .1)
 
--- src/course.rt:44:1
 returns-3 : tie.Need-returns-3
 unfolding moves
 returns-3 c =
     simp (
     c .enum-told3 .given .1)
 
--- src/course.rt:44:1
 returns-4 : tie.Need-returns-4
 unfolding moves
 returns-4 c =
     simp (
     c .enum-told4 .given .1)
 
--- src/course.rt:44:1
 returns-5 : tie.Need-returns-5
 unfolding moves
 returns-5 c =

@@ -7,12 +7,10 @@ use Rattle.scene.proofs.course.longer_of.Tie as tie
 use Rattle.scene.proofs.course.longer_of.Reads as reads
 use Rattle.scene.proofs.course.longer_of.Lts as lts
 
--- src/course.rt:38:9
 returns : tie.Need-returns
 unfolding longer
 returns c = sym (pick-true _ _ _ (lt-ltb _ _ (c .if1 .taken)))
 
--- src/course.rt:34:1
 returns-2 : tie.Need-returns-2
 unfolding longer
 returns-2 c = sym (pick-false _ _ _ (le-ltb _ _ (c .if1 .left)))

@@ -25,59 +25,45 @@ Inv-loop s essential-only next₀ left₀ reached₀ next left reached = (rest :
 abbrev μ-loop : tie.MeasureT-loop
 μ-loop s essential-only next₀ left₀ reached₀ next left reached = left
 
--- src/course.rt:130:9
 new-requires : tie.Need-new-requires Inv-loop μ-loop
 new-requires c κs = c .before .pre .1
 
--- src/course.rt:131:5
 loop-holds : tie.Need-loop-holds Inv-loop μ-loop
 loop-holds c = (c .before .before .pre .0 .entries, c .before .before .pre .0 .read, then-done _ (c .before .before .pre .0 .read), rw (c .new .ensures) (start-sound _ (c .before .before .pre .1)))
 
--- src/course.rt:132:34
 read-entry-requires : tie.Need-read-entry-requires Inv-loop μ-loop
 read-entry-requires c κs = search needs
 
--- src/course.rt:132:29
 enum-known-e : tie.Need-enum-known-e Inv-loop μ-loop
 enum-known-e c = search needs
 
--- laws: src/lib.rt:7:33
 enum-told : tie.Need-enum-told Inv-loop μ-loop
 enum-told c = search needs
 
--- src/course.rt:133:13
 returns : tie.Need-returns Inv-loop μ-loop
 returns c = entries-read _ _ _ _ _ (c .before .before .before .loop-test .taken) (c .before .before .before .before .loop .inv .1) (sym (c .before .before .read-entry .ensures) ∙ ap entryOut (c .enum-told .given .1))
 
--- src/course.rt:136:15
 after-entry-requires : tie.Need-after-entry-requires Inv-loop μ-loop
 after-entry-requires c κs = c .before .before .before .before .before .before .loop .inv .3
 
--- src/course.rt:137:33
 enum-known-r : tie.Need-enum-known-r Inv-loop μ-loop
 enum-known-r c = search needs
 
--- src/course.rt:138:17
 returns-2 : tie.Need-returns-2 Inv-loop μ-loop
 returns-2 c = sym (course-start _ _ _ _ _ _ (c .before .before .before .before .before .before .before .before .before .before .before .new .ensures) ∙ c .before .before .before .before .before .before .before .before .before .before .loop .inv .2 ∙ along-refused _ _ _ _ _ _ _ (c .before .before .before .before .before .before .before .before .before .before .loop .inv .1) _ _ (c .before .before .before .before .before .before .before .before .before .loop-test .taken) (sym (c .before .before .before .before .before .before .before .before .read-entry .ensures) ∙ ap entryOut (c .before .before .before .before .before .before .e .given .1)) (sym (c .before .before .before .after-entry .ensures) ∙ ap courseOut (c .before .r .given .1)))
 
--- src/course.rt:140:32
 enum-known-z : tie.Need-enum-known-z Inv-loop μ-loop
 enum-known-z c = search needs
 
--- src/course.rt:145:9
 sub-left : tie.Need-sub-left Inv-loop μ-loop
 sub-left c = search needs
 
--- src/course.rt:131:5
 loop-less : tie.Need-loop-less Inv-loop μ-loop
 loop-less c = search needs
 
--- src/course.rt:131:5
 loop-again : tie.Need-loop-again Inv-loop μ-loop
 loop-again c = let q = sym (c .before .before .before .after-entry .ensures) ∙ ap courseOut (c .before .z .given .1) in let k = along-step _ _ _ _ _ _ _ (c .before .before .before .before .before .before .before .before .before .before .loop .inv .1) _ _ (c .before .before .before .before .before .before .before .before .before .loop-test .taken) (sym (c .before .before .before .before .before .before .before .before .read-entry .ensures) ∙ ap entryOut (c .before .before .before .before .before .before .e .given .1)) q in (k .0, k .1, c .before .before .before .before .before .before .before .before .before .before .loop .inv .2 ∙ k .2, entry-sound _ _ _ _ (c .before .before .before .before .before .before .before .before .before .before .loop .inv .3) q)
 
--- src/course.rt:124:1
 returns-3 : tie.Need-returns-3 Inv-loop μ-loop
 returns-3 c = sym (course-start _ _ _ _ _ _ (c .before .before .new .ensures) ∙ c .before .loop .inv .2 ∙ along-end _ _ _ _ _ _ _ (c .before .loop .inv .1) (c .loop-test .left))
 

@@ -19,38 +19,30 @@ holding h = done h
 led : (c : tie.After-k) → courseOf (c .before .before .before .before .pre .0 .entries) (c .before .before .before .before .args .essential-only) (c .before .before .before .before .args .m) ≡ done (c .k .given .0 .0)
 led c = sym (then-done _ (c .before .before .before .before .pre .0 .read)) ∙ sym (c .before .before .plan-chain .ensures) ∙ ap courseOut (c .k .given .1)
 
--- src/plan.rt:34:11
 plan-chain-requires : tie.Need-plan-chain-requires
 plan-chain-requires c κs = search needs
 
--- src/plan.rt:35:29
 enum-known-e : tie.Need-enum-known-e
 enum-known-e c = search needs
 
--- src/plan.rt:36:28
 enum-known-k : tie.Need-enum-known-k
 enum-known-k c = search needs
 
--- src/plan.rt:38:17
 returns : tie.Need-returns
 unfolding heldOf heldFor
 returns c = sym (then-done _ (c .before .before .before .before .before .before .before .pre .0 .read) ∙ then-done _ (led (c .before .before .before)) ∙ refuse-yes _ _ (lt-ltb _ _ (c .if1 .taken)))
 
--- src/plan.rt:41:17
 returns-2 : tie.Need-returns-2
 unfolding heldOf heldFor
 returns-2 c = sym (then-done _ (c .before .before .before .before .before .before .before .before .before .pre .0 .read) ∙ then-done _ (led (c .before .before .before .before .before)) ∙ refuse-no _ _ (le-ltb _ _ (c .before .before .if1 .left)) ∙ refuse-yes _ _ (lt-ltb _ _ (c .if2 .taken)))
 
--- src/plan.rt:44:23
 record-size-requires : tie.Need-record-size-requires
 record-size-requires c κs = search needs
 
--- src/plan.rt:23:1
 returns-3 : tie.Need-returns-3
 unfolding heldOf
 returns-3 c = sym (then-done _ (c .before .before .before .before .before .pre .0 .read) ∙ then-refused _ (sym (then-done _ (c .before .before .before .before .before .pre .0 .read)) ∙ sym (c .before .before .before .plan-chain .ensures) ∙ ap courseOut (c .before .e .given .1)))
 
--- src/plan.rt:23:1
 returns-4 : tie.Need-returns-4
 unfolding heldOf heldFor
 returns-4 c = ap (λ (n : ℕ). holding (record { size = n; inside = c .before .before .before .before .before .before .k .given .0 .0 .even })) (c .record-size .ensures) ∙ sym (then-done _ (c .before .before .before .before .before .before .before .before .before .before .pre .0 .read) ∙ then-done _ (led (c .before .before .before .before .before .before)) ∙ refuse-no _ _ (le-ltb _ _ (c .before .before .before .if1 .left)) ∙ refuse-no _ _ (le-ltb _ _ (c .before .if2 .left)))

@@ -7,19 +7,15 @@ use Rattle.session.proofs.draw.begin.Reads as reads
 use Rattle.session.proofs.draw.begin.Lts as lts
 use Rattle.grid.proofs.paint_canvas.Reads as paint-canvas-reads
 
--- src/draw.rt:17:9
 paint-canvas-requires : tie.Need-paint-canvas-requires
 paint-canvas-requires c κs = search needs
 
--- src/draw.rt:12:1
 same-length : tie.Need-same-length
 same-length c = search needs
 
--- src/draw.rt:12:1
 returns : tie.Need-returns
 returns c = c .before .before .paint-canvas .ensures ∙ sym (begun-first _ _ _ (c .before .before .before .before .if1 .taken))
 
--- src/draw.rt:12:1
 returns-2 : tie.Need-returns-2
 returns-2 c = sym (begun-later _ _ _ (c .if1 .left))
 

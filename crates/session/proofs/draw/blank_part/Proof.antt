@@ -25,39 +25,30 @@ there c = sym (c .before .has .ensures) ∙ c .if1 .taken
 cell : (c : tie.After-cell-of) → c .cell-of .result ≡ cellOf (c .before .before .before .before .before .before .args .canvas) (tileForm (c .before .before .before .before .before .before .args .promoted) (c .before .before .before .before .before .before .args .tile)) (c .before .before .before .before .before .before .args .column) (c .before .before .before .before .before .before .args .row) (c .before .before .before .before .before .before .args .part)
 cell c = c .cell-of .ensures ∙ ap (λ (t : Form). cellOf (c .before .before .before .before .before .before .args .canvas) t (c .before .before .before .before .before .before .args .column) (c .before .before .before .before .before .before .args .row) (c .before .before .before .before .before .before .args .part)) (c .before .tile-form .ensures)
 
--- src/draw.rt:84:8
 has-requires : tie.Need-has-requires
 has-requires c κs = search needs
 
--- src/draw.rt:85:42
 tile-form-requires : tie.Need-tile-form-requires
 tile-form-requires c κs = search needs
 
--- src/draw.rt:85:13
 cell-of-requires : tie.Need-cell-of-requires
 cell-of-requires c κs = (c .before .before .before .before .before .pre .canvas, rw (c .tile-form .ensures) (tile-sound (c .before .before .before .before .before .args .promoted) (c .before .before .before .before .before .args .tile) (blank-tile _ _ _ _ (c .before .before .before .before .before .pre) (c .before .before .before .before .before .args .part))), blank-has _ _ _ _ (c .before .before .before .before .before .pre) (c .before .before .before .before .before .args .part) (there (c .before)), rw (c .tile-form .ensures) (blank-bytes _ _ _ _ (c .before .before .before .before .before .pre) (c .before .before .before .before .before .args .part)), omega (arith, c .before .before .before .before .before .pre .room))
 
--- src/draw.rt:90:13
 bytes-per-sample-requires : tie.Need-bytes-per-sample-requires
 bytes-per-sample-requires c κs = search needs
 
--- src/draw.rt:91:13
 blank-sample-requires : tie.Need-blank-sample-requires
 blank-sample-requires c κs = let k = blank-tile _ _ _ _ (c .before .before .before .before .before .before .before .before .pre) (c .before .before .before .before .before .before .before .before .args .part) in (omega (arith, k .low), k .high)
 
--- src/draw.rt:86:9
 fill-rows-requires : tie.Need-fill-rows-requires
 fill-rows-requires c κs = let k = bytes-few (c .before .before .before .before .before .before .before .before .before .args .tile .format) in let e = c .before .bytes-per-sample .ensures in (rw e (k .0), rw e (k .1), λ y l. rw e (blank-writes _ _ _ _ (c .before .before .before .before .before .before .before .before .before .pre) (c .before .before .before .before .before .before .before .before .before .args .part) (there (c .before .before .before .before .before)) _ _ _ (cell (c .before .before .before)) y l))
 
--- src/draw.rt:71:1
 same-length : tie.Need-same-length
 same-length c = search needs
 
--- src/draw.rt:71:1
 returns : tie.Need-returns
 returns c = c .before .before .fill-rows .ensures ∙ rw (c .before .before .before .before .bytes-per-sample .ensures) (blank-stored _ _ _ _ _ _ _ _ _ (blank-colour _ _ _ _ (c .before .before .before .before .before .before .before .before .before .before .before .before .pre) (c .before .before .before .before .before .before .before .before .before .before .before .before .args .part)) (there (c .before .before .before .before .before .before .before .before)) (cell (c .before .before .before .before .before .before)) (c .before .before .before .blank-sample .ensures))
 
--- src/draw.rt:71:1
 returns-2 : tie.Need-returns-2
 returns-2 c = blank-lacks _ _ _ _ _ _ _ (blank-colour _ _ _ _ (c .before .before .before .before .pre) (c .before .before .before .before .args .part)) (sym (c .before .has .ensures) ∙ c .if1 .left)
 

@@ -8,39 +8,30 @@ use Rattle.session.proofs.draw.blank_sample.Lts as lts
 use Rattle.image.proofs.format.PixelFormat.middle.Reads as middle-reads
 use Rattle.image.proofs.format.PixelFormat.top.Reads as top-reads
 
--- src/draw.rt:63:23
 enum-told : tie.Need-enum-told
 enum-told c = search needs
 
--- src/draw.rt:63:23
 middle-requires : tie.Need-middle-requires
 middle-requires c κs = search needs
 
--- src/draw.rt:64:21
 enum-told-2 : tie.Need-enum-told-2
 enum-told-2 c = search needs
 
--- src/draw.rt:64:21
 middle-requires-2 : tie.Need-middle-requires-2
 middle-requires-2 c κs = search needs
 
--- src/draw.rt:65:21
 enum-told-3 : tie.Need-enum-told-3
 enum-told-3 c = search needs
 
--- src/draw.rt:65:21
 middle-requires-3 : tie.Need-middle-requires-3
 middle-requires-3 c κs = search needs
 
--- src/draw.rt:66:24
 enum-told-4 : tie.Need-enum-told-4
 enum-told-4 c = search needs
 
--- src/draw.rt:66:24
 top-requires : tie.Need-top-requires
 top-requires c κs = search needs
 
--- src/draw.rt:58:1
 returns : tie.Need-returns
 unfolding blankAt
 returns c =
@@ -49,7 +40,6 @@ returns c =
       sym (c .middle .ensures),
     )
 
--- src/draw.rt:58:1
 returns-2 : tie.Need-returns-2
 unfolding blankAt
 returns-2 c =
@@ -58,7 +48,6 @@ returns-2 c =
       sym (c .middle2 .ensures),
     )
 
--- src/draw.rt:58:1
 returns-3 : tie.Need-returns-3
 unfolding blankAt
 returns-3 c =
@@ -67,7 +56,6 @@ returns-3 c =
       sym (c .middle3 .ensures),
     )
 
--- src/draw.rt:58:1
 returns-4 : tie.Need-returns-4
 unfolding blankAt
 returns-4 c =

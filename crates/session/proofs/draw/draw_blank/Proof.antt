@@ -8,27 +8,21 @@ use Rattle.session.proofs.draw.draw_blank.Reads as reads
 use Rattle.session.proofs.draw.draw_blank.Lts as lts
 use Rattle.session.proofs.draw.blank_part.Reads as blank-part-reads
 
--- src/draw.rt:110:5
 blank-part-requires : tie.Need-blank-part-requires
 blank-part-requires c κs = search needs
 
--- src/draw.rt:111:5
 blank-part-requires-2 : tie.Need-blank-part-requires-2
 blank-part-requires-2 c κs = search needs
 
--- src/draw.rt:112:5
 blank-part-requires-3 : tie.Need-blank-part-requires-3
 blank-part-requires-3 c κs = search needs
 
--- src/draw.rt:113:5
 blank-part-requires-4 : tie.Need-blank-part-requires-4
 blank-part-requires-4 c κs = search needs
 
--- src/draw.rt:99:1
 same-length : tie.Need-same-length
 same-length c = search needs
 
--- src/draw.rt:99:1
 returns : tie.Need-returns
 unfolding storeTile
 returns c = c .before .before .blank-part4 .ensures ∙ ap (storePart _ _ _ _ Alpha) (c .before .before .before .before .before .before .blank-part3 .ensures ∙ ap (storePart _ _ _ _ Cr) (c .before .before .before .before .before .before .before .before .before .before .blank-part2 .ensures ∙ ap (storePart _ _ _ _ Cb) (c .before .before .before .before .before .before .before .before .before .before .before .before .before .before .blank-part .ensures)))

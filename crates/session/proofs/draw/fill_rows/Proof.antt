@@ -22,40 +22,31 @@ Inv-loop out₀ at stride bytes v across down y₀ out y = (y ≤ down) × (out 
 abbrev μ-loop : tie.MeasureT-loop
 μ-loop out₀ at stride bytes v across down y₀ out y = down - y
 
--- src/draw.rt:51:5
 loop-holds : tie.Need-loop-holds Inv-loop μ-loop
 unfolding storeRows
 loop-holds c = (omega arith, refl)
 
--- src/draw.rt:52:35
 mul-fill-row : tie.Need-mul-fill-row Inv-loop μ-loop
 mul-fill-row c = let w = c .before .before .before .before .pre .2 (c .before .before .loop .y) (c .before .loop-test .taken) in omega arith
 
--- src/draw.rt:52:30
 add-fill-row : tie.Need-add-fill-row Inv-loop μ-loop
 add-fill-row c = let w = c .before .before .before .before .pre .2 (c .before .before .loop .y) (c .before .loop-test .taken) in omega arith
 
--- src/draw.rt:52:9
 fill-row-requires : tie.Need-fill-row-requires Inv-loop μ-loop
 fill-row-requires c κs = let w = c .before .before .before .before .pre .2 (c .before .before .loop .y) (c .before .loop-test .taken) in let l = ap length (c .before .before .loop .inv .1) ∙ length-storeRows _ _ _ _ _ in (c .before .before .before .before .pre .0, c .before .before .before .before .pre .1, omega arith)
 
--- src/draw.rt:53:9
 add-y : tie.Need-add-y Inv-loop μ-loop
 add-y c = search needs
 
--- src/draw.rt:51:5
 loop-less : tie.Need-loop-less Inv-loop μ-loop
 loop-less c = search needs
 
--- src/draw.rt:51:5
 loop-again : tie.Need-loop-again Inv-loop μ-loop
 loop-again c = (omega arith, c .before .before .fill-row .ensures .1 ∙ ap (λ (d : List ℕ). puts d (c .before .before .before .before .before .before .before .args .at + c .before .before .before .before .before .loop .y * c .before .before .before .before .before .before .before .args .stride) (samplesOf (c .before .before .before .before .before .before .before .args .bytes) (λ x. c .before .before .before .before .before .before .before .args .v) (c .before .before .before .before .before .before .before .args .across))) (c .before .before .before .before .before .loop .inv .1) ∙ rows-more _ _ _ _ _)
 
--- src/draw.rt:38:1
 same-length : tie.Need-same-length Inv-loop μ-loop
 same-length c = ap length (c .before .loop .inv .1) ∙ length-storeRows _ _ _ _ _
 
--- src/draw.rt:38:1
 returns : tie.Need-returns Inv-loop μ-loop
 returns c = let e : c .before .loop .y ≡ c .before .before .before .args .down = omega (arith, c .before .loop .inv .0, c .loop-test .left) in c .before .loop .inv .1 ∙ ap (storeRows (now (c .before .before .before .args .out)) (c .before .before .before .args .at) (c .before .before .before .args .stride) _) e
 

@@ -7,27 +7,21 @@ use Rattle.session.proofs.draw.tell_alpha.Reads as reads
 use Rattle.session.proofs.draw.tell_alpha.Lts as lts
 use Rattle.image.proofs.head_size.Reads as head-size-reads
 
--- src/draw.rt:28:13
 head-size-requires : tie.Need-head-size-requires
 head-size-requires c κs = search needs
 
--- src/draw.rt:28:13
 sub-out : tie.Need-sub-out
 sub-out c = rw (c .head-size .ensures .0) (head-some _ (c .before .before .before .before .before .pre .0))
 
--- src/draw.rt:28:9
 slice-write-out : tie.Need-slice-write-out
 slice-write-out c = omega (arith, c .head-size .ensures .0, head-some (c .before .before .before .before .before .args .canvas) (c .before .before .before .before .before .pre .0), head-within (c .before .before .before .before .before .args .canvas), c .before .before .before .before .before .pre .1)
 
--- src/draw.rt:22:1
 same-length : tie.Need-same-length
 same-length c = search needs
 
--- src/draw.rt:22:1
 returns : tie.Need-returns
 returns c = told-some _ _ _ _ (c .before .if1 .taken) (c .head-size .ensures .0)
 
--- src/draw.rt:22:1
 returns-2 : tie.Need-returns-2
 returns-2 c = told-none _ _ _ (c .if1 .left)
 

@@ -19,31 +19,24 @@ Inv-loop marks count i₀ i = (i ≤ count) × (allMarked marks 0 count ≡ allM
 abbrev μ-loop : tie.MeasureT-loop
 μ-loop marks count i₀ i = count - i
 
--- src/marks.rt:21:5
 loop-holds : tie.Need-loop-holds Inv-loop μ-loop
 loop-holds c = (search needs, ap (allMarked (now (c .args .marks)) 0) (sym (sub-zero _)))
 
--- src/marks.rt:22:13
 marked-requires : tie.Need-marked-requires Inv-loop μ-loop
 marked-requires c κs = omega (arith, c .loop-test .taken, c .before .before .pre)
 
--- src/marks.rt:23:13
 returns : tie.Need-returns Inv-loop μ-loop
 returns c = sym (c .before .before .before .loop .inv .1 ∙ all-missing _ _ _ (c .before .before .loop-test .taken) (sym (c .before .marked .ensures) ∙ not-true _ (c .if1 .taken)))
 
--- src/marks.rt:25:9
 add-i : tie.Need-add-i Inv-loop μ-loop
 add-i c = search needs
 
--- src/marks.rt:21:5
 loop-less : tie.Need-loop-less Inv-loop μ-loop
 loop-less c = search needs
 
--- src/marks.rt:21:5
 loop-again : tie.Need-loop-again Inv-loop μ-loop
 loop-again c = (search needs, c .before .before .before .loop .inv .1 ∙ all-onward _ _ _ (c .before .before .loop-test .taken) (sym (c .before .marked .ensures) ∙ not-false _ (c .if1 .left)))
 
--- src/marks.rt:16:1
 returns-2 : tie.Need-returns-2 Inv-loop μ-loop
 returns-2 c = sym (c .before .loop .inv .1 ∙ all-end _ _ _ (c .loop-test .left))
 

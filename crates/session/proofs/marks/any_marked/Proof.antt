@@ -14,35 +14,27 @@ Inv-loop marks i₀ i = (i ≤ 1024) × (anyWord marks 0 1024 ≡ anyWord marks 
 abbrev μ-loop : tie.MeasureT-loop
 μ-loop marks i₀ i = 1024 - i
 
--- src/marks.rt:35:5
 loop-holds : tie.Need-loop-holds Inv-loop μ-loop
 loop-holds c = (search needs, refl)
 
--- src/marks.rt:36:20
 mul-word : tie.Need-mul-word Inv-loop μ-loop
 mul-word c = search needs
 
--- src/marks.rt:36:20
 element-copy-out-word : tie.Need-element-copy-out-word Inv-loop μ-loop
 element-copy-out-word c = search needs
 
--- src/marks.rt:38:13
 returns : tie.Need-returns Inv-loop μ-loop
 returns c = sym (c .before .before .before .loop .inv .1 ∙ any-here _ _ _ (c .before .before .loop-test .taken) (c .if1 .taken))
 
--- src/marks.rt:40:9
 add-i : tie.Need-add-i Inv-loop μ-loop
 add-i c = search needs
 
--- src/marks.rt:35:5
 loop-less : tie.Need-loop-less Inv-loop μ-loop
 loop-less c = search needs
 
--- src/marks.rt:35:5
 loop-again : tie.Need-loop-again Inv-loop μ-loop
 loop-again c = (search needs, c .before .before .before .loop .inv .1 ∙ any-onward _ _ _ (c .before .before .loop-test .taken) (c .if1 .left))
 
--- src/marks.rt:31:1
 returns-2 : tie.Need-returns-2 Inv-loop μ-loop
 returns-2 c = sym (c .before .loop .inv .1 ∙ any-end _ _ _ (c .loop-test .left))
 

@@ -5,27 +5,21 @@ use Rattle.session.proofs.marks.marked.Tie as tie
 use Rattle.session.proofs.marks.marked.Reads as reads
 use Rattle.session.proofs.marks.marked.Lts as lts
 
--- src/marks.rt:10:14
 cast-at : tie.Need-cast-at
 cast-at c = search needs
 
--- src/marks.rt:11:16
 mul-word : tie.Need-mul-word
 mul-word c = search needs
 
--- src/marks.rt:11:16
 element-copy-out-word : tie.Need-element-copy-out-word
 element-copy-out-word c = search needs
 
--- src/marks.rt:12:15
 cast-result : tie.Need-cast-result
 cast-result c = search needs
 
--- src/marks.rt:12:6
 shr-result : tie.Need-shr-result
 shr-result c = search needs
 
--- src/marks.rt:6:1
 returns : tie.Need-returns
 returns c = test-is _ _
 

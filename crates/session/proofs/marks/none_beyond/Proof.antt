@@ -16,43 +16,33 @@ Inv-loop marks count i₀ i = (count / 64 ≤ i) × (clearFrom marks count (coun
 abbrev μ-loop : tie.MeasureT-loop
 μ-loop marks count i₀ i = 1024 - i
 
--- src/marks.rt:62:5
 loop-holds : tie.Need-loop-holds Inv-loop μ-loop
 loop-holds c = (search needs, refl)
 
--- src/marks.rt:63:18
 cast-at : tie.Need-cast-at Inv-loop μ-loop
 cast-at c = search needs
 
--- src/marks.rt:64:20
 mul-word : tie.Need-mul-word Inv-loop μ-loop
 mul-word c = search needs
 
--- src/marks.rt:64:20
 element-copy-out-word : tie.Need-element-copy-out-word Inv-loop μ-loop
 element-copy-out-word c = search needs
 
--- src/marks.rt:65:12
 past-count-requires : tie.Need-past-count-requires Inv-loop μ-loop
 past-count-requires c κs = (c .before .loop-test .taken, omega (arith, c .before .before .loop .inv .0))
 
--- src/marks.rt:66:13
 returns : tie.Need-returns Inv-loop μ-loop
 returns c = sym (c .before .before .before .before .loop .inv .1 ∙ clear-not _ _ _ _ (c .before .before .before .loop-test .taken) (λ z. c .if1 .taken (c .before .past-count .ensures ∙ z)))
 
--- src/marks.rt:68:9
 add-i : tie.Need-add-i Inv-loop μ-loop
 add-i c = search needs
 
--- src/marks.rt:62:5
 loop-less : tie.Need-loop-less Inv-loop μ-loop
 loop-less c = search needs
 
--- src/marks.rt:62:5
 loop-again : tie.Need-loop-again Inv-loop μ-loop
 loop-again c = (omega (arith, c .before .before .before .before .loop .inv .0), c .before .before .before .before .loop .inv .1 ∙ clear-onward _ _ _ _ (c .before .before .before .loop-test .taken) (sym (c .before .past-count .ensures) ∙ c .if1 .left))
 
--- src/marks.rt:58:1
 returns-2 : tie.Need-returns-2 Inv-loop μ-loop
 returns-2 c = sym (c .before .loop .inv .1 ∙ clear-end _ _ _ _ (c .loop-test .left))
 

@@ -7,27 +7,21 @@ use Rattle.session.proofs.marks.past_count.Tie as tie
 use Rattle.session.proofs.marks.past_count.Reads as reads
 use Rattle.session.proofs.marks.past_count.Lts as lts
 
--- src/marks.rt:50:18
 mul-before : tie.Need-mul-before
 mul-before c = search needs
 
--- src/marks.rt:52:9
 returns : tie.Need-returns
 returns c = let z : c .before .args .count - c .before .args .i * 64 ≡ 0 = omega (arith, c .if1 .taken) in let o : c .before .args .word / 1 ≡ c .before .args .word = omega arith in sym (ap (λ (k : ℕ). c .before .args .word / 2 ^ k) z ∙ o)
 
--- src/marks.rt:54:14
 sub-result : tie.Need-sub-result
 sub-result c = search needs
 
--- src/marks.rt:54:14
 cast-result : tie.Need-cast-result
 cast-result c = search needs
 
--- src/marks.rt:54:5
 shr-result : tie.Need-shr-result
 shr-result c = search needs
 
--- src/marks.rt:46:1
 returns-2 : tie.Need-returns-2
 returns-2 c = search needs
 

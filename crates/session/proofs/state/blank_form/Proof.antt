@@ -5,7 +5,6 @@ use Rattle.session.proofs.state.blank_form.Tie as tie
 use Rattle.session.proofs.state.blank_form.Reads as reads
 use Rattle.session.proofs.state.blank_form.Lts as lts
 
--- src/state.rt:76:1
 returns : tie.Need-returns
 unfolding noCanvas openOf noForm
 returns c = refl

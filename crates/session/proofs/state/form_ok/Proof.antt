@@ -8,7 +8,6 @@ use Rattle.session.proofs.state.form_ok.Reads as reads
 use Rattle.session.proofs.state.form_ok.Lts as lts
 use Rattle.session.proofs.state.sides_ok.Reads as sides-ok-reads
 
--- src/state.rt:62:9
 returns : tie.Need-returns
 unfolding sidesOk gridOk formOk
 returns c =
@@ -17,7 +16,6 @@ returns c =
       lt-ltb _ _ (c .if1 .taken),
     )
 
--- src/state.rt:65:9
 returns-2 : tie.Need-returns-2
 unfolding sidesOk gridOk formOk
 returns-2 c =
@@ -28,7 +26,6 @@ returns-2 c =
       lt-ltb _ _ (c .if2 .taken),
     )
 
--- src/state.rt:68:9
 returns-3 : tie.Need-returns-3
 unfolding sidesOk gridOk formOk
 returns-3 c =
@@ -41,7 +38,6 @@ returns-3 c =
       lt-ltb _ _ (c .if3 .taken),
     )
 
--- src/state.rt:71:9
 returns-4 : tie.Need-returns-4
 unfolding sidesOk gridOk formOk
 returns-4 c =
@@ -56,11 +52,9 @@ returns-4 c =
       lt-ltb _ _ (c .if4 .taken),
     )
 
--- src/state.rt:73:5
 sides-ok-requires : tie.Need-sides-ok-requires
 sides-ok-requires c κs = search needs
 
--- src/state.rt:57:1
 returns-5 : tie.Need-returns-5
 unfolding sidesOk gridOk formOk
 returns-5 c =

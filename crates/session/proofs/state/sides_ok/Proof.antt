@@ -9,7 +9,6 @@ use Rattle.session.proofs.state.sides_ok.Tie as tie
 use Rattle.session.proofs.state.sides_ok.Reads as reads
 use Rattle.session.proofs.state.sides_ok.Lts as lts
 
--- src/state.rt:31:9
 returns : tie.Need-returns
 unfolding sidesOk gridOk formOk
 returns c =
@@ -18,7 +17,6 @@ returns c =
       lt-ltb _ _ (c .if1 .taken),
     )
 
--- src/state.rt:34:9
 returns-2 : tie.Need-returns-2
 unfolding sidesOk gridOk formOk
 returns-2 c =
@@ -29,11 +27,9 @@ returns-2 c =
       lt-ltb _ _ (c .if2 .taken),
     )
 
--- src/state.rt:36:5
 mul-result : tie.Need-mul-result
 mul-result c = omega (arith, mul-below (2 ^ 32 - 1) (2 ^ 32 - 1) (c .before .before .args .width) (c .before .before .args .height) (search needs) (search needs))
 
--- src/state.rt:27:1
 returns-3 : tie.Need-returns-3
 unfolding sidesOk gridOk formOk
 returns-3 c =

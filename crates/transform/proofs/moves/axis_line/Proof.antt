@@ -8,11 +8,9 @@ use Rattle.transform.proofs.moves.axis_line.Reads as reads
 use Rattle.transform.proofs.moves.axis_line.Lts as lts
 use Rattle.transform.proofs.moves.shift.Reads as shift-reads
 
--- src/moves.rt:71:9
 shift-requires : tie.Need-shift-requires
 shift-requires c κs = search needs
 
--- src/moves.rt:73:9
 returns : tie.Need-returns
 unfolding lineOf pick
 returns c =
@@ -21,7 +19,6 @@ returns c =
       c .if1 .taken,
     )
 
--- src/moves.rt:66:1
 returns-2 : tie.Need-returns-2
 unfolding lineOf pick
 returns-2 c =

@@ -8,16 +8,13 @@ use Rattle.transform.proofs.moves.plane_axis.Reads as reads
 use Rattle.transform.proofs.moves.plane_axis.Lts as lts
 use Rattle.image.proofs.covering.Reads as covering-reads
 
--- src/moves.rt:133:9
 returns : tie.Need-returns
 unfolding planeAxis pick
 returns c = simp (c .if1 .taken)
 
--- src/moves.rt:136:15
 covering-requires : tie.Need-covering-requires
 covering-requires c κs = search needs
 
--- src/moves.rt:129:1
 returns-2 : tie.Need-returns-2
 unfolding planeAxis pick
 returns-2 c =

@@ -10,31 +10,24 @@ use Rattle.image.proofs.format.PixelFormat.half_width.Reads as half-width-reads
 use Rattle.image.proofs.both.Reads as both-reads
 use Rattle.transform.proofs.moves.plane_axis.Reads as plane-axis-reads
 
--- src/moves.rt:145:9
 half-width-requires : tie.Need-half-width-requires
 half-width-requires c κs = search needs
 
--- src/moves.rt:146:9
 half-height-requires : tie.Need-half-height-requires
 half-height-requires c κs = search needs
 
--- src/moves.rt:148:9
 plane-axis-requires : tie.Need-plane-axis-requires
 plane-axis-requires c κs = search needs
 
--- src/moves.rt:149:9
 plane-axis-requires-2 : tie.Need-plane-axis-requires-2
 plane-axis-requires-2 c κs = search needs
 
--- src/moves.rt:154:22
 both-requires : tie.Need-both-requires
 both-requires c κs = search needs
 
--- src/moves.rt:155:20
 both-requires-2 : tie.Need-both-requires-2
 both-requires-2 c κs = search needs
 
--- src/moves.rt:142:1
 returns : tie.Need-returns
 unfolding walkOf
 returns c =

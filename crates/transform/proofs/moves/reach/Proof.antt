@@ -8,15 +8,12 @@ use Rattle.transform.proofs.moves.reach.Reads as reads
 use Rattle.transform.proofs.moves.reach.Lts as lts
 use Rattle.image.proofs.covering.Reads as covering-reads
 
--- src/moves.rt:51:38
 sub-covering : tie.Need-sub-covering
 sub-covering c = c .before .pre .2 (c .if1 .taken)
 
--- src/moves.rt:51:9
 covering-requires : tie.Need-covering-requires
 covering-requires c κs = search needs
 
--- src/moves.rt:51:9
 returns : tie.Need-returns
 unfolding alongFrom pick
 returns c =
@@ -25,15 +22,12 @@ returns c =
       sym (c .covering .ensures),
     )
 
--- src/moves.rt:53:27
 add-covering : tie.Need-add-covering
 add-covering c = search needs
 
--- src/moves.rt:53:5
 covering-requires-2 : tie.Need-covering-requires-2
 covering-requires-2 c κs = search needs
 
--- src/moves.rt:44:1
 returns-2 : tie.Need-returns-2
 unfolding alongFrom pick
 returns-2 c =

@@ -21,19 +21,15 @@ across-small c = rw (c .reach .ensures) (reach-small _ _ _ _ (c .before .before 
 down-small : (c : tie.After-reach2) → c .reach2 .result < 2 ^ 32
 down-small c = rw (c .reach2 .ensures) (reach-small _ _ _ _ (c .before .before .before .before .pre .downSmall) (c .before .before .before .before .pre .few))
 
--- src/moves.rt:100:45
 reach-requires : tie.Need-reach-requires
 reach-requires c κs = (c .before .before .before .pre .acrossSmall, c .before .before .before .pre .few, c .before .before .before .pre .across (c .if1 .taken))
 
--- src/moves.rt:100:45
 mul-axis-line : tie.Need-mul-axis-line
 mul-axis-line c = record { fits = lt-of-le-of-lt (mul-below 4294967295 2 (c .reach .result) (c .before .before .before .before .args .bytes) (omega (arith, across-small c)) (c .before .before .before .before .pre .sample)) (lit< tt) }
 
--- src/moves.rt:100:9
 axis-line-requires : tie.Need-axis-line-requires
 axis-line-requires c κs = search needs
 
--- src/moves.rt:100:9
 returns : tie.Need-returns
 unfolding rowLine pick
 returns c =
@@ -43,19 +39,15 @@ returns c =
       sym (c .axis-line .ensures),
     )
 
--- src/moves.rt:102:38
 reach-requires-2 : tie.Need-reach-requires-2
 reach-requires-2 c κs = (c .before .before .before .pre .downSmall, c .before .before .before .pre .few, c .before .before .before .pre .down (c .if1 .left))
 
--- src/moves.rt:102:38
 mul-axis-line-2 : tie.Need-mul-axis-line-2
 mul-axis-line-2 c = record { fits = lt-of-le-of-lt (mul-below 4294967295 4294967295 (c .reach2 .result) (c .before .before .before .before .args .stride) (omega (arith, down-small c)) (omega (arith, c .before .before .before .before .pre .row))) (lit< tt) }
 
--- src/moves.rt:102:5
 axis-line-requires-2 : tie.Need-axis-line-requires-2
 axis-line-requires-2 c κs = search needs
 
--- src/moves.rt:93:1
 returns-2 : tie.Need-returns-2
 unfolding rowLine pick
 returns-2 c =

@@ -4,12 +4,10 @@ use Rattle.transform.proofs.moves.shift.Tie as tie
 use Rattle.transform.proofs.moves.shift.Reads as reads
 use Rattle.transform.proofs.moves.shift.Lts as lts
 
--- src/moves.rt:60:9
 returns : tie.Need-returns
 unfolding pick
 returns c = simp (c .if1 .taken)
 
--- src/moves.rt:56:1
 returns-2 : tie.Need-returns-2
 unfolding pick
 returns-2 c = simp (c .if1 .left)

@@ -30,31 +30,24 @@ w2 c = writing-run (planeBytes (moved (c .before .before .before .before .before
 w3 : (c : tie.After-write-plane3) → Writing (now (c .before .before .before .before .before .before .before .before .before .before .before .before .before .before .before .before .args .out)) 0 (encode (moved (c .before .before .before .before .before .before .before .before .before .before .before .before .before .before .before .before .args .v) (decode (now (c .before .before .before .before .before .before .before .before .before .before .before .before .before .before .before .before .args .s)) (c .before .before .before .before .before .before .before .before .before .before .before .before .before .before .before .before .args .fr)))) (c .write-plane3 .last .0) (c .write-plane3 .result) (planeBytes (moved (c .before .before .before .before .before .before .before .before .before .before .before .before .before .before .before .before .args .v) (decode (now (c .before .before .before .before .before .before .before .before .before .before .before .before .before .before .before .before .args .s)) (c .before .before .before .before .before .before .before .before .before .before .before .before .before .before .before .before .args .fr))) Alpha)
 w3 c = writing-run (planeBytes (moved (c .before .before .before .before .before .before .before .before .before .before .before .before .before .before .before .before .args .v) (decode (now (c .before .before .before .before .before .before .before .before .before .before .before .before .before .before .before .before .args .s)) (c .before .before .before .before .before .before .before .before .before .before .before .before .before .before .before .before .args .fr))) Cr) (w2 (c .before .before .before .before)) (c .write-plane3 .ensures .0) (c .write-plane3 .ensures .1)
 
--- src/moves.rt:196:9
 write-head-requires : tie.Need-write-head-requires
 write-head-requires c κs = writing-fits (headBytes (c .before .before .before .args .v .form)) _ (w (c .before .before .before))
 
--- src/moves.rt:197:9
 write-plane-requires : tie.Need-write-plane-requires
 write-plane-requires c κs = (c .before .before .before .before .before .before .before .pre .0, c .before .before .before .before .before .before .before .pre .1, writing-fits (planeBytes (moved (c .before .before .before .before .before .before .before .args .v) (decode (now (c .before .before .before .before .before .before .before .args .s)) (c .before .before .before .before .before .before .before .args .fr))) Luma) _ (w0 (c .before .before .before)))
 
--- src/moves.rt:198:9
 write-plane-requires-2 : tie.Need-write-plane-requires-2
 write-plane-requires-2 c κs = (c .before .before .before .before .before .before .before .before .before .before .before .pre .0, c .before .before .before .before .before .before .before .before .before .before .before .pre .1, writing-fits (planeBytes (moved (c .before .before .before .before .before .before .before .before .before .before .before .args .v) (decode (now (c .before .before .before .before .before .before .before .before .before .before .before .args .s)) (c .before .before .before .before .before .before .before .before .before .before .before .args .fr))) Cb) _ (w1 (c .before .before .before)))
 
--- src/moves.rt:199:9
 write-plane-requires-3 : tie.Need-write-plane-requires-3
 write-plane-requires-3 c κs = (c .before .before .before .before .before .before .before .before .before .before .before .before .before .before .before .pre .0, c .before .before .before .before .before .before .before .before .before .before .before .before .before .before .before .pre .1, writing-fits (planeBytes (moved (c .before .before .before .before .before .before .before .before .before .before .before .before .before .before .before .args .v) (decode (now (c .before .before .before .before .before .before .before .before .before .before .before .before .before .before .before .args .s)) (c .before .before .before .before .before .before .before .before .before .before .before .before .before .before .before .args .fr))) Cr) _ (w2 (c .before .before .before)))
 
--- src/moves.rt:200:5
 write-plane-requires-4 : tie.Need-write-plane-requires-4
 write-plane-requires-4 c κs = (c .before .before .before .before .before .before .before .before .before .before .before .before .before .before .before .before .before .before .before .pre .0, c .before .before .before .before .before .before .before .before .before .before .before .before .before .before .before .before .before .before .before .pre .1, w3 (c .before .before .before) .room)
 
--- src/moves.rt:191:1
 same-length : tie.Need-same-length
 same-length c = search needs
 
--- src/moves.rt:191:1
 returns : tie.Need-returns
 returns c = writing-ended (w3 (c .before .before .before .before .before .before)) (c .before .before .write-plane4 .ensures .0) (c .before .before .write-plane4 .ensures .1)
 

@@ -77,51 +77,39 @@ module _ (c : tie.After-bytes-per-sample) where
     down = c .before .before .before .rows .ensures;
   }
 
--- src/moves.rt:176:8
 has-requires : tie.Need-has-requires
 has-requires c κs = search needs
 
--- src/moves.rt:177:13
 write-plane-head-requires : tie.Need-write-plane-head-requires
 write-plane-head-requires c κs = (c .before .before .before .before .before .before .before .pre .1 .sound, writing-fits (head (c .before)) (rest (c .before)) (start (c .before)))
 
--- src/moves.rt:180:13
 plane-requires : tie.Need-plane-requires
 plane-requires c κs = search needs
 
--- src/moves.rt:181:13
 plane-walk-requires : tie.Need-plane-walk-requires
 plane-walk-requires c κs = search needs
 
--- src/moves.rt:182:13
 columns-requires : tie.Need-columns-requires
 columns-requires c κs = search needs
 
--- src/moves.rt:183:13
 rows-requires : tie.Need-rows-requires
 rows-requires c κs = search needs
 
--- src/moves.rt:184:13
 plane-data-requires : tie.Need-plane-data-requires
 plane-data-requires c κs = rw (c .before .before .before .plane .ensures) (c .before .before .before .before .before .before .before .before .before .before .before .before .before .before .before .before .pre .0 .planes (c .before .before .before .before .before .before .before .before .before .before .before .before .before .before .before .before .args .part) (there (c .before .before .before .before .before .before .before .before .before .before)) .inside)
 
--- src/moves.rt:185:46
 bytes-per-sample-requires : tie.Need-bytes-per-sample-requires
 bytes-per-sample-requires c κs = search needs
 
--- src/moves.rt:185:9
 write-rows-requires : tie.Need-write-rows-requires
 write-rows-requires c κs = (worked-inside (worked c) (inside (c .before .before .before .before .before .before .before .before .before .before .before .before .before)), rw (worked-size (worked c) ∙ sym (size (c .before .before .before .before .before .before .before .before .before .before .before .before .before))) (first (c .before .before .before .before .before .before .before .before .before .before .before) .room))
 
--- src/moves.rt:185:9
 same-length : tie.Need-same-length
 same-length c = search needs
 
--- src/moves.rt:185:9
 returns : tie.Need-returns
 returns c = writing-last (first (c .before .before .before .before .before .before .before .before .before .before .before .before .before .before)) (c .before .before .write-rows .ensures .0 ∙ ap (λ (k : ℕ). c .before .before .before .before .before .before .before .before .before .before .before .before .before .before .write-plane-head .result + k) (worked-size (worked (c .before .before .before)) ∙ sym (size (c .before .before .before .before .before .before .before .before .before .before .before .before .before .before .before .before)))) (c .before .before .write-rows .ensures .1 ∙ ap (puts (c .before .before .before .before .before .before .before .before .before .before .before .before .before .before .write-plane-head .last .0) (c .before .before .before .before .before .before .before .before .before .before .before .before .before .before .write-plane-head .result)) (worked-bytes (worked (c .before .before .before))))
 
--- src/moves.rt:169:1
 returns-2 : tie.Need-returns-2
 unfolding moved
 returns-2 c = writing-none (now (c .before .before .before .before .before .before .args .out)) (c .before .before .before .before .before .before .args .at) _ (plane-none (moved (c .before .before .before .before .before .before .args .v) (decode (now (c .before .before .before .before .before .before .args .s)) (c .before .before .before .before .before .before .args .fr))) (c .before .before .before .before .before .before .args .part) (sym (c .before .has .ensures) ∙ c .if1 .left))

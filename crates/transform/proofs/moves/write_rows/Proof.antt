@@ -42,36 +42,28 @@ module _ (c : tie.In-loop Inv-loop μ-loop) where
   room : c .before .loop .i + c .before .before .before .before .args .columns * c .before .before .before .before .args .bytes ≤ length (c .before .loop .out)
   room = rw (← long) (writing-fits (item (c .before .loop .y)) _ (writing-as (c .before .loop .inv .2) step))
 
--- src/moves.rt:121:5
 loop-holds : tie.Need-loop-holds Inv-loop μ-loop
 unfolding walkBytes
 loop-holds c = let p = c .before .before .pre .0 in (omega arith, omega arith, writing-start _ _ _ (rw (length-walkBytes (now (c .before .before .args .plane)) (c .before .before .args .bytes) (c .before .before .args .stride) (c .before .before .args .w) (c .before .before .args .columns) (c .before .before .args .rows) (p .some) (p .few)) (c .before .before .pre .1)))
 
--- src/moves.rt:122:13
 row-line-requires : tie.Need-row-line-requires Inv-loop μ-loop
 row-line-requires c κs = row-fits _ _ _ _ _ _ (c .before .before .before .before .pre .0) (c .before .loop .y) (c .loop-test .taken)
 
--- src/moves.rt:123:9
 write-line-requires : tie.Need-write-line-requires Inv-loop μ-loop
 write-line-requires c κs = (rw (c .before .row-line .ensures) (line-fits _ _ _ _ _ _ (c .before .before .before .before .before .before .pre .0) (c .before .before .before .loop .y) (c .before .before .loop-test .taken)), room (c .before .before))
 
--- src/moves.rt:124:9
 add-y : tie.Need-add-y Inv-loop μ-loop
 add-y c = search needs
 
--- src/moves.rt:121:5
 loop-less : tie.Need-loop-less Inv-loop μ-loop
 loop-less c = search needs
 
--- src/moves.rt:121:5
 loop-again : tie.Need-loop-again Inv-loop μ-loop
 loop-again c = let r = c .before .before .before .before .before .before .loop in (omega arith, omega (arith, c .before .before .write-line .ensures .0, r .inv .1), writing-run (item (c .before .before .before .before .before) (r .y)) (writing-as (r .inv .2) (step (c .before .before .before .before .before))) (c .before .before .write-line .ensures .0 ∙ ap (λ (k : ℕ). r .i + k) (sym (long (c .before .before .before .before .before)))) (c .before .before .write-line .ensures .1 ∙ ap (puts (r .out) (r .i)) (ap (λ (l : Line). lineBytes (now (c .before .before .before .before .before .before .before .before .before .args .plane)) (c .before .before .before .before .before .before .before .before .before .args .bytes) l (c .before .before .before .before .before .before .before .before .before .args .columns)) (c .before .before .before .before .row-line .ensures) ∙ row-bytes _ _ _ _ _ _)))
 
--- src/moves.rt:106:1
 same-length : tie.Need-same-length Inv-loop μ-loop
 same-length c = c .before .loop .inv .2 .long
 
--- src/moves.rt:106:1
 returns : tie.Need-returns Inv-loop μ-loop
 returns c = let r = c .before .loop in let e : r .y ≡ c .before .before .before .before .args .rows = omega arith in (r .inv .1 ∙ ap (λ (k : ℕ). c .before .before .before .before .args .at + k * (c .before .before .before .before .args .columns * c .before .before .before .before .args .bytes)) e, writing-done (writing-as (r .inv .2) (span-end _ _ _ (c .loop-test .left))) .1)
 

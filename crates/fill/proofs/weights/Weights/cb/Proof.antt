@@ -6,7 +6,6 @@ use Rattle.fill.proofs.weights.Weights.cb.Tie as tie
 use Rattle.fill.proofs.weights.Weights.cb.Reads as reads
 use Rattle.fill.proofs.weights.Weights.cb.Lts as lts
 
--- src/weights.rt:43:5
 returns : tie.Need-returns
 unfolding cbOf ofBits round
 returns c = refl

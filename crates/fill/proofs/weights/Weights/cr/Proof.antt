@@ -6,7 +6,6 @@ use Rattle.fill.proofs.weights.Weights.cr.Tie as tie
 use Rattle.fill.proofs.weights.Weights.cr.Reads as reads
 use Rattle.fill.proofs.weights.Weights.cr.Lts as lts
 
--- src/weights.rt:50:5
 returns : tie.Need-returns
 unfolding crOf ofBits round
 returns c = refl

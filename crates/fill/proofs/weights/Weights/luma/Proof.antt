@@ -5,7 +5,6 @@ use Rattle.fill.proofs.weights.Weights.luma.Tie as tie
 use Rattle.fill.proofs.weights.Weights.luma.Reads as reads
 use Rattle.fill.proofs.weights.Weights.luma.Lts as lts
 
--- src/weights.rt:36:5
 returns : tie.Need-returns
 unfolding lumaOf
 returns c = refl

@@ -5,7 +5,6 @@ use Rattle.fill.proofs.weights.Weights.new.Tie as tie
 use Rattle.fill.proofs.weights.Weights.new.Reads as reads
 use Rattle.fill.proofs.weights.Weights.new.Lts as lts
 
--- src/weights.rt:13:5
 returns : tie.Need-returns
 unfolding ofBits round
 returns c = refl

@@ -26,47 +26,37 @@ other m a b d h =
     let ten' : m ≡ 10 → ⊥ = λ e. elim h [ inl w ↦ omega arith | inr w ↦ omega arith ] in
     simp (ne-eqb m 1 a, ne-eqb m 4 b, ne-eqb m 7 d, ne-eqb m 9 nine, ne-eqb m 10 ten')
 
--- src/weights.rt:28:18
 new-requires : tie.Need-new-requires
 new-requires c κs = search needs
 
--- src/weights.rt:29:18
 new-requires-2 : tie.Need-new-requires-2
 new-requires-2 c κs = search needs
 
--- src/weights.rt:30:18
 new-requires-3 : tie.Need-new-requires-3
 new-requires-3 c κs = search needs
 
--- src/weights.rt:31:23
 new-requires-4 : tie.Need-new-requires-4
 new-requires-4 c κs = search needs
 
--- src/weights.rt:32:18
 new-requires-5 : tie.Need-new-requires-5
 new-requires-5 c κs = search needs
 
--- src/weights.rt:24:5
 returns : tie.Need-returns
 unfolding weightsOf tableOf pick ofBits round
 returns c = c .new .ensures ∙ ap weightsOf (sym (c .before .match .keys1))
 
--- src/weights.rt:24:5
 returns-2 : tie.Need-returns-2
 unfolding weightsOf tableOf pick ofBits round
 returns-2 c = c .new2 .ensures ∙ ap weightsOf (sym (c .before .match .keys2))
 
--- src/weights.rt:24:5
 returns-3 : tie.Need-returns-3
 unfolding weightsOf tableOf pick ofBits round
 returns-3 c = c .new3 .ensures ∙ ap weightsOf (sym (c .before .match .keys3))
 
--- src/weights.rt:24:5
 returns-4 : tie.Need-returns-4
 unfolding weightsOf tableOf pick ofBits round
 returns-4 c = elim (eq-or-lt-of-le (c .before .before .if1 .left)) [ inl w ↦ c .new4 .ensures ∙ ap weightsOf w | inr w ↦ c .new4 .ensures ∙ ap weightsOf (ten _ w (c .before .if2 .taken)) ]
 
--- src/weights.rt:24:5
 returns-5 : tie.Need-returns-5
 unfolding weightsOf tableOf pick ofBits round
 returns-5 c = c .new5 .ensures ∙ sym (ap (λ (t : ℕ × ℕ). weightsFrom (lit (t .0) 10000) (lit (t .1) 10000)) (other _ (c .before .before .match .rest .0 .0 .1) (c .before .before .match .rest .0 .1) (c .before .before .match .rest .1) (⊎-elim (λ w. inl (w .taken)) (λ w. inr (w .1 .left)) (c .before .if1 .came))))

@@ -5,7 +5,6 @@ use Rattle.image.proofs.format.Form.as_444.Tie as tie
 use Rattle.image.proofs.format.Form.as_444.Reads as reads
 use Rattle.image.proofs.format.Form.as_444.Lts as lts
 
--- src/format.rt:194:5
 returns : tie.Need-returns
 unfolding as444 sized
 returns c = refl

@@ -20,27 +20,21 @@ module _ (c : tie.After-rows) where
   small : c .rows .result * c .before .before .row-size .result ≤ 2 ^ 31
   small = rw product (size-le (c .before .before .before .args .self) (c .before .before .before .pre) (c .before .before .before .args .part))
 
--- src/format.rt:188:19
 row-size-requires : tie.Need-row-size-requires
 row-size-requires c κs = search needs
 
--- src/format.rt:188:19
 cast-row : tie.Need-cast-row
 cast-row c = search needs
 
--- src/format.rt:190:10
 rows-requires : tie.Need-rows-requires
 rows-requires c κs = search needs
 
--- src/format.rt:190:10
 mul-result : tie.Need-mul-result
 mul-result c = omega (arith, small c)
 
--- src/format.rt:190:9
 cast-result : tie.Need-cast-result
 cast-result c = omega (arith, small c)
 
--- src/format.rt:184:5
 returns : tie.Need-returns
 returns c = product c
 

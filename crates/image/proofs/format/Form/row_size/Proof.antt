@@ -20,23 +20,18 @@ module _ (c : tie.After-bytes-per-sample) where
   small : c .before .columns .result * c .bytes-per-sample .result ≤ 2 ^ 31
   small = rw product (row-le (c .before .before .before .args .self) (c .before .before .before .pre) (c .before .before .before .args .part))
 
--- src/format.rt:180:10
 columns-requires : tie.Need-columns-requires
 columns-requires c κs = search needs
 
--- src/format.rt:180:40
 bytes-per-sample-requires : tie.Need-bytes-per-sample-requires
 bytes-per-sample-requires c κs = search needs
 
--- src/format.rt:180:10
 mul-result : tie.Need-mul-result
 mul-result c = omega (arith, small c)
 
--- src/format.rt:180:9
 cast-result : tie.Need-cast-result
 cast-result c = omega (arith, small c)
 
--- src/format.rt:175:5
 returns : tie.Need-returns
 returns c = product c
 

@@ -5,7 +5,6 @@ use Rattle.image.proofs.format.Form.sized.Tie as tie
 use Rattle.image.proofs.format.Form.sized.Reads as reads
 use Rattle.image.proofs.format.Form.sized.Lts as lts
 
--- src/format.rt:210:5
 returns : tie.Need-returns
 unfolding as444 sized
 returns c = refl

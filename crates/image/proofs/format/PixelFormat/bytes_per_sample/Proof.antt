@@ -6,7 +6,6 @@ use Rattle.image.proofs.format.PixelFormat.bytes_per_sample.Tie as tie
 use Rattle.image.proofs.format.PixelFormat.bytes_per_sample.Reads as reads
 use Rattle.image.proofs.format.PixelFormat.bytes_per_sample.Lts as lts
 
--- src/format.rt:84:13
 returns : tie.Need-returns
 unfolding bytesOf pick
 returns c =
@@ -15,7 +14,6 @@ returns c =
       le-leb _ _ (c .if1 .taken),
     )
 
--- src/format.rt:80:5
 returns-2 : tie.Need-returns-2
 unfolding bytesOf pick
 returns-2 c =

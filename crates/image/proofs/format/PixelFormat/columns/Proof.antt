@@ -7,15 +7,12 @@ use Rattle.image.proofs.format.PixelFormat.columns.Lts as lts
 use Rattle.image.proofs.format.PixelFormat.half_width.Reads as half-width-reads
 use Rattle.image.proofs.format.along.Reads as along-reads
 
--- src/format.rt:159:15
 half-width-requires : tie.Need-half-width-requires
 half-width-requires c κs = search needs
 
--- src/format.rt:159:9
 along-requires : tie.Need-along-requires
 along-requires c κs = search needs
 
--- src/format.rt:156:5
 returns : tie.Need-returns
 returns c =
     simp (

@@ -7,37 +7,29 @@ use Rattle.image.proofs.format.PixelFormat.half_height.Reads as reads
 use Rattle.image.proofs.format.PixelFormat.half_height.Lts as lts
 use Rattle.image.proofs.format.PixelFormat.halves_height.Reads as halves-height-reads
 
--- src/format.rt:148:27
 enum-told : tie.Need-enum-told
 enum-told c = search needs
 
--- src/format.rt:149:25
 enum-told-2 : tie.Need-enum-told-2
 enum-told-2 c = search needs
 
--- src/format.rt:149:25
 halves-height-requires : tie.Need-halves-height-requires
 halves-height-requires c κs = search needs
 
--- src/format.rt:150:25
 enum-told-3 : tie.Need-enum-told-3
 enum-told-3 c = search needs
 
--- src/format.rt:150:25
 halves-height-requires-2 : tie.Need-halves-height-requires-2
 halves-height-requires-2 c κs = search needs
 
--- src/format.rt:151:28
 enum-told-4 : tie.Need-enum-told-4
 enum-told-4 c = search needs
 
--- src/format.rt:144:5
 returns : tie.Need-returns
 unfolding halved
 returns c =
     simp (c .enum-told .given .1)
 
--- src/format.rt:144:5
 returns-2 : tie.Need-returns-2
 unfolding halved
 returns-2 c =
@@ -46,7 +38,6 @@ returns-2 c =
       sym (c .halves-height .ensures),
     )
 
--- src/format.rt:144:5
 returns-3 : tie.Need-returns-3
 unfolding halved
 returns-3 c =
@@ -55,7 +46,6 @@ returns-3 c =
       sym (c .halves-height2 .ensures),
     )
 
--- src/format.rt:144:5
 returns-4 : tie.Need-returns-4
 unfolding halved
 returns-4 c =

@@ -7,37 +7,29 @@ use Rattle.image.proofs.format.PixelFormat.half_width.Reads as reads
 use Rattle.image.proofs.format.PixelFormat.half_width.Lts as lts
 use Rattle.image.proofs.format.PixelFormat.halves_width.Reads as halves-width-reads
 
--- src/format.rt:136:27
 enum-told : tie.Need-enum-told
 enum-told c = search needs
 
--- src/format.rt:137:25
 enum-told-2 : tie.Need-enum-told-2
 enum-told-2 c = search needs
 
--- src/format.rt:137:25
 halves-width-requires : tie.Need-halves-width-requires
 halves-width-requires c κs = search needs
 
--- src/format.rt:138:25
 enum-told-3 : tie.Need-enum-told-3
 enum-told-3 c = search needs
 
--- src/format.rt:138:25
 halves-width-requires-2 : tie.Need-halves-width-requires-2
 halves-width-requires-2 c κs = search needs
 
--- src/format.rt:139:28
 enum-told-4 : tie.Need-enum-told-4
 enum-told-4 c = search needs
 
--- src/format.rt:132:5
 returns : tie.Need-returns
 unfolding halved
 returns c =
     simp (c .enum-told .given .1)
 
--- src/format.rt:132:5
 returns-2 : tie.Need-returns-2
 unfolding halved
 returns-2 c =
@@ -46,7 +38,6 @@ returns-2 c =
       sym (c .halves-width .ensures),
     )
 
--- src/format.rt:132:5
 returns-3 : tie.Need-returns-3
 unfolding halved
 returns-3 c =
@@ -55,7 +46,6 @@ returns-3 c =
       sym (c .halves-width2 .ensures),
     )
 
--- src/format.rt:132:5
 returns-4 : tie.Need-returns-4
 unfolding halved
 returns-4 c =

@@ -5,7 +5,6 @@ use Rattle.image.proofs.format.PixelFormat.halves_height.Tie as tie
 use Rattle.image.proofs.format.PixelFormat.halves_height.Reads as reads
 use Rattle.image.proofs.format.PixelFormat.halves_height.Lts as lts
 
--- src/format.rt:125:5
 returns : tie.Need-returns
 unfolding halvesY
 returns c = search needs

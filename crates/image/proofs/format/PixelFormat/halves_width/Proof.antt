@@ -5,13 +5,11 @@ use Rattle.image.proofs.format.PixelFormat.halves_width.Tie as tie
 use Rattle.image.proofs.format.PixelFormat.halves_width.Reads as reads
 use Rattle.image.proofs.format.PixelFormat.halves_width.Lts as lts
 
--- src/format.rt:119:13
 returns : tie.Need-returns
 unfolding halvesX
 returns c =
     simp (eq-eqb _ _ (c .if1 .taken))
 
--- src/format.rt:115:5
 returns-2 : tie.Need-returns-2
 unfolding halvesX
 returns-2 c =

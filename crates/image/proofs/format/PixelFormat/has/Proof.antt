@@ -5,41 +5,33 @@ use Rattle.image.proofs.format.PixelFormat.has.Tie as tie
 use Rattle.image.proofs.format.PixelFormat.has.Reads as reads
 use Rattle.image.proofs.format.PixelFormat.has.Lts as lts
 
--- src/format.rt:94:27
 enum-told : tie.Need-enum-told
 enum-told c = search needs
 
--- src/format.rt:95:25
 enum-told-2 : tie.Need-enum-told-2
 enum-told-2 c = search needs
 
--- src/format.rt:96:25
 enum-told-3 : tie.Need-enum-told-3
 enum-told-3 c = search needs
 
--- src/format.rt:97:28
 enum-told-4 : tie.Need-enum-told-4
 enum-told-4 c = search needs
 
--- src/format.rt:90:5
 returns : tie.Need-returns
 unfolding hasPart isMono hasAlpha
 returns c =
     simp (c .enum-told .given .1)
 
--- src/format.rt:90:5
 returns-2 : tie.Need-returns-2
 unfolding hasPart isMono hasAlpha
 returns-2 c =
     simp (c .before .enum-told2 .given .1)
 
--- src/format.rt:90:5
 returns-3 : tie.Need-returns-3
 unfolding hasPart isMono hasAlpha
 returns-3 c =
     simp (c .before .enum-told3 .given .1)
 
--- src/format.rt:90:5
 returns-4 : tie.Need-returns-4
 unfolding hasPart isMono hasAlpha
 returns-4 c =

@@ -9,19 +9,15 @@ use Rattle.image.proofs.format.PixelFormat.middle.Tie as tie
 use Rattle.image.proofs.format.PixelFormat.middle.Reads as reads
 use Rattle.image.proofs.format.PixelFormat.middle.Lts as lts
 
--- src/format.rt:77:19
 sub-result : tie.Need-sub-result
 sub-result c = search needs
 
--- src/format.rt:77:10
 shl-result : tie.Need-shl-result
 shl-result c = search needs
 
--- src/format.rt:77:9
 cast-result : tie.Need-cast-result
 cast-result c = let h : c .before .args .self .depth - 1 ≤ 15 = omega arith in omega (arith, shift-small 15 (c .before .args .self .depth - 1) h (lit≤ tt))
 
--- src/format.rt:73:5
 returns : tie.Need-returns
 unfolding middleOf
 returns c = let h : c .before .args .self .depth - 1 ≤ 15 = omega arith in omega (arith, shift-small 15 (c .before .args .self .depth - 1) h (lit≤ tt))

@@ -10,27 +10,21 @@ use Rattle.image.proofs.format.PixelFormat.halves_width.Reads as halves
 use Rattle.image.proofs.format.both.Reads as both-reads
 use Rattle.image.proofs.format.either.Reads as either-reads
 
--- src/format.rt:144:18
 halves-width-requires : tie.Need-halves-width-requires
 halves-width-requires c κs = search needs
 
--- src/format.rt:144:13
 both-requires : tie.Need-both-requires
 both-requires c κs = search needs
 
--- src/format.rt:145:18
 halves-height-requires : tie.Need-halves-height-requires
 halves-height-requires c κs = search needs
 
--- src/format.rt:145:13
 both-requires-2 : tie.Need-both-requires-2
 both-requires-2 c κs = search needs
 
--- src/format.rt:143:9
 either-requires : tie.Need-either-requires
 either-requires c κs = search needs
 
--- src/format.rt:140:5
 returns : tie.Need-returns
 unfolding needs444
 returns c =

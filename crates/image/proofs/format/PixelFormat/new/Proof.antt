@@ -6,7 +6,6 @@ use Rattle.image.proofs.format.PixelFormat.new.Tie as tie
 use Rattle.image.proofs.format.PixelFormat.new.Reads as reads
 use Rattle.image.proofs.format.PixelFormat.new.Lts as lts
 
--- src/format.rt:46:13
 returns : tie.Need-returns
 unfolding formatOf refuse
 returns c =
@@ -15,7 +14,6 @@ returns c =
       lt-ltb _ _ (c .if1 .taken),
     )
 
--- src/format.rt:49:13
 returns-2 : tie.Need-returns-2
 unfolding formatOf refuse
 returns-2 c =
@@ -26,7 +24,6 @@ returns-2 c =
       lt-ltb _ _ (c .if2 .taken),
     )
 
--- src/format.rt:52:13
 returns-3 : tie.Need-returns-3
 unfolding formatOf refuse
 returns-3 c =
@@ -39,7 +36,6 @@ returns-3 c =
       lt-ltb _ _ (c .if3 .taken),
     )
 
--- src/format.rt:55:13
 returns-4 : tie.Need-returns-4
 unfolding formatOf refuse
 returns-4 c =
@@ -54,7 +50,6 @@ returns-4 c =
       lt-ltb _ _ (c .if4 .taken),
     )
 
--- src/format.rt:42:5
 returns-5 : tie.Need-returns-5
 unfolding formatOf refuse
 returns-5 c =

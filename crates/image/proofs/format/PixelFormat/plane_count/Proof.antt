@@ -6,7 +6,6 @@ use Rattle.image.proofs.format.PixelFormat.plane_count.Tie as tie
 use Rattle.image.proofs.format.PixelFormat.plane_count.Reads as reads
 use Rattle.image.proofs.format.PixelFormat.plane_count.Lts as lts
 
--- src/format.rt:106:17
 returns : tie.Need-returns
 unfolding planeCount isMono hasAlpha pick
 returns c =
@@ -15,7 +14,6 @@ returns c =
       eq-eqb _ _ (c .if2 .taken),
     )
 
--- src/format.rt:108:13
 returns-2 : tie.Need-returns-2
 unfolding planeCount isMono hasAlpha pick
 returns-2 c =
@@ -24,7 +22,6 @@ returns-2 c =
       ne-eqb _ _ (c .if2 .left),
     )
 
--- src/format.rt:111:13
 returns-3 : tie.Need-returns-3
 unfolding planeCount isMono hasAlpha pick
 returns-3 c =
@@ -33,7 +30,6 @@ returns-3 c =
       eq-eqb _ _ (c .if3 .taken),
     )
 
--- src/format.rt:101:5
 returns-4 : tie.Need-returns-4
 unfolding planeCount isMono hasAlpha pick
 returns-4 c =

@@ -7,15 +7,12 @@ use Rattle.image.proofs.format.PixelFormat.rows.Lts as lts
 use Rattle.image.proofs.format.PixelFormat.half_height.Reads as half-height-reads
 use Rattle.image.proofs.format.along.Reads as along-reads
 
--- src/format.rt:166:15
 half-height-requires : tie.Need-half-height-requires
 half-height-requires c κs = search needs
 
--- src/format.rt:166:9
 along-requires : tie.Need-along-requires
 along-requires c κs = search needs
 
--- src/format.rt:163:5
 returns : tie.Need-returns
 returns c =
     simp (

@@ -8,19 +8,15 @@ use Rattle.image.proofs.format.PixelFormat.top.Tie as tie
 use Rattle.image.proofs.format.PixelFormat.top.Reads as reads
 use Rattle.image.proofs.format.PixelFormat.top.Lts as lts
 
--- src/format.rt:69:11
 shl-result : tie.Need-shl-result
 shl-result c = search needs
 
--- src/format.rt:69:10
 sub-result : tie.Need-sub-result
 sub-result c = omega (arith, shift-small 16 (c .before .args .self .depth) (c .before .pre) (lit≤ tt))
 
--- src/format.rt:69:9
 cast-result : tie.Need-cast-result
 cast-result c = omega (arith, shift-small 16 (c .before .args .self .depth) (c .before .pre) (lit≤ tt))
 
--- src/format.rt:65:5
 returns : tie.Need-returns
 unfolding topOf
 returns c = omega (arith, shift-small 16 (c .before .args .self .depth) (c .before .pre) (lit≤ tt))

@@ -5,41 +5,33 @@ use Rattle.image.proofs.record.Frame.plane.Tie as tie
 use Rattle.image.proofs.record.Frame.plane.Reads as reads
 use Rattle.image.proofs.record.Frame.plane.Lts as lts
 
--- src/record.rt:276:27
 enum-told : tie.Need-enum-told
 enum-told c = search needs
 
--- src/record.rt:277:25
 enum-told-2 : tie.Need-enum-told-2
 enum-told-2 c = search needs
 
--- src/record.rt:278:25
 enum-told-3 : tie.Need-enum-told-3
 enum-told-3 c = search needs
 
--- src/record.rt:279:28
 enum-told-4 : tie.Need-enum-told-4
 enum-told-4 c = search needs
 
--- src/record.rt:272:5
 returns : tie.Need-returns
 unfolding planeOf
 returns c =
     simp (c .before .enum-told .given .1)
 
--- src/record.rt:272:5
 returns-2 : tie.Need-returns-2
 unfolding planeOf
 returns-2 c =
     simp (c .before .enum-told2 .given .1)
 
--- src/record.rt:272:5
 returns-3 : tie.Need-returns-3
 unfolding planeOf
 returns-3 c =
     simp (c .before .enum-told3 .given .1)
 
--- src/record.rt:272:5
 returns-4 : tie.Need-returns-4
 unfolding planeOf
 returns-4 c =

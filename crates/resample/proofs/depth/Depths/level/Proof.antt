@@ -25,46 +25,36 @@ worked : (c : tie.After-top-at2) → (c .before .before .before .before .args .v
 unfolding rounded
 worked c = rw (c .before .top-at .ensures .0, c .top-at2 .ensures .0)
 
--- src/depth.rt:36:13
 returns : tie.Need-returns
 unfolding levelOf pick
 returns c =
     simp (
     eq-eqb _ _ (c .if1 .taken))
 
--- src/depth.rt:38:13
 top-at-requires : tie.Need-top-at-requires
 top-at-requires c κs = search needs
 
--- src/depth.rt:39:13
 top-at-requires-2 : tie.Need-top-at-requires-2
 top-at-requires-2 c κs = search needs
 
--- src/depth.rt:40:22
 mul-level : tie.Need-mul-level
 mul-level c = omega (arith, mul-below 65535 65535 (c .before .before .before .before .args .v) (c .top-at2 .result) (omega (arith, c .before .before .before .before .fits .v)) (omega (arith, c .top-at2 .ensures .2)))
 
--- src/depth.rt:40:22
 add-level : tie.Need-add-level
 add-level c = omega (arith, mul-below 65535 65535 (c .before .before .before .before .args .v) (c .top-at2 .result) (omega (arith, c .before .before .before .before .fits .v)) (omega (arith, c .top-at2 .ensures .2)), c .before .top-at .ensures .2)
 
--- src/depth.rt:40:21
 div-level : tie.Need-div-level
 div-level c = search needs
 
--- src/depth.rt:42:20
 cast-result : tie.Need-cast-result
 cast-result c = search needs
 
--- src/depth.rt:42:13
 returns-2 : tie.Need-returns-2
 returns-2 c = c .before .top-at2 .ensures .0 ∙ sym (level-other _ _ _ (c .before .before .before .if1 .left) ∙ least-right _ _ (lt-as (c .before .top-at2 .ensures .0) (worked ((c .before))) (c .if2 .taken)))
 
--- src/depth.rt:44:9
 cast-result-2 : tie.Need-cast-result-2
 cast-result-2 c = search needs
 
--- src/depth.rt:31:5
 returns-3 : tie.Need-returns-3
 returns-3 c = worked ((c .before)) ∙ sym (level-other _ _ _ (c .before .before .before .if1 .left) ∙ least-left _ _ (le-as (worked ((c .before))) (c .before .top-at2 .ensures .0) (c .if2 .left)))
 

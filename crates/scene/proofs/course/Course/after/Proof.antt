@@ -14,40 +14,31 @@ use Rattle.scene.proofs.course.form_after.Reads as form-after-reads
 use Rattle.scene.proofs.course.is_move.Reads as is-move-reads
 use Rattle.scene.proofs.course.longer_of.Reads as longer-of-reads
 
--- src/course.rt:107:15
 form-after-requires : tie.Need-form-after-requires
 form-after-requires c κs = search needs
 
--- src/course.rt:108:31
 enum-known-e : tie.Need-enum-known-e
 enum-known-e c = search needs
 
--- src/course.rt:109:28
 enum-known-m : tie.Need-enum-known-m
 enum-known-m c = search needs
 
--- src/course.rt:111:50
 record-size-requires : tie.Need-record-size-requires
 record-size-requires c κs = holds-done FormSound _ _ (after-sound _ _ (c .before .before .before .before .pre)) (sym (c .before .before .before .form-after .ensures) ∙ ap formOut (c .before .m .given .1))
 
--- src/course.rt:111:26
 longer-of-requires : tie.Need-longer-of-requires
 longer-of-requires c κs = search needs
 
--- src/course.rt:112:39
 is-move-requires : tie.Need-is-move-requires
 is-move-requires c κs = search needs
 
--- src/course.rt:112:23
 flip-requires : tie.Need-flip-requires
 flip-requires c κs = search needs
 
--- src/course.rt:103:5
 returns : tie.Need-returns
 unfolding courseAfter
 returns c = sym (then-refused _ (sym (c .before .before .before .form-after .ensures) ∙ ap formOut (c .before .e .given .1)))
 
--- src/course.rt:103:5
 returns-2 : tie.Need-returns-2
 unfolding courseAfter
 returns-2 c = sym (then-done _ (sym (c .before .before .before .before .before .before .before .form-after .ensures) ∙ ap formOut (c .before .before .before .before .before .m .given .1)) ∙ simp (sym (c .before .before .before .record-size .ensures), sym (c .before .before .longer-of .ensures), sym (c .before .is-move .ensures), sym (c .flip .ensures)))

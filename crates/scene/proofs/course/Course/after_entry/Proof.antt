@@ -8,25 +8,20 @@ use Rattle.scene.proofs.course.Course.after_entry.Reads as reads
 use Rattle.scene.proofs.course.Course.after_entry.Lts as lts
 use Rattle.scene.proofs.course.Course.after.Reads as after-reads
 
--- src/course.rt:115:17
 after-requires : tie.Need-after-requires
 after-requires c κs = search needs
 
--- src/course.rt:115:17
 returns : tie.Need-returns
 unfolding applies pick
 returns c = simp (c .before .before .if1 .taken, c .before .if2 .taken, sym (c .after .ensures))
 
--- src/course.rt:117:13
 returns-2 : tie.Need-returns-2
 unfolding applies pick
 returns-2 c = simp (c .before .if1 .taken, c .if2 .left)
 
--- src/course.rt:119:9
 after-requires-2 : tie.Need-after-requires-2
 after-requires-2 c κs = search needs
 
--- src/course.rt:108:5
 returns-3 : tie.Need-returns-3
 unfolding applies pick
 returns-3 c = simp (c .before .if1 .left, sym (c .after2 .ensures))

@@ -6,11 +6,9 @@ use Rattle.scene.proofs.course.Course.new.Reads as reads
 use Rattle.scene.proofs.course.Course.new.Lts as lts
 use Rattle.image.proofs.record_size.Reads as record-size-reads
 
--- src/course.rt:87:22
 record-size-requires : tie.Need-record-size-requires
 record-size-requires c κs = search needs
 
--- src/course.rt:81:5
 returns : tie.Need-returns
 unfolding setOff
 returns c = rw (c .record-size .ensures)

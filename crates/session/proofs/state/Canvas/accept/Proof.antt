@@ -13,43 +13,34 @@ use Rattle.grid.proofs.same_layout.Reads as same-layout-reads
 use Rattle.grid.proofs.same_size.Reads as same-size-reads
 use Rattle.session.proofs.state.Canvas.has_tile.Reads as has-tile-reads
 
--- src/state.rt:192:12
 has-tile-requires : tie.Need-has-tile-requires
 has-tile-requires c κs = search needs
 
--- src/state.rt:193:17
 same-size-requires : tie.Need-same-size-requires
 same-size-requires c κs = search needs
 
--- src/state.rt:194:17
 returns : tie.Need-returns
 unfolding acceptOf pick refuse
 returns c = simp (sym (c .before .before .before .has-tile .ensures) ∙ c .before .before .if1 .taken, sym (c .before .same-size .ensures) ∙ not-true _ (c .if2 .taken))
 
--- src/state.rt:196:17
 same-layout-requires : tie.Need-same-layout-requires
 same-layout-requires c κs = search needs
 
--- src/state.rt:197:17
 returns-2 : tie.Need-returns-2
 unfolding acceptOf pick refuse
 returns-2 c = simp (sym (c .before .before .before .before .before .has-tile .ensures) ∙ c .before .before .before .before .if1 .taken, sym (c .before .before .before .same-size .ensures) ∙ not-false _ (c .before .before .if2 .left), sym (c .before .same-layout .ensures) ∙ not-true _ (c .if3 .taken))
 
--- src/state.rt:199:13
 returns-3 : tie.Need-returns-3
 unfolding acceptOf pick refuse
 returns-3 c = simp (sym (c .before .before .before .before .before .has-tile .ensures) ∙ c .before .before .before .before .if1 .taken, sym (c .before .before .before .same-size .ensures) ∙ not-false _ (c .before .before .if2 .left), sym (c .before .same-layout .ensures) ∙ not-false _ (c .if3 .left))
 
--- src/state.rt:201:13
 covers-requires : tie.Need-covers-requires
 covers-requires c κs = search needs
 
--- src/state.rt:202:13
 returns-4 : tie.Need-returns-4
 unfolding acceptOf pick refuse
 returns-4 c = simp (sym (c .before .before .before .has-tile .ensures) ∙ c .before .before .if1 .left, sym (c .before .covers .ensures) ∙ not-true _ (c .if4 .taken))
 
--- src/state.rt:188:5
 returns-5 : tie.Need-returns-5
 unfolding acceptOf pick refuse
 returns-5 c = simp (sym (c .before .before .before .has-tile .ensures) ∙ c .before .before .if1 .left, sym (c .before .covers .ensures) ∙ not-false _ (c .if4 .left))

@@ -8,14 +8,12 @@ use Rattle.session.proofs.state.Canvas.bare_ok.Reads as reads
 use Rattle.session.proofs.state.Canvas.bare_ok.Lts as lts
 use Rattle.session.proofs.marks.any_marked.Reads as any-marked-reads
 
--- src/state.rt:124:13
 returns : tie.Need-returns
 unfolding bareOk
 returns c =
     simp (
     ne-eqb _ _ (c .if1 .taken))
 
--- src/state.rt:127:13
 returns-2 : tie.Need-returns-2
 unfolding bareOk
 returns-2 c =
@@ -24,7 +22,6 @@ returns-2 c =
       ne-eqb _ _ (c .if2 .taken),
     )
 
--- src/state.rt:130:13
 returns-3 : tie.Need-returns-3
 unfolding bareOk
 returns-3 c =
@@ -34,7 +31,6 @@ returns-3 c =
       ne-eqb _ _ (c .if3 .taken),
     )
 
--- src/state.rt:133:13
 returns-4 : tie.Need-returns-4
 unfolding bareOk
 returns-4 c =
@@ -45,7 +41,6 @@ returns-4 c =
       ne-eqb _ _ (c .if4 .taken),
     )
 
--- src/state.rt:136:13
 returns-5 : tie.Need-returns-5
 unfolding bareOk
 returns-5 c =
@@ -57,11 +52,9 @@ returns-5 c =
       ne-eqb _ _ (c .if5 .taken),
     )
 
--- src/state.rt:138:10
 any-marked-requires : tie.Need-any-marked-requires
 any-marked-requires c κs = search needs
 
--- src/state.rt:118:5
 returns-6 : tie.Need-returns-6
 unfolding bareOk
 returns-6 c =

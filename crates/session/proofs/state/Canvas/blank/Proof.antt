@@ -45,87 +45,66 @@ room c = rw (← (c .before .before .canvas-form .ensures)) (rw (c .before .reco
 still : (c : tie.After-tell-alpha) → length (c .tell-alpha .last .0) ≡ length (now (c .before .before .before .before .before .before .before .before .before .before .before .before .before .before .before .args .buffer))
 still c = ap length (c .tell-alpha .ensures) ∙ length-told _ _ _
 
--- src/canvas.rt:124:13
 is-sound-requires : tie.Need-is-sound-requires
 is-sound-requires c κs = search needs
 
--- src/canvas.rt:125:13
 refused-requires : tie.Need-refused-requires
 refused-requires c κs = search needs
 
--- src/canvas.rt:125:13
 returns : tie.Need-returns
 returns c = drawn-refused _ _ _ _ _ (blank-unsound _ _ _ (sym (c .before .before .is-sound .ensures) ∙ not-true _ (c .before .if1 .taken))) (c .refused .ensures)
 
--- src/canvas.rt:127:13
 has-tile-requires : tie.Need-has-tile-requires
 has-tile-requires c κs = search needs
 
--- src/canvas.rt:128:13
 refused-requires-2 : tie.Need-refused-requires-2
 refused-requires-2 c κs = search needs
 
--- src/canvas.rt:128:13
 returns-2 : tie.Need-returns-2
 returns-2 c = drawn-refused _ _ _ _ _ (blank-bare _ _ _ (sound (c .before .before .before)) (sym (c .before .before .has-tile .ensures) ∙ not-true _ (c .before .if2 .taken))) (c .refused2 .ensures)
 
--- src/canvas.rt:133:21
 mul-if3 : tie.Need-mul-if3
 mul-if3 c = omega (arith, count-small _ (state-grid _ (sound (c .before .before .before .before .before))))
 
--- src/canvas.rt:134:13
 refused-requires-3 : tie.Need-refused-requires-3
 refused-requires-3 c κs = search needs
 
--- src/canvas.rt:134:13
 returns-3 : tie.Need-returns-3
 returns-3 c = drawn-refused _ _ _ _ _ (blank-outside _ _ _ (sound (c .before .before .before .before .before .before .before)) (tiled (c .before .before .before .before .before)) (c .before .if3 .taken)) (c .refused3 .ensures)
 
--- src/canvas.rt:136:13
 canvas-form-requires : tie.Need-canvas-form-requires
 canvas-form-requires c κs = search needs
 
--- src/canvas.rt:137:27
 record-size-requires : tie.Need-record-size-requires
 record-size-requires c κs = form-sound-of c
 
--- src/canvas.rt:138:13
 refused-requires-4 : tie.Need-refused-requires-4
 refused-requires-4 c κs = search needs
 
--- src/canvas.rt:138:13
 returns-4 : tie.Need-returns-4
 returns-4 c = let l : length (now (c .before .before .before .before .before .before .before .before .before .before .before .before .before .args .buffer)) < sizeOf (canvasForm (c .before .before .before .before .before .before .before .before .before .before .before .before .before .args .self .desc) (c .before .before .before .before .before .before .before .before .before .before .before .before .before .args .self .tile) 1) = rw (← (c .before .before .before .canvas-form .ensures)) (rw (c .before .before .record-size .ensures) at (c .before .if4 .taken)) in drawn-refused _ _ _ _ _ (blank-short _ _ _ (sound (c .before .before .before .before .before .before .before .before .before .before)) (tiled (c .before .before .before .before .before .before .before .before)) (c .before .before .before .before .if3 .left) l) (c .refused4 .ensures)
 
--- src/canvas.rt:140:13
 promotes-requires : tie.Need-promotes-requires
 promotes-requires c κs = search needs
 
--- src/canvas.rt:141:9
 tell-alpha-requires : tie.Need-tell-alpha-requires
 tell-alpha-requires c κs = (ap (λ (m : Form). m .format .alpha) (c .before .before .before .before .canvas-form .ensures) ∙ canvas-alpha-is _ _ 1, rw (c .before .before .before .before .canvas-form .ensures) (room (c .before .before)))
 
--- src/canvas.rt:142:47
 rem-draw-blank : tie.Need-rem-draw-blank
 rem-draw-blank c = let k = state-grid _ (sound (c .before .before .before .before .before .before .before .before .before .before .before .before .before .before .before)) in omega (arith, k .someColumns)
 
--- src/canvas.rt:142:64
 div-draw-blank : tie.Need-div-draw-blank
 div-draw-blank c = let k = state-grid _ (sound (c .before .before .before .before .before .before .before .before .before .before .before .before .before .before .before)) in omega (arith, k .someColumns)
 
--- src/canvas.rt:142:9
 draw-blank-requires : tie.Need-draw-blank-requires
 draw-blank-requires c κs = rw (c .before .before .before .before .before .before .before .before .canvas-form .ensures, c .before .before .before .before .before .promotes .ensures) (blank-suits _ _ _ (state-grid _ (sound (c .before .before .before .before .before .before .before .before .before .before .before .before .before .before .before))) (state-tile _ (sound (c .before .before .before .before .before .before .before .before .before .before .before .before .before .before .before)) (tiled (c .before .before .before .before .before .before .before .before .before .before .before .before .before)) .tile) (fits-as (still (c .before .before .before)) (room (c .before .before .before .before .before .before))))
 
--- src/canvas.rt:143:13
 drawn-requires : tie.Need-drawn-requires
 drawn-requires c κs = omega (arith, c .before .before .before .before .before .before .before .before .before .before .before .before .if3 .left, count-small _ (state-grid _ (sound (c .before .before .before .before .before .before .before .before .before .before .before .before .before .before .before .before .before .before))))
 
--- src/canvas.rt:120:5
 same-length : tie.Need-same-length
 same-length c = search needs
 
--- src/canvas.rt:120:5
 returns-5 : tie.Need-returns-5
 returns-5 c = drawn-done _ _ _ _ _ _ (blank-done _ _ _ (sound (c .before .before .before .before .before .before .before .before .before .before .before .before .before .before .before .before .before .before .before)) (tiled (c .before .before .before .before .before .before .before .before .before .before .before .before .before .before .before .before .before)) (c .before .before .before .before .before .before .before .before .before .before .before .before .before .if3 .left) (room (c .before .before .before .before .before .before .before .before .before .before))) (blanked-canvas _ _ _ _ (c .drawn .ensures)) (blanked-buffer _ _ _ _ _ _ _ (c .before .before .before .before .before .before .before .before .before .before .before .before .canvas-form .ensures) (c .before .before .before .before .before .before .before .before .before .promotes .ensures) (c .before .before .before .before .before .before .before .tell-alpha .ensures) (c .before .before .before .draw-blank .ensures))
 

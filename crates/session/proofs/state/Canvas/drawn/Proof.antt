@@ -8,35 +8,27 @@ use Rattle.session.proofs.state.Canvas.drawn.Tie as tie
 use Rattle.session.proofs.state.Canvas.drawn.Reads as reads
 use Rattle.session.proofs.state.Canvas.drawn.Lts as lts
 
--- src/state.rt:214:18
 cast-at : tie.Need-cast-at
 cast-at c = search needs
 
--- src/state.rt:215:20
 mul-word : tie.Need-mul-word
 mul-word c = search needs
 
--- src/state.rt:215:20
 array-read-word : tie.Need-array-read-word
 array-read-word c = search needs
 
--- src/state.rt:216:38
 cast-marks : tie.Need-cast-marks
 cast-marks c = search needs
 
--- src/state.rt:216:29
 shl-marks : tie.Need-shl-marks
 shl-marks c = search needs
 
--- src/state.rt:216:9
 mul-marks : tie.Need-mul-marks
 mul-marks c = search needs
 
--- src/state.rt:216:9
 array-write-marks : tie.Need-array-write-marks
 array-write-marks c = search needs
 
--- src/state.rt:208:5
 returns : tie.Need-returns
 returns c = ap (λ (ms : List ℕ). record { desc = c .before .before .args .self .desc; tile = c .before .before .args .tile; alpha = c .before .before .args .alpha; marks = ms }) (mark-is (c .before .before .args .self .marks) (c .before .before .args .cell))
 

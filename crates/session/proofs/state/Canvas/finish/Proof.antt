@@ -28,55 +28,42 @@ tiled c = sym (c .before .has-tile .ensures) ∙ not-false _ (c .if2 .left)
 all : (c : tie.Else3) → allMarked (c .before .before .before .before .before .before .before .before .before .before .before .args .t1 .marks) 0 (c .before .before .before .before .before .before .before .before .before .before .before .args .t1 .desc .rows * c .before .before .before .before .before .before .before .before .before .before .before .args .t1 .desc .columns) ≡ true
 all c = sym (c .before .all-marked .ensures) ∙ not-false _ (c .if3 .left)
 
--- src/canvas.rt:54:13
 is-sound-requires : tie.Need-is-sound-requires
 is-sound-requires c κs = search needs
 
--- src/canvas.rt:55:13
 returns : tie.Need-returns
 returns c = finish-unsound _ _ (sym (c .before .is-sound .ensures) ∙ not-true _ (c .if1 .taken))
 
--- src/canvas.rt:57:13
 has-tile-requires : tie.Need-has-tile-requires
 has-tile-requires c κs = search needs
 
--- src/canvas.rt:58:13
 returns-2 : tie.Need-returns-2
 returns-2 c = finish-bare _ _ (sound (c .before .before)) (sym (c .before .has-tile .ensures) ∙ not-true _ (c .if2 .taken))
 
--- src/canvas.rt:62:37
 mul-all-marked : tie.Need-mul-all-marked
 mul-all-marked c = omega (arith, count-small _ (state-grid _ (sound (c .before .before .before .before .before .before .before))))
 
--- src/canvas.rt:62:13
 all-marked-requires : tie.Need-all-marked-requires
 all-marked-requires c κs = count-small _ (state-grid _ (sound (c .before .before .before .before .before .before .before)))
 
--- src/canvas.rt:63:13
 returns-3 : tie.Need-returns-3
 returns-3 c = finish-missing _ _ (sound (c .before .before .before .before .before .before .before .before .before)) (tiled (c .before .before .before .before .before .before .before)) (sym (c .before .all-marked .ensures) ∙ not-true _ (c .if3 .taken))
 
--- src/canvas.rt:65:38
 canvas-form-requires : tie.Need-canvas-form-requires
 canvas-form-requires c κs = search needs
 
--- src/canvas.rt:65:19
 record-size-requires : tie.Need-record-size-requires
 record-size-requires c κs = rw (c .canvas-form .ensures) (held-canvas _ 1 (sound (c .before .before .before .before .before .before .before .before .before .before)) (tiled (c .before .before .before .before .before .before .before .before)) (omega arith))
 
--- src/canvas.rt:66:13
 returns-4 : tie.Need-returns-4
 returns-4 c = finish-short _ _ (sound (c .before .before .before .before .before .before .before .before .before .before .before .before)) (tiled (c .before .before .before .before .before .before .before .before .before .before)) (all (c .before .before .before)) (rw (← (c .before .before .canvas-form .ensures)) (rw (c .before .record-size .ensures) at (c .if4 .taken)))
 
--- src/canvas.rt:68:42
 canvas-form-requires-2 : tie.Need-canvas-form-requires-2
 canvas-form-requires-2 c κs = search needs
 
--- src/canvas.rt:68:23
 record-size-requires-2 : tie.Need-record-size-requires-2
 record-size-requires-2 c κs = rw (c .canvas-form2 .ensures) (held-canvas _ _ (sound (c .before .before .before .before .before .before .before .before .before .before .before .before .before)) (tiled (c .before .before .before .before .before .before .before .before .before .before .before)) (state-tile _ (sound (c .before .before .before .before .before .before .before .before .before .before .before .before .before)) (tiled (c .before .before .before .before .before .before .before .before .before .before .before)) .alpha))
 
--- src/canvas.rt:51:5
 returns-5 : tie.Need-returns-5
 returns-5 c = finish-done _ _ (sound (c .before .before .before .before .before .before .before .before .before .before .before .before .before .before)) (tiled (c .before .before .before .before .before .before .before .before .before .before .before .before)) (all (c .before .before .before .before .before)) _ (rw (← (c .before .before .before .before .canvas-form .ensures)) (rw (c .before .before .before .record-size .ensures) at (c .before .before .if4 .left))) (c .record-size2 .ensures ∙ ap sizeOf (c .before .canvas-form2 .ensures))
 

@@ -5,7 +5,6 @@ use Rattle.session.proofs.state.Canvas.has_tile.Tie as tie
 use Rattle.session.proofs.state.Canvas.has_tile.Reads as reads
 use Rattle.session.proofs.state.Canvas.has_tile.Lts as lts
 
--- src/state.rt:180:5
 returns : tie.Need-returns
 unfolding hasTile
 returns c = refl

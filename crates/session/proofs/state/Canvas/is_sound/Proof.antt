@@ -12,33 +12,26 @@ use Rattle.session.proofs.state.Canvas.has_tile.Reads as has-tile-reads
 use Rattle.session.proofs.state.Canvas.tiled_ok.Reads as tiled-ok-reads
 use Rattle.session.proofs.state.grid_ok.Reads as grid-ok-reads
 
--- src/state.rt:171:13
 grid-ok-requires : tie.Need-grid-ok-requires
 grid-ok-requires c κs = search needs
 
--- src/state.rt:172:13
 returns : tie.Need-returns
 unfolding stateOk
 returns c = simp (sym (c .before .grid-ok .ensures) ∙ not-true _ (c .if1 .taken))
 
--- src/state.rt:174:12
 has-tile-requires : tie.Need-has-tile-requires
 has-tile-requires c κs = search needs
 
--- src/state.rt:175:13
 tiled-ok-requires : tie.Need-tiled-ok-requires
 tiled-ok-requires c κs = sym (c .before .before .before .grid-ok .ensures) ∙ not-false _ (c .before .before .if1 .left)
 
--- src/state.rt:175:13
 returns-2 : tie.Need-returns-2
 unfolding stateOk pick
 returns-2 c = simp (sym (c .before .before .before .before .grid-ok .ensures) ∙ not-false _ (c .before .before .before .if1 .left), sym (c .before .before .has-tile .ensures) ∙ c .before .if2 .taken, sym (c .tiled-ok .ensures))
 
--- src/state.rt:177:9
 bare-ok-requires : tie.Need-bare-ok-requires
 bare-ok-requires c κs = search needs
 
--- src/state.rt:168:5
 returns-3 : tie.Need-returns-3
 unfolding stateOk pick
 returns-3 c = simp (sym (c .before .before .before .before .grid-ok .ensures) ∙ not-false _ (c .before .before .before .if1 .left), sym (c .before .before .has-tile .ensures) ∙ c .before .if2 .left, sym (c .bare-ok .ensures))

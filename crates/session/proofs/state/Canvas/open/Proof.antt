@@ -10,11 +10,9 @@ use Rattle.session.proofs.state.Canvas.open.Reads as reads
 use Rattle.session.proofs.state.Canvas.open.Lts as lts
 use Rattle.session.proofs.state.blank_form.Reads as blank-form-reads
 
--- src/state.rt:95:13
 blank-form-requires : tie.Need-blank-form-requires
 blank-form-requires c κs = search needs
 
--- src/state.rt:92:5
 returns : tie.Need-returns
 unfolding openOf noCanvas noMarks
 returns c = ap (λ (t : Form). record { desc = c .before .args .desc; tile = t; alpha = 0; marks = replicate 1024 0 }) (c .blank-form .ensures)

@@ -60,127 +60,96 @@ long c = ap length (c .begin .ensures) ∙ length-begun _ _ _
 still : (c : tie.After-tell-alpha) → length (c .tell-alpha .last .0) ≡ length (now (c .before .before .before .before .before .before .before .before .before .before .before .before .before .before .before .before .before .before .before .before .before .before .before .before .before .before .before .args .buffer))
 still c = ap length (c .tell-alpha .ensures) ∙ length-told _ _ _ ∙ long (c .before .before .before .before)
 
--- src/canvas.rt:76:13
 is-sound-requires : tie.Need-is-sound-requires
 is-sound-requires c κs = search needs
 
--- src/canvas.rt:77:13
 refused-requires : tie.Need-refused-requires
 refused-requires c κs = search needs
 
--- src/canvas.rt:77:13
 returns : tie.Need-returns
 returns c = drawn-refused _ _ _ _ _ (place-unsound _ _ _ _ (sym (c .before .before .is-sound .ensures) ∙ not-true _ (c .before .if1 .taken))) (c .refused .ensures)
 
--- src/canvas.rt:81:21
 mul-if2 : tie.Need-mul-if2
 mul-if2 c = omega (arith, count-small _ (state-grid _ (sound (c .before .before))))
 
--- src/canvas.rt:82:13
 refused-requires-2 : tie.Need-refused-requires-2
 refused-requires-2 c κs = search needs
 
--- src/canvas.rt:82:13
 returns-2 : tie.Need-returns-2
 returns-2 c = drawn-refused _ _ _ _ _ (place-outside _ _ _ _ (sound (c .before .before .before .before)) (c .before .if2 .taken)) (c .refused2 .ensures)
 
--- src/canvas.rt:84:15
 parse-record-requires : tie.Need-parse-record-requires
 parse-record-requires c κs = search needs
 
--- src/canvas.rt:85:32
 enum-known-e : tie.Need-enum-known-e
 enum-known-e c = search needs
 
--- src/canvas.rt:85:38
 refused-requires-3 : tie.Need-refused-requires-3
 refused-requires-3 c κs = search needs
 
--- src/canvas.rt:86:29
 enum-known-fr : tie.Need-enum-known-fr
 enum-known-fr c = search needs
 
--- src/canvas.rt:88:23
 accept-requires : tie.Need-accept-requires
 accept-requires c κs = search needs
 
--- src/canvas.rt:89:39
 enum-known-e-2 : tie.Need-enum-known-e-2
 enum-known-e-2 c = search needs
 
--- src/canvas.rt:89:45
 refused-requires-4 : tie.Need-refused-requires-4
 refused-requires-4 c κs = search needs
 
--- src/canvas.rt:90:36
 enum-known-t : tie.Need-enum-known-t
 enum-known-t c = search needs
 
--- src/canvas.rt:91:29
 canvas-form-requires : tie.Need-canvas-form-requires
 canvas-form-requires c κs = search needs
 
--- src/canvas.rt:92:43
 record-size-requires : tie.Need-record-size-requires
 record-size-requires c κs = form-sound-of c
 
--- src/canvas.rt:93:29
 refused-requires-5 : tie.Need-refused-requires-5
 refused-requires-5 c κs = search needs
 
--- src/canvas.rt:93:29
 returns-3 : tie.Need-returns-3
 returns-3 c = let l : length (now (c .before .before .before .before .before .before .before .before .before .before .before .before .before .before .before .before .before .before .before .before .args .buffer)) < sizeOf (canvasForm (c .before .before .before .before .before .before .before .before .before .before .before .before .before .before .before .before .before .before .before .before .args .self .desc) (c .before .before .before .before .before .t .given .0 .0) 1) = rw (← (c .before .before .before .canvas-form .ensures)) (rw (c .before .before .record-size .ensures) at (c .before .if3 .taken)) in drawn-refused _ _ _ _ _ (place-short _ _ _ _ (sound (c .before .before .before .before .before .before .before .before .before .before .before .before .before .before .before .before)) (c .before .before .before .before .before .before .before .before .before .before .before .before .before .if2 .left) _ (taken (c .before .before .before .before .before .before .before .before .before .before)) _ (accepted (c .before .before .before .before .before)) l) (c .refused5 .ensures)
 
--- src/canvas.rt:95:29
 promotes-requires : tie.Need-promotes-requires
 promotes-requires c κs = search needs
 
--- src/canvas.rt:96:40
 has-tile-requires : tie.Need-has-tile-requires
 has-tile-requires c κs = search needs
 
--- src/canvas.rt:96:25
 begin-requires : tie.Need-begin-requires
 begin-requires c κs = (form-sound-of (c .before .before .before .before .before), rw (c .before .before .before .before .before .canvas-form .ensures) (room (c .before .before .before)))
 
--- src/canvas.rt:97:25
 tell-alpha-requires : tie.Need-tell-alpha-requires
 tell-alpha-requires c κs = (ap (λ (m : Form). m .format .alpha) (c .before .before .before .before .before .before .before .before .before .canvas-form .ensures) ∙ canvas-alpha-is _ _ 1, rw (c .before .before .before .before .before .before .before .before .before .canvas-form .ensures) (fits-as (long (c .before .before .before)) (room (c .before .before .before .before .before .before .before))))
 
--- src/canvas.rt:104:29
 rem-draw-tile : tie.Need-rem-draw-tile
 rem-draw-tile c = let k = state-grid _ (sound (c .before .before .before .before .before .before .before .before .before .before .before .before .before .before .before .before .before .before .before .before .before .before .before .before .before .before)) in omega (arith, k .someColumns)
 
--- src/canvas.rt:105:29
 div-draw-tile : tie.Need-div-draw-tile
 div-draw-tile c = let k = state-grid _ (sound (c .before .before .before .before .before .before .before .before .before .before .before .before .before .before .before .before .before .before .before .before .before .before .before .before .before .before)) in omega (arith, k .someColumns)
 
--- src/canvas.rt:98:25
 draw-tile-requires : tie.Need-draw-tile-requires
 draw-tile-requires c κs = rw (c .before .before .before .before .before .before .before .before .before .before .before .before .before .canvas-form .ensures, c .before .before .before .before .before .before .before .before .before .before .promotes .ensures) (place-suits _ _ _ _ _ (state-grid _ (sound (c .before .before .before .before .before .before .before .before .before .before .before .before .before .before .before .before .before .before .before .before .before .before .before .before .before .before))) (whole-sound _ _ (taken (c .before .before .before .before .before .before .before .before .before .before .before .before .before .before .before .before .before .before .before .before)) .0) (held (c .before .before .before .before .before .before .before .before .before .before .before .before .before .before .before)) (fits-as (still (c .before .before .before)) (room (c .before .before .before .before .before .before .before .before .before .before .before))))
 
--- src/canvas.rt:107:59
 with-tile-requires : tie.Need-with-tile-requires
 with-tile-requires c κs = search needs
 
--- src/canvas.rt:107:29
 drawn-requires : tie.Need-drawn-requires
 drawn-requires c κs = omega (arith, c .before .before .before .before .before .before .before .before .before .before .before .before .before .before .before .before .before .before .before .before .before .before .before .before .before .before .before .if2 .left, count-small _ (state-grid _ (sound (c .before .before .before .before .before .before .before .before .before .before .before .before .before .before .before .before .before .before .before .before .before .before .before .before .before .before .before .before .before .before))))
 
--- src/canvas.rt:72:5
 returns-4 : tie.Need-returns-4
 returns-4 c = drawn-refused _ _ _ _ _ (place-record _ _ _ _ (sound (c .before .before .before .before .before .before .before .before)) (c .before .before .before .before .before .if2 .left) _ (sym (c .before .before .before .before .parse-record .ensures) ∙ ap frameOut (c .before .before .e .given .1))) (c .refused3 .ensures)
 
--- src/canvas.rt:72:5
 returns-5 : tie.Need-returns-5
 returns-5 c = drawn-refused _ _ _ _ _ (place-form _ _ _ _ (sound (c .before .before .before .before .before .before .before .before .before .before .before .before .before)) (c .before .before .before .before .before .before .before .before .before .before .if2 .left) _ (taken (c .before .before .before .before .before .before .before)) _ (sym (c .before .before .before .before .accept .ensures) ∙ ap tileOut (c .before .before .e2 .given .1))) (c .refused4 .ensures)
 
--- src/canvas.rt:72:5
 same-length : tie.Need-same-length
 same-length c = search needs
 
--- src/canvas.rt:72:5
 returns-6 : tie.Need-returns-6
 returns-6 c = drawn-done _ _ _ _ _ _ (place-done _ _ _ _ (sound (c .before .before .before .before .before .before .before .before .before .before .before .before .before .before .before .before .before .before .before .before .before .before .before .before .before .before .before .before .before .before .before)) (c .before .before .before .before .before .before .before .before .before .before .before .before .before .before .before .before .before .before .before .before .before .before .before .before .before .before .before .before .if2 .left) _ (taken (c .before .before .before .before .before .before .before .before .before .before .before .before .before .before .before .before .before .before .before .before .before .before .before .before .before)) _ (accepted (c .before .before .before .before .before .before .before .before .before .before .before .before .before .before .before .before .before .before .before .before)) (room (c .before .before .before .before .before .before .before .before .before .before .before .before .before .before .before .before))) (placed-canvas _ _ _ _ _ _ _ _ (c .drawn .ensures) (c .before .with-tile .ensures)) (placed-buffer _ _ _ _ _ _ _ _ _ _ _ _ (c .before .before .before .before .before .before .before .before .before .before .before .before .before .before .before .before .before .before .canvas-form .ensures) (c .before .before .before .before .before .before .before .before .before .before .before .before .before .before .before .promotes .ensures) (ap not (c .before .before .before .before .before .before .before .before .before .before .before .before .before .has-tile .ensures)) (c .before .before .before .before .before .before .before .before .before .before .before .before .begin .ensures) (c .before .before .before .before .before .before .before .before .tell-alpha .ensures) (c .before .before .before .before .draw-tile .ensures))
 

@@ -12,35 +12,27 @@ use Rattle.session.proofs.canvas.refused.Reads as refused-reads
 use Rattle.session.proofs.state.Canvas.none.Reads as none-reads
 use Rattle.session.proofs.state.Canvas.open.Reads as open-reads
 
--- src/canvas.rt:38:15
 parse-requires : tie.Need-parse-requires
 parse-requires c κs = search needs
 
--- src/canvas.rt:39:31
 enum-known-e : tie.Need-enum-known-e
 enum-known-e c = search needs
 
--- src/canvas.rt:39:45
 none-requires : tie.Need-none-requires
 none-requires c κs = search needs
 
--- src/canvas.rt:39:37
 refused-requires : tie.Need-refused-requires
 refused-requires c κs = search needs
 
--- src/canvas.rt:40:28
 enum-known-g : tie.Need-enum-known-g
 enum-known-g c = search needs
 
--- src/canvas.rt:41:21
 open-requires : tie.Need-open-requires
 open-requires c κs = search needs
 
--- src/canvas.rt:35:5
 returns : tie.Need-returns
 returns c = start-refused _ _ _ _ (sym (c .before .before .before .before .before .parse .ensures) ∙ ap gridOut (c .before .before .before .e .given .1)) (c .refused .ensures) (c .before .none .ensures)
 
--- src/canvas.rt:35:5
 returns-2 : tie.Need-returns-2
 returns-2 c = start-done _ _ _ (sym (c .before .before .before .before .parse .ensures) ∙ ap gridOut (c .before .before .g .given .1)) (c .«open» .ensures)
 

@@ -14,52 +14,41 @@ use Rattle.session.proofs.marks.any_marked.Reads as any-marked-reads
 use Rattle.session.proofs.marks.none_beyond.Reads as none-beyond-reads
 use Rattle.session.proofs.state.form_ok.Reads as form-ok-reads
 
--- src/state.rt:149:13
 form-ok-requires : tie.Need-form-ok-requires
 form-ok-requires c κs = search needs
 
--- src/state.rt:150:13
 returns : tie.Need-returns
 unfolding tiledOk
 returns c = simp (sym (c .before .form-ok .ensures) ∙ not-true _ (c .if1 .taken))
 
--- src/state.rt:152:13
 covers-requires : tie.Need-covers-requires
 covers-requires c κs = search needs
 
--- src/state.rt:153:13
 returns-2 : tie.Need-returns-2
 unfolding tiledOk
 returns-2 c = simp (sym (c .before .before .before .form-ok .ensures) ∙ not-false _ (c .before .before .if1 .left), sym (c .before .covers .ensures) ∙ not-true _ (c .if2 .taken))
 
--- src/state.rt:156:13
 returns-3 : tie.Need-returns-3
 unfolding tiledOk
 returns-3 c = simp (sym (c .before .before .before .before .form-ok .ensures) ∙ not-false _ (c .before .before .before .if1 .left), sym (c .before .before .covers .ensures) ∙ not-false _ (c .before .if2 .left), lt-leb _ _ (c .if3 .taken))
 
--- src/state.rt:159:13
 returns-4 : tie.Need-returns-4
 unfolding tiledOk
 returns-4 c = simp (sym (c .before .before .before .before .before .before .form-ok .ensures) ∙ not-false _ (c .before .before .before .before .before .if1 .left), sym (c .before .before .before .before .covers .ensures) ∙ not-false _ (c .before .before .before .if2 .left), le-leb _ _ (c .before .before .if3 .left), lt-leb _ _ (c .if4 .taken))
 
--- src/state.rt:161:38
 mul-none-beyond : tie.Need-mul-none-beyond
 mul-none-beyond c = omega (arith, count-small _ (grid-sound _ (c .before .before .before .before .before .before .before .before .before .before .before .before .before .pre)))
 
--- src/state.rt:161:13
 none-beyond-requires : tie.Need-none-beyond-requires
 none-beyond-requires c κs = search needs
 
--- src/state.rt:162:13
 returns-5 : tie.Need-returns-5
 unfolding tiledOk countOf
 returns-5 c = simp (sym (c .before .before .before .before .before .before .before .before .before .before .before .form-ok .ensures) ∙ not-false _ (c .before .before .before .before .before .before .before .before .before .before .if1 .left), sym (c .before .before .before .before .before .before .before .before .before .covers .ensures) ∙ not-false _ (c .before .before .before .before .before .before .before .before .if2 .left), le-leb _ _ (c .before .before .before .before .before .before .before .if3 .left), le-leb _ _ (c .before .before .before .before .before .if4 .left), sym (c .before .none-beyond .ensures) ∙ not-true _ (c .if5 .taken))
 
--- src/state.rt:164:9
 any-marked-requires : tie.Need-any-marked-requires
 any-marked-requires c κs = search needs
 
--- src/state.rt:142:5
 returns-6 : tie.Need-returns-6
 unfolding tiledOk countOf
 returns-6 c = simp (sym (c .before .before .before .before .before .before .before .before .before .before .before .before .before .before .form-ok .ensures) ∙ not-false _ (c .before .before .before .before .before .before .before .before .before .before .before .before .before .if1 .left), sym (c .before .before .before .before .before .before .before .before .before .before .before .before .covers .ensures) ∙ not-false _ (c .before .before .before .before .before .before .before .before .before .before .before .if2 .left), le-leb _ _ (c .before .before .before .before .before .before .before .before .before .before .if3 .left), le-leb _ _ (c .before .before .before .before .before .before .before .before .if4 .left), sym (c .before .before .before .before .none-beyond .ensures) ∙ not-false _ (c .before .before .before .if5 .left), sym (c .any-marked .ensures))
