@@ -146,11 +146,6 @@ judged-chain s at c e =
     let q : entriesAt (c .count) s (c .first) ≡ done (b .0) = ap (λ k. entriesAt (k .count) s (k .first)) (sym p) ∙ b .1 in
     (record { few = count-few s at c (a .1 ∙ ap done p); entries = b .0; read = q }, then-done _ (a .1 ∙ ap done p) ∙ q)
 
--- what goes on with the entries that were judged goes on with the chain
-pub judged-then : {B : Type 0} (s : List ℕ) (at : ℕ) (c : Chain) (f : List PropertyEntry → Out B) → judgedAt s at ≡ done c
-    → andThen (entriesAt (c .count) s (c .first)) f ≡ andThen (chainAt s at) f
-judged-then s at c f e = let k = judged-chain s at c e in then-done f (k .0 .read) ∙ sym (then-done f (k .1))
-
 -- how many they are
 pub judged-count : (s : List ℕ) (at : ℕ) (c : Chain) → judgedAt s at ≡ done c → andThen (chainAt s at) (λ es. done (length es)) ≡ done (c .count)
 judged-count s at c e =

@@ -7,7 +7,6 @@ mod size;
 
 pub use crate::chain::Chain;
 pub use crate::chain::ChainRead;
-pub use crate::chain::chain_size;
 pub use crate::chain::check_chain;
 pub use crate::clap::Clap;
 pub use crate::clap::CropRect;

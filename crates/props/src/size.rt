@@ -1,12 +1,8 @@
 // A picture's size, and what a property makes of it.
 ghost use mathlib.Core.Path.{_≡_};
-ghost use Rattle.laws.specs.Out.{done};
-ghost use Rattle.laws.specs.Pick.{pick};
-ghost use Rattle.props.specs.Chain.{applies};
 ghost use Rattle.props.specs.Size.{judgedSize, sizeAfter, sizeOut};
 use crate::clap::Resolved;
 use crate::entry::Property;
-use crate::entry::PropertyEntry;
 use image::PixelFormat;
 use laws::Refusal;
 
@@ -67,21 +63,5 @@ impl Property {
             Property::Imir(_) => SizeAnswer::Size(size),
             Property::Iscl(k) => k.output_size(size.width, size.height),
         }
-    }
-}
-
-impl PropertyEntry {
-    // The size after the entry: under the flag a property that is not essential is skipped.
-    pub fn size_after(self, essential_only: bool, size: Size) -> SizeAnswer
-        ensures { λ r. ⌜ sizeOut r ≡ pick (applies «essential_only» self) (sizeAfter (self .property) size) (done size) ⌝ }
-    {
-        let property = self.property;
-        if essential_only {
-            if self.essential {
-                return property.size_after(size);
-            }
-            return SizeAnswer::Size(size);
-        }
-        property.size_after(size)
     }
 }

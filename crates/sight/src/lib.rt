@@ -3,14 +3,13 @@ ghost use mathlib.Core.Path.{_≡_};
 ghost use Prim.Native.Nat.{_+_, _-_, _<_, _≤_};
 ghost use Rattle.laws.specs.Out.{done, andThen};
 ghost use Rattle.laws.specs.Pick.{pick};
-ghost use Rattle.props.specs.Chain.{Judged, applies, chainAt, entriesAt};
+ghost use Rattle.props.specs.Chain.{Judged, applies, entriesAt};
 ghost use Rattle.props.specs.Sound.{Inside};
 ghost use Rattle.transform.specs.Place.{unturn};
 ghost use Rattle.transform.specs.Turn.{quarterOf};
 ghost use Rattle.sight.specs.Sight.{whole, finalWidth, finalHeight, unturnRect, thenCrop, thenTurn, thenMirror, sightAfter, sightOf, placeOf, boundedPlaceOf, sightOut, placeOut, Bounded, Lies};
 use laws::Refusal;
 use props::Chain;
-use props::ChainRead;
 use props::CropRect;
 use props::EntryRead;
 use props::Property;
@@ -306,15 +305,4 @@ pub fn reduce_judged(
         left -= 1;
     }
     SightRead::Sight(reached)
-}
-
-// What a chain, judged whole, leaves of a picture of that size; under the flag only its essential entries are applied. Refusals: the
-// chain's, then the entries' in turn.
-pub fn reduce(chain: &[u8], essential_only: bool, width: u32, height: u32) -> SightRead
-    ensures { λ r. ⌜ sightOut r ≡ andThen (chainAt (now (chain .entry)) 0) (λ es. sightOf es «essential_only» width height) ⌝ }
-{
-    match props::check_chain(chain, 0) {
-        ChainRead::Refused(e) => SightRead::Refused(e),
-        ChainRead::Read(c) => reduce_judged(chain, c, essential_only, width, height),
-    }
 }
