@@ -18,7 +18,7 @@ pub struct Head {
     pub next: usize,
 }
 
-pub enum HeadRead {
+pub(crate) enum HeadRead {
     Read(Head),
     Refused(Refusal),
 }
@@ -30,7 +30,7 @@ pub struct Plane {
     pub stride: usize,
 }
 
-pub enum PlaneRead {
+pub(crate) enum PlaneRead {
     Read(Plane),
     Refused(Refusal),
 }

@@ -2,7 +2,7 @@
 ghost use mathlib.Core.List.{[], _∷_};
 ghost use mathlib.Core.Path.{_≡_};
 ghost use Prim.Native.Nat.{_+_, _*_, _<_, _≤_};
-ghost use lib.ListN.{length, take, drop};
+ghost use lib.ListN.{length};
 ghost use Rattle.laws.specs.Puts.{puts};
 ghost use Rattle.image.specs.Format.{cover};
 ghost use Rattle.image.specs.Bytes.{dataOf, evenBytes, sampleIn, sampleBytes, samplesOf, promotedIn, PromotedFits};
@@ -31,16 +31,6 @@ pub fn sample(plane: &[u8], bytes: usize, stride: usize, x: usize, y: usize) -> 
         return plane[i] as u16;
     }
     plane[i] as u16 + 256 * (plane[i + 1] as u16)
-}
-
-// The bytes of `n` bytes of a row of a plane, from its start.
-pub fn row(plane: &[u8], stride: usize, y: usize, n: usize) -> &[u8]
-    requires { ⌜ y * stride + n ≤ length (now plane) ⌝ }
-    ensures { λ r. ⌜ now r ≡ take n (drop (y * stride) (now (plane .entry))) ⌝ }
-{
-    let a = y * stride;
-    let e = a + n;
-    &plane[a..e]
 }
 
 // Along one axis, the sample that covers a place.
