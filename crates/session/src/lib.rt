@@ -6,4 +6,3 @@ mod state;
 
 pub use crate::canvas::Called;
 pub use crate::state::Canvas;
-pub use crate::state::TileRead;

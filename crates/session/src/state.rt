@@ -20,7 +20,7 @@ pub struct Canvas {
 }
 
 // The first tile's form, or why a tile is not accepted.
-pub enum TileRead {
+pub(crate) enum TileRead {
     Read(Form),
     Refused(Refusal),
 }
@@ -90,7 +90,7 @@ fn blank_form() -> Form
 
 impl Canvas {
     // A canvas on which nothing is placed.
-    pub fn open(desc: GridDescriptor) -> Canvas
+    pub(crate) fn open(desc: GridDescriptor) -> Canvas
         ensures { λ r. ⌜ r ≡ openOf desc ⌝ }
     {
         let tile = blank_form();
@@ -103,7 +103,7 @@ impl Canvas {
     }
 
     // No canvas: what a refused start leaves.
-    pub fn none() -> Canvas
+    pub(crate) fn none() -> Canvas
         ensures { λ r. ⌜ r ≡ noCanvas ⌝ }
     {
         Canvas::open(GridDescriptor {
@@ -165,7 +165,7 @@ impl Canvas {
     }
 
     // Whether calls can have made the state.
-    pub fn is_sound(self) -> bool
+    pub(crate) fn is_sound(self) -> bool
         ensures { λ r. ⌜ r ≡ stateOk self ⌝ }
     {
         if !grid_ok(self.desc) {
@@ -178,7 +178,7 @@ impl Canvas {
     }
 
     // Whether a tile was accepted.
-    pub fn has_tile(self) -> bool
+    pub(crate) fn has_tile(self) -> bool
         ensures { λ r. ⌜ r ≡ hasTile self ⌝ }
     {
         let t = self.tile;
@@ -186,7 +186,7 @@ impl Canvas {
     }
 
     // A tile's form held to the first: 12 the first does not cover the canvas; 13 another size; 14 another chroma or depth.
-    pub fn accept(self, m: Form) -> TileRead
+    pub(crate) fn accept(self, m: Form) -> TileRead
         ensures { λ r. ⌜ tileOut r ≡ acceptOf self m ⌝ }
     {
         let t = self.tile;
@@ -206,7 +206,7 @@ impl Canvas {
     }
 
     // The state after a cell was drawn.
-    pub fn drawn(self, cell: u32, tile: Form, alpha: u32) -> Canvas
+    pub(crate) fn drawn(self, cell: u32, tile: Form, alpha: u32) -> Canvas
         requires { ⌜ cell < 65536 ⌝ }
         ensures { λ r. ⌜ r ≡ record { desc = self .desc; tile = tile; alpha = alpha; marks = markOf (self .marks) cell } ⌝ }
     {
