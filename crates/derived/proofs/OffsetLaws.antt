@@ -1,6 +1,6 @@
 -- Laws of an overlay's offsets: where they stand, and what they are. Assumes nothing.
 use mathlib.Core.List.{List}
-use mathlib.Core.Path.{_≡_, ap, refl}
+use mathlib.Core.Path.{_≡_, ap}
 use Prim.Native.Nat.{_%_, _*_, _+_, _-_, _<_, _^_, _≤_, suc, ℕ}
 use native.Mathlib.Nat.{sub-zero}
 use native.Mathlib.Omega.{arith}
@@ -37,9 +37,3 @@ pub offset-is : (z : ℤ) → subℕ (offsetOf z .ahead) (offsetOf z .behind) �
 unfolding offsetOf
 offset-is (pos n) = simp (le-ltb n 0 (omega arith), sub-zero)
 offset-is (negsuc n) = simp (lt-ltb 0 (suc n) (omega arith)) (let e : suc n - 1 ≡ n = omega arith in ap negsuc e)
-
--- one of its sides is 0
-pub one-side {ℓ} : {X : Type ℓ} (z : ℤ) → (offsetOf z .behind ≡ 0 → X) → (offsetOf z .ahead ≡ 0 → X) → X
-unfolding offsetOf
-one-side (pos n) f g = f refl
-one-side (negsuc n) f g = g refl

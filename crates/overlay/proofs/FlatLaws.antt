@@ -28,7 +28,6 @@ use Rattle.fill.specs.Fill.{fillOf, nclxOf, partOf, ycbcrOf}
 use Rattle.fill.specs.declared.Colour.{Colour}
 use Rattle.fill.specs.declared.Ycbcr.{Ycbcr}
 use Rattle.derived.specs.declared.overlay.Fill.{Fill}
-use Rattle.overlay.proofs.FrameLaws.{wide}
 use Rattle.overlay.specs.Block.{StripeFits}
 use Rattle.overlay.specs.Overlay.{Layer, allLaid, base, ground, overlayPic, placeAt, settled}
 use Rattle.overlay.specs.Run.{fillPart}
@@ -87,10 +86,6 @@ module _ (m : Form) (ok : FormSound m) (fill : Part → ℕ) (ls : List Layer) (
 pub top-some : (f : PixelFormat) → 8 ≤ f .depth → 1 ≤ topOf f
 unfolding topOf
 top-some f h = let k : 2 ^ 8 ≤ 2 ^ f .depth = pow-mono h in omega arith
-
--- the same picture over the same fill
-pub drawn-as : (m : Form) (s s′ : Ycbcr) (a a′ : ℕ) (ls : List Layer) → s ≡ s′ → a ≡ a′ → overlayPic m (fillPart s a) ls ≡ overlayPic m (fillPart s′ a′) ls
-drawn-as m s s′ a a′ ls e f = ap₂ (λ (k : Ycbcr) (b : ℕ). overlayPic m (fillPart k b) ls) e f
 
 -- a depth that was taken has a fill
 pub fill-taken : (k : Fill) (depth : ℕ) (colour : Colour) → 8 ≤ depth → depth ≤ 16 → fillOf (k .red) (k .green) (k .blue) depth colour ≡ done (ycbcrOf (partOf (k .red)) (partOf (k .green)) (partOf (k .blue)) depth (nclxOf colour))

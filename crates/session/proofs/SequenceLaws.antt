@@ -4,7 +4,6 @@ use mathlib.Core.List.{List, [], _++_, _∷_, append-assoc}
 use mathlib.Core.Path.{_∙_, _≡_, ap, refl, sym}
 use Prim.Native.Nat.{_%_, _/_, _≤_, ℕ}
 use native.Mathlib.Omega.{arith}
-use lib.Dec.{T}
 use lib.ListN.{drop, length, length-append}
 use Rattle.laws.proofs.Order.{by-test, pick-false, pick-le, pick-true}
 use Rattle.laws.proofs.Puts.{puts-middle, puts-start}
@@ -19,7 +18,6 @@ use Rattle.image.specs.declared.format.Form.{Form}
 use Rattle.image.specs.declared.format.Part.the-variants.{Alpha, Cb, Cr, Luma}
 use Rattle.derived.specs.declared.grid.GridDescriptor.{GridDescriptor}
 use Rattle.grid.proofs.Composed.{canvas-alpha-is}
-use Rattle.grid.proofs.MosaicLaws.{pastes, pastes-form}
 use Rattle.grid.proofs.PaintLaws.{head-alpha, length-canvas}
 use Rattle.grid.proofs.PasteLaws.{Meets, pasteTile, tile-pasted}
 use Rattle.grid.specs.Cell.{storeTile, tilePic}
@@ -95,10 +93,6 @@ begun-laid c d e l =
 
 -- ---- cells drawn in turn, the last at the head of the list
 
-unfoldable pub drawnAll : GridDescriptor → Form → (ℕ → Pic) → List ℕ → List ℕ → List ℕ
-drawnAll g t T [] d = d
-drawnAll g t T (j ∷ js) d = drawnOn g t j (T j .form) (T j) (drawnAll g t T js d)
-
 -- the alpha number after them
 unfoldable pub alphaAfter : (ℕ → Pic) → List ℕ → ℕ → ℕ
 alphaAfter T [] a = a
@@ -108,12 +102,3 @@ pub alpha-small : (T : ℕ → Pic) (js : List ℕ) (a : ℕ) → a ≤ 1 → al
 unfolding alphaAfter
 alpha-small T [] a l = l
 alpha-small T (j ∷ js) a l = pick-le _ 1 (alphaAfter T js a) 1 (omega arith) (alpha-small T js a l)
-
-pub all-laid : (g : GridDescriptor) (t : Form) (T : ℕ → Pic) (js : List ℕ) (a : ℕ) (P : Pic) (rest : List ℕ) → P .form ≡ reservedForm g t → ((j : ℕ) → Meets (tilePic (promotesOf g t) (T j) .form) (reservedForm g t)) → a ≤ 1
-    → drawnAll g t T js (laid (headBytes (withAlpha (reservedForm g t) a)) P ++ rest)
-    ≡ laid (headBytes (withAlpha (reservedForm g t) (alphaAfter T js a))) (pastes (λ j. tilePic (promotesOf g t) (T j)) (g .columns) js P) ++ rest
-unfolding drawnAll alphaAfter pastes
-all-laid g t T [] a P rest e meets l = refl
-all-laid g t T (j ∷ js) a P rest e meets l =
-    ap (drawnOn g t j (T j .form) (T j)) (all-laid g t T js a P rest e meets l)
-    ∙ drawn-laid g t (T j .form) j (alphaAfter T js a) (T j) _ rest (pastes-form _ (g .columns) js P ∙ e) (meets j) (alpha-small T js a l)
