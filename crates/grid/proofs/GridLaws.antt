@@ -8,7 +8,6 @@ use native.Mathlib.Nat.{not-suc-le-zero}
 use native.Mathlib.Omega.{arith}
 use lib.Dec.{ltb}
 use lib.ListN.{getD, length}
-use lib.Pow.{high, low}
 use borrow.Author.Tests.{eqb-true, leb-true, ne-eqb, not-false}
 use Rattle.laws.proofs.Order.{and-true, by-equal, by-test, pick-false, pick-le, pick-true}
 use Rattle.laws.proofs.Out.{andThen-done, done-same, not-done, refuse-done}

@@ -6,7 +6,6 @@ use Prim.Native.Nat.{_*_, _+_, _<_, _≤_, ℕ}
 use native.Mathlib.Omega.{arith}
 use lib.Dec.{leb}
 use lib.ListN.{length}
-use lib.Pow.{high, low}
 use borrow.Author.Tests.{eqb-false, ne-eqb, not-true}
 use Rattle.laws.proofs.Order.{pick-both, pick-false, pick-true, positive}
 use Rattle.laws.proofs.Span.{span-cong}

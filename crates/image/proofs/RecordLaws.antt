@@ -7,7 +7,6 @@ use native.Mathlib.Nat.{mul-comm, mul-le-mul-right}
 use native.Mathlib.Omega.{arith}
 use lib.Dec.{eqb, ltb}
 use lib.ListN.{drop, length, length-drop}
-use lib.Pow.{high, low}
 use lib.Seq.{length-take-le}
 use borrow.Author.Tests.{eqb-false, le-ltb, ltb-false, ne-eqb}
 use Rattle.laws.proofs.Order.{by-test, item-within, pick-false, pick-true}

@@ -6,7 +6,6 @@ use Prim.Native.Nat.{_<_, _≤_, suc, zero, ℕ}
 use native.Mathlib.Nat.{not-suc-le-zero}
 use native.Mathlib.Omega.{arith}
 use lib.ListN.{length}
-use lib.Pow.{high, low}
 use borrow.Author.Tests.{eqb-false, eqb-true, not-false}
 use Rattle.laws.proofs.Order.{pick-le, positive}
 use Rattle.laws.proofs.Out.{andThen-done, done-same, refuse-done, refused-back, then-done, then-refused}
@@ -27,7 +26,7 @@ use Rattle.fill.specs.declared.Colour.{Colour}
 use Rattle.derived.proofs.Taken.{overlay-taken}
 use Rattle.derived.specs.Sound.{OverlaySound}
 use Rattle.derived.specs.Overlay.{overlayOf}
-use Rattle.overlay.proofs.FrameLaws.{frames-from, tall, wide}
+use Rattle.overlay.proofs.FrameLaws.{frames-from}
 use Rattle.overlay.specs.Block.{PlanSound, framesFrom, layersAt}
 use Rattle.overlay.specs.Overlay.{overlayForm, overlayPic, some}
 use Rattle.overlay.specs.Plan.{planAt, planOf}

@@ -5,7 +5,6 @@ use mathlib.Core.Path.{_∙_, _≡_, ap, refl}
 use Prim.Native.Nat.{_+_, _≤_, ℕ}
 use native.Mathlib.Omega.{arith}
 use lib.ListN.{length, length-append}
-use lib.Pow.{high, low}
 use Rattle.laws.proofs.Order.{pick-false, pick-true}
 use Rattle.laws.proofs.Out.{then-done, then-refused}
 use Rattle.laws.specs.Out.{done, fitted, refused}
@@ -23,7 +22,6 @@ use Rattle.image.specs.declared.format.Part.{Part}
 use Rattle.image.specs.declared.format.Part.the-variants.{Alpha, Cb, Cr, Luma}
 use Rattle.image.specs.declared.record.Frame.{Frame}
 use Rattle.image.specs.declared.record.Plane.{Plane}
-use Rattle.resample.specs.Area.{area}
 use Rattle.resample.specs.Attach.{KeptFits, Whole, attachBytes, coverBytes, coverKept, keptPart, keptPlane, lumaForm, lumaOf, withAlpha}
 use Rattle.resample.specs.Depth.{rescaled, toDepth}
 use Rattle.resample.specs.Nearest.{nearest}

@@ -3,7 +3,6 @@ use mathlib.Core.Path.{_∙_, _≡_, ap}
 use Prim.Native.Nat.{_*_, _+_, _/_, _<_, _≤_, ℕ}
 use native.Mathlib.Nat.{add-zero, div-eq-of-lt, div-mul-le-self, le-div-iff-mul-le, le-trans, mul-add-div, mul-le-mul-right, zero-mul}
 use native.Mathlib.Omega.{arith}
-use lib.Pow.{high, low}
 use Rattle.laws.proofs.Order.{by-equal}
 use Rattle.resample.proofs.FootLaws.{least-case, least-le, least-left}
 use Rattle.resample.proofs.PlaceLaws.{level-other, level-same, top-bounds}

@@ -5,7 +5,6 @@ use mathlib.Core.Path.{_∙_, _≡_, ap, ap₂, refl, sym}
 use Prim.Native.Nat.{_<_, _^_, _≤_, ℕ}
 use native.Mathlib.Nat.{le-trans, mul-le-mul}
 use lib.Dec.{eqb}
-use lib.Pow.{high, low}
 use borrow.Author.Tests.{eq-eqb, le-ltb, lt-ltb, ltb-false, ne-eqb}
 use Rattle.laws.proofs.Order.{apart, pick-false, pick-true, true-and}
 use Rattle.laws.proofs.Out.{done-same, refuse-done, refuse-no, refuse-yes, then-done, then-refused}

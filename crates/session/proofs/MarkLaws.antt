@@ -10,7 +10,7 @@ use native.Mathlib.Omega.{arith}
 use lib.Bits.{and-mask, bitAnd, bitOr, or-mod, or-shr, or-zero-r, shifted-even}
 use lib.Dec.{eqb}
 use lib.ListN.{getD, length, length-set, replicate, set}
-use lib.Pow.{low, pow-add, pow-lt, pow-pos}
+use lib.Pow.{pow-add, pow-lt, pow-pos}
 use lib.Seq.{getD-set-other, getD-set-same}
 use borrow.Author.Tests.{eq-eqb, eqb-true, ne-eqb, not-false}
 use Rattle.laws.proofs.Order.{and-true, by-equal, by-test, or-left, or-right, pick-false, pick-true, true-and}

@@ -5,7 +5,6 @@ use mathlib.Core.Path.{_∙_, _≡_, refl, sym}
 use Prim.Native.Nat.{_*_, _≤_, ℕ}
 use native.Mathlib.Omega.{arith}
 use lib.Dec.{leb}
-use lib.Pow.{high, low}
 use borrow.Author.Tests.{eqb-true, leb-true, not-false}
 use Rattle.laws.proofs.Order.{and-true, by-test, mul-below, pick-false, pick-true}
 use Rattle.laws.proofs.Out.{done-same, refuse-done}

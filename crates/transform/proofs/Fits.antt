@@ -5,7 +5,6 @@ use Prim.Native.Nat.{_*_, _+_, _-_, _<_, _^_, _≤_, ℕ}
 use native.Mathlib.Nat.{le-trans, lt-of-le-of-lt, lt-of-lt-of-le, mul-comm}
 use native.Mathlib.Omega.{arith}
 use lib.Dec.{eqb}
-use lib.Pow.{high, low}
 use borrow.Author.Tests.{eqb-true}
 use Rattle.laws.proofs.Order.{apart, by-test, mul-below, or-left, pick-true}
 use Rattle.laws.specs.Pick.{pick}

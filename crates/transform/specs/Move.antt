@@ -15,9 +15,7 @@ use Rattle.image.specs.declared.format.Form.{Form}
 use Rattle.image.specs.declared.format.Part.{Part}
 use Rattle.image.specs.declared.format.PixelFormat.{PixelFormat}
 use Rattle.image.specs.declared.samples.Line.{Line}
-use Rattle.props.specs.Size.{swapped}
 use Rattle.props.specs.declared.clap.CropRect.{CropRect}
-use Rattle.transform.specs.Place.{sideways}
 use Rattle.transform.specs.Turn.{Quarter, lopsided, q0, q1, q2, q3}
 use Rattle.transform.specs.declared.moves.Axis.{Axis}
 use Rattle.transform.specs.declared.moves.Move.{Move}

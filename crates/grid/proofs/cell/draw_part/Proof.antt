@@ -2,7 +2,6 @@ use mathlib.Core.Bool.{true}
 use mathlib.Core.Path.{_∙_, _≡_, ap, sym}
 use native.Mathlib.Omega.{arith}
 use borrow.Author.Needs.{needs}
-use Rattle.laws.proofs.Out.{both}
 use Rattle.image.specs.Format.{hasPart}
 use Rattle.image.specs.declared.format.Form.{Form}
 use Rattle.grid.proofs.Suited.{part-hidden, part-lacks, part-stored, suits-bytes, suits-canvas, suits-rows, tile-sound}

@@ -1,6 +1,5 @@
 use mathlib.Core.Path.{_∙_, ap}
 use borrow.Author.Needs.{needs}
-use Rattle.image.specs.Picture.{sized}
 use Rattle.image.specs.declared.format.Form.{Form}
 use Rattle.grid.proofs.tiles.canvas_form.Statement.{statement}
 use Rattle.grid.specs.Tiles.{canvasForm, withAlpha}

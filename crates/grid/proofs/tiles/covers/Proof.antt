@@ -2,7 +2,6 @@ use Prim.Native.Nat.{_-_, _^_}
 use native.Mathlib.Omega.{arith}
 use borrow.Author.Needs.{needs}
 use Rattle.laws.proofs.Order.{mul-below}
-use Rattle.laws.proofs.Out.{both}
 use Rattle.grid.proofs.tiles.covers.Statement.{statement}
 use Rattle.grid.specs.Tiles.{coversOf}
 use Rattle.grid.proofs.tiles.covers.Tie as tie

@@ -1,5 +1,4 @@
 use borrow.Author.Needs.{needs}
-use Rattle.laws.proofs.Out.{both}
 use Rattle.grid.proofs.tiles.same_layout.Statement.{statement}
 use Rattle.grid.specs.Tiles.{sameLayout}
 use Rattle.grid.proofs.tiles.same_layout.Tie as tie

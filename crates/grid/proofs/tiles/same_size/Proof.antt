@@ -1,5 +1,4 @@
 use borrow.Author.Needs.{needs}
-use Rattle.laws.proofs.Out.{both}
 use Rattle.grid.proofs.tiles.same_size.Statement.{statement}
 use Rattle.grid.specs.Tiles.{sameSize}
 use Rattle.grid.proofs.tiles.same_size.Tie as tie

@@ -3,7 +3,6 @@ use native.Mathlib.Omega.{arith}
 use borrow.Author.Needs.{needs}
 use Rattle.image.proofs.RoundTrip.{tight-planes}
 use Rattle.image.proofs.write.tight.Statement.{statement}
-use Rattle.image.specs.Bytes.{placed}
 use Rattle.image.specs.Record.{past}
 use Rattle.image.proofs.write.tight.Tie as tie
 use Rattle.image.proofs.write.tight.Reads as reads

@@ -1,7 +1,6 @@
 use native.Mathlib.Omega.{arith}
 use borrow.Author.Needs.{needs}
 use Rattle.laws.specs.Pick.{pick}
-use Rattle.fill.proofs.Rounding.{less}
 use Rattle.overlay.proofs.BlendLaws.{sample-product, share-small, under-small}
 use Rattle.overlay.proofs.blend.paint_over.Statement.{statement}
 use Rattle.overlay.specs.Overlay.{paint}

@@ -1,6 +1,5 @@
 use mathlib.Core.Path.{sym}
 use borrow.Author.Needs.{needs}
-use Rattle.fill.proofs.Rounding.{less}
 use Rattle.overlay.proofs.blend.reach.Statement.{statement}
 use Rattle.overlay.specs.Block.{stretchOf}
 use Rattle.overlay.proofs.blend.reach.Tie as tie

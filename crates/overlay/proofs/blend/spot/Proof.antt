@@ -1,5 +1,4 @@
 use borrow.Author.Needs.{needs}
-use Rattle.fill.proofs.Rounding.{less}
 use Rattle.overlay.proofs.blend.spot.Statement.{statement}
 use Rattle.overlay.specs.Overlay.{spotAt}
 use Rattle.overlay.proofs.blend.spot.Tie as tie

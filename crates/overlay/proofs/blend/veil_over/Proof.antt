@@ -1,6 +1,5 @@
 use native.Mathlib.Omega.{arith}
 use borrow.Author.Needs.{needs}
-use Rattle.fill.proofs.Rounding.{less}
 use Rattle.overlay.proofs.BlendLaws.{share-small, under-small}
 use Rattle.overlay.proofs.blend.veil_over.Statement.{statement}
 use Rattle.overlay.specs.Overlay.{veil}

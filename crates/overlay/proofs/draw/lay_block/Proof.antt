@@ -4,7 +4,6 @@ use native.Mathlib.Omega.{arith}
 use borrow.Author.Needs.{needs}
 use denote.Ref.{now}
 use Rattle.laws.specs.Puts.{puts}
-use Rattle.laws.specs.Span.{run}
 use Rattle.image.proofs.FormLaws.{bytes-few}
 use Rattle.overlay.proofs.FlatLaws.{laid-place, samples-as}
 use Rattle.overlay.proofs.draw.lay_block.Statement.{statement}

@@ -1,6 +1,5 @@
 use mathlib.Core.Path.{sym}
 use borrow.Author.Needs.{needs}
-use Rattle.laws.proofs.Out.{both}
 use Rattle.image.specs.Format.{isMono}
 use Rattle.overlay.proofs.inputs.compose_form.Statement.{statement}
 use Rattle.overlay.specs.Block.{notedForm}

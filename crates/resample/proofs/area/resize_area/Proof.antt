@@ -5,7 +5,6 @@ use denote.Ref.{now}
 use Rattle.laws.proofs.Out.{answers-as}
 use Rattle.laws.specs.Out.{fitted}
 use Rattle.image.specs.Bytes.{decode, encode}
-use Rattle.image.specs.Picture.{sized}
 use Rattle.image.specs.declared.format.Form.{Form}
 use Rattle.resample.proofs.RunLaws.{area-drawn, area-kept, area-rule}
 use Rattle.resample.proofs.area.resize_area.Statement.{statement}

@@ -5,7 +5,6 @@ use borrow.Author.Needs.{needs}
 use Rattle.resample.proofs.FootLaws.{touched, weight-le, weight-some}
 use Rattle.resample.proofs.area.weight.Statement.{statement}
 use Rattle.resample.specs.Area.{weightOf}
-use Rattle.resample.specs.Rounded.{greatest, least}
 use Rattle.resample.proofs.area.weight.Tie as tie
 use Rattle.resample.proofs.area.weight.Reads as reads
 use Rattle.resample.proofs.area.weight.Lts as lts

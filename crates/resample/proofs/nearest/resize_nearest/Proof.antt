@@ -6,7 +6,6 @@ use Rattle.laws.proofs.Out.{answers-as, refused-answers, then-refused}
 use Rattle.laws.specs.Out.{done, fitted}
 use Rattle.image.proofs.RecordLaws.{whole-sound}
 use Rattle.image.specs.Bytes.{decode, encode}
-use Rattle.image.specs.Picture.{sized}
 use Rattle.image.specs.Record.{frameOut, recordOf}
 use Rattle.image.specs.declared.format.Form.{Form}
 use Rattle.props.proofs.SizeLaws.{judged-sound}

@@ -2,7 +2,6 @@ use mathlib.Core.Path.{_∙_, ap, sym}
 use borrow.Author.Needs.{needs}
 use Rattle.laws.proofs.Out.{then-done, then-refused}
 use Rattle.laws.specs.Out.{done}
-use Rattle.image.specs.Picture.{sized}
 use Rattle.props.proofs.ApertureLaws.{refused-no-rect}
 use Rattle.props.specs.Aperture.{resolvedOut}
 use Rattle.props.specs.Size.{sizeOut}

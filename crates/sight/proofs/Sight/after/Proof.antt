@@ -5,7 +5,6 @@ use Rattle.laws.specs.Out.{done}
 use Rattle.image.specs.Picture.{odd}
 use Rattle.props.proofs.ApertureLaws.{refused-no-rect}
 use Rattle.props.specs.Aperture.{resolvedOut}
-use Rattle.transform.specs.Turn.{turned}
 use Rattle.sight.proofs.Sight.after.Statement.{statement}
 use Rattle.sight.proofs.Steps.{clap-at, clap-inside}
 use Rattle.sight.specs.Sight.{sightAfter}

@@ -1,5 +1,4 @@
 use borrow.Author.Needs.{needs}
-use Rattle.transform.specs.Place.{sideways}
 use Rattle.sight.proofs.Sight.mirrored.Statement.{statement}
 use Rattle.sight.proofs.Steps.{sideways-is, upright-is}
 use Rattle.sight.proofs.Sight.mirrored.Tie as tie
