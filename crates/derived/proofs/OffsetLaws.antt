@@ -13,7 +13,7 @@ use Rattle.numbers.specs.declared.Cursor.{Cursor}
 use Rattle.numbers.specs.declared.FieldRead.the-variants.{Field}
 use Rattle.derived.proofs.FieldLaws.{few-patterns, field-below, field-read, patterns, shift-patterns}
 use Rattle.derived.specs.Overlay.{offsetPlace, signedAt}
-use Rattle.derived.specs.Sound.{OverlaySound}
+use Rattle.derived.specs.inner.Sound.{OverlaySound}
 use Rattle.derived.specs.declared.overlay.OverlayDescriptor.{OverlayDescriptor}
 
 -- both offsets of an input lie in the body, at a place that is told without overflow

@@ -17,7 +17,7 @@ use Rattle.derived.proofs.FieldLaws.{field-below, field-read}
 use Rattle.derived.specs.Canvas.{canvasAt, fieldBytes, startOf}
 use Rattle.derived.specs.Grid.{gridAt, gridOf}
 use Rattle.derived.specs.Overlay.{fillAt, inputsOf, overlayOf}
-use Rattle.derived.specs.Sound.{CanvasSound, GridSound, OverlaySound}
+use Rattle.derived.specs.inner.Sound.{CanvasSound, GridSound, OverlaySound}
 use Rattle.derived.specs.declared.canvas.Canvas.{Canvas}
 use Rattle.derived.specs.declared.canvas.Start.{Start}
 use Rattle.derived.specs.declared.grid.GridDescriptor.{GridDescriptor}

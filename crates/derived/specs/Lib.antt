@@ -1,4 +1,4 @@
 pub mod Canvas
 pub mod Grid
 pub mod Overlay
-pub mod Sound
+pub mod inner

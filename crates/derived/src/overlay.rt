@@ -4,7 +4,7 @@ ghost use Prim.Native.Nat.{_≤_, _<_, _+_};
 ghost use lib.ListN.{length};
 ghost use Rattle.numbers.specs.Field.{offsetOf};
 ghost use Rattle.derived.specs.Overlay.{fillAt, fillOut, inputsOf, overlayOf, overlayOut, signedAt, placementAt};
-ghost use Rattle.derived.specs.Sound.{OverlaySound};
+ghost use Rattle.derived.specs.inner.Sound.{OverlaySound};
 use crate::canvas::Canvas;
 use crate::canvas::CanvasRead;
 use crate::canvas::StartRead;

@@ -11,11 +11,12 @@ use Rattle.laws.proofs.Puts.{length-puts}
 use Rattle.laws.specs.Pick.{pick}
 use Rattle.laws.specs.Puts.{puts}
 use Rattle.image.specs.Format.{cover, hasPart}
-use Rattle.image.specs.Line.{LineFits, placeOn}
+use Rattle.image.specs.inner.Line.{LineFits, placeOn}
 use Rattle.image.specs.Picture.{Pic}
 use Rattle.image.specs.declared.format.Form.{Form}
 use Rattle.image.specs.declared.format.Part.{Part}
-use Rattle.grid.specs.Cell.{RowsFit, storeCell, storePart, storeRows, tileLine, visibleOf}
+use Rattle.grid.specs.Cell.{storeCell, storePart, storeRows, visibleOf}
+use Rattle.grid.specs.inner.Rows.{RowsFit, tileLine}
 
 -- ---- along one axis
 

@@ -32,9 +32,11 @@ use Rattle.grid.proofs.MosaicLaws.{among-down, down-among, downFrom, pa
 use Rattle.grid.proofs.PaintLaws.{head-alpha, length-canvas}
 use Rattle.grid.proofs.PasteLaws.{Meets}
 use Rattle.grid.proofs.Suited.{suits-bytes, suits-canvas, tile-parts, tile-sound, tilePic-form}
-use Rattle.grid.specs.Cell.{Suits, storeTile, tileForm, tilePic}
-use Rattle.grid.specs.Mosaic.{canvasBytes, gridPic, laid, mosaicAt, opaqueAt, plainAt, plainPic, storeTiles, tileIndex}
-use Rattle.grid.specs.Ready.{TilesTaken}
+use Rattle.grid.specs.Cell.{storeTile, tileForm, tilePic}
+use Rattle.grid.specs.inner.Rows.{Suits}
+use Rattle.grid.specs.Mosaic.{canvasBytes, gridPic, laid, mosaicAt, opaqueAt, plainAt, plainPic, tileIndex}
+use Rattle.grid.specs.inner.Stored.{storeTiles}
+use Rattle.grid.specs.inner.Ready.{TilesTaken}
 use Rattle.grid.specs.Run.{framesIn, gridOn, gridRun, noFrame, tileIn}
 use Rattle.grid.specs.Tiles.{canvasForm, countOf, promotesOf, tilesOf, withAlpha}
 use Rattle.grid.specs.declared.tiles.Tiles.{Tiles}

@@ -19,17 +19,18 @@ use Rattle.image.proofs.TrayLaws.{frames-length}
 use Rattle.image.specs.Bytes.{Bytes}
 use Rattle.image.specs.Format.{hasAlpha}
 use Rattle.image.specs.Picture.{sized}
-use Rattle.image.specs.Sound.{FormSound, Sound}
+use Rattle.image.specs.Sound.{FormSound}
+use Rattle.image.specs.inner.Placed.{Sound}
 use Rattle.image.specs.Tray.{framesAt}
 use Rattle.image.specs.declared.format.Form.{Form}
 use Rattle.image.specs.declared.format.PixelFormat.{PixelFormat}
 use Rattle.image.specs.declared.record.Frame.{Frame}
 use Rattle.derived.proofs.Taken.{grid-taken}
 use Rattle.derived.specs.Grid.{gridOf}
-use Rattle.derived.specs.Sound.{GridSound}
+use Rattle.derived.specs.inner.Sound.{GridSound}
 use Rattle.derived.specs.declared.grid.GridDescriptor.{GridDescriptor}
 use Rattle.grid.proofs.Suited.{tile-sound}
-use Rattle.grid.specs.Ready.{Alike, TilesTaken}
+use Rattle.grid.specs.inner.Ready.{Alike, TilesTaken}
 use Rattle.grid.specs.Run.{framesIn, noFrame, takenOf}
 use Rattle.grid.specs.Tiles.{alikeFrom, canvasForm, countOf, coversOf, judgeOf, promotesOf, sameLayout, sameSize, tilesAt, tilesOf, withAlpha}
 use Rattle.grid.specs.declared.tiles.Tiles.{Tiles}

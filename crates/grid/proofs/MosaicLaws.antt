@@ -21,7 +21,8 @@ use Rattle.grid.proofs.CellLaws.{visible-shows, visible-tile}
 use Rattle.grid.proofs.LaidLaws.{onPart-here, onPart-other, partNumber, samePart}
 use Rattle.grid.proofs.PasteLaws.{Meets, paste-form, pasteAt, pastePart, pasteTile, shows, tile-pasted}
 use Rattle.grid.specs.Cell.{storeTile, visibleOf}
-use Rattle.grid.specs.Mosaic.{among, laid, storeTiles, tileIndex}
+use Rattle.grid.specs.Mosaic.{among, laid, tileIndex}
+use Rattle.grid.specs.inner.Stored.{storeTiles}
 
 -- ---- a tile's samples, part by part
 

@@ -19,7 +19,8 @@ use Rattle.image.specs.Sound.{FormSound}
 use Rattle.image.specs.declared.format.Form.{Form}
 use Rattle.image.specs.declared.format.Part.{Part}
 use Rattle.image.specs.declared.format.Part.the-variants.{Alpha, Cb, Cr, Luma}
-use Rattle.grid.specs.Mosaic.{canvasBytes, evenPic, laid, plainAt, plainPic}
+use Rattle.grid.specs.Mosaic.{canvasBytes, laid, plainAt, plainPic}
+use Rattle.grid.specs.inner.Stored.{evenPic}
 use Rattle.grid.specs.Tiles.{withAlpha}
 
 -- rows of one sample are one run of it

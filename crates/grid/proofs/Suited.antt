@@ -15,7 +15,7 @@ use Rattle.image.proofs.PictureLaws.{parts-444}
 use Rattle.image.proofs.RecordLaws.{sample-inside}
 use Rattle.image.specs.Bytes.{dataOf, decode, sampleAt, sampleBytes, sampleIn, samplesOf, tightAt}
 use Rattle.image.specs.Format.{bytesOf, columnsOf, cover, halfX, halfY, halved, halvesX, halvesY, hasAlpha, hasPart, isMono, rowSize, rowsOf, sideOf}
-use Rattle.image.specs.Line.{lineBytes}
+use Rattle.image.specs.inner.Line.{lineBytes}
 use Rattle.image.specs.Picture.{Pic, as444, full, pixel, promote}
 use Rattle.image.specs.Record.{planeOf}
 use Rattle.image.specs.Sound.{FormSound}
@@ -26,7 +26,8 @@ use Rattle.image.specs.declared.format.PixelFormat.{PixelFormat}
 use Rattle.image.specs.declared.record.Frame.{Frame}
 use Rattle.grid.proofs.CellFits.{cell-cases, cell-is, writes-le}
 use Rattle.grid.proofs.CellLaws.{line-place, rows-cong, rows-none, visible-tile}
-use Rattle.grid.specs.Cell.{RowsFit, Suits, cellOf, noCell, storeCell, storePart, storeRows, tileForm, tileLine, tilePic, visibleOf}
+use Rattle.grid.specs.Cell.{cellOf, noCell, storeCell, storePart, storeRows, tileForm, tilePic, visibleOf}
+use Rattle.grid.specs.inner.Rows.{RowsFit, Suits, tileLine}
 use Rattle.grid.specs.declared.cell.Cell.{Cell}
 
 -- ---- the tile's form

@@ -22,7 +22,8 @@ use Rattle.image.specs.declared.format.Form.{Form}
 use Rattle.image.specs.declared.record.Frame.{Frame}
 use Rattle.derived.specs.Grid.{gridOf}
 use Rattle.derived.specs.declared.grid.GridDescriptor.{GridDescriptor}
-use Rattle.grid.specs.Tiles.{FramesTaken, alikeFrom, countOf, coversOf, judgeOf, sameLayout, sameSize, tilesAt, tilesOf}
+use Rattle.grid.specs.Tiles.{alikeFrom, countOf, coversOf, judgeOf, sameLayout, sameSize, tilesAt, tilesOf}
+use Rattle.grid.specs.inner.Taken.{FramesTaken}
 use Rattle.grid.specs.declared.tiles.Tiles.{Tiles}
 
 -- records that stand there: the first of them, and the rest

@@ -2,4 +2,4 @@ pub mod Cell
 pub mod Tiles
 pub mod Mosaic
 pub mod Run
-pub mod Ready
+pub mod inner

@@ -1,7 +1,7 @@
 -- The composed picture of a grid ("Grid"), and the canvas that its tiles are stored in. Assumes nothing.
 use mathlib.Core.Bool.{Bool, false, true}
 use mathlib.Core.List.{List, [], _++_, _∷_}
-use Prim.Native.Nat.{_%_, _*_, _+_, _/_, suc, zero, ℕ}
+use Prim.Native.Nat.{_%_, _*_, _+_, _/_, ℕ}
 use lib.Dec.{eqb}
 use Rattle.laws.specs.Pick.{pick}
 use Rattle.image.specs.Bytes.{headBytes, planeBytes}
@@ -11,7 +11,7 @@ use Rattle.image.specs.declared.format.Form.{Form}
 use Rattle.image.specs.declared.format.Part.{Part}
 use Rattle.image.specs.declared.format.Part.the-variants.{Alpha, Cb, Cr, Luma}
 use Rattle.image.specs.declared.format.PixelFormat.{PixelFormat}
-use Rattle.grid.specs.Cell.{storeTile, tileForm, tilePic}
+use Rattle.grid.specs.Cell.{tileForm, tilePic}
 use Rattle.grid.specs.Tiles.{canvasForm, promotesOf, withAlpha}
 use Rattle.grid.specs.declared.tiles.Tiles.{Tiles}
 
@@ -46,9 +46,6 @@ plainAt f Cb = 0
 plainAt f Cr = 0
 plainAt f Alpha = topOf f
 
-unfoldable pub evenPic : Form → ℕ → Pic
-evenPic m v = record { form = m; at = λ p x y. v }
-
 unfoldable pub plainPic : Form → Pic
 plainPic m = record { form = m; at = λ p x y. plainAt (m .format) p }
 
@@ -59,11 +56,6 @@ laid h P = h ++ (planeBytes P Luma ++ (planeBytes P Cb ++ (planeBytes P Cr ++ pl
 -- the canvas whose header says that alpha number
 unfoldable pub canvasBytes : Form → ℕ → List ℕ
 canvasBytes c a = laid (headBytes (withAlpha c a)) (plainPic c)
-
--- the first n tiles stored in their cells, in turn
-unfoldable pub storeTiles : Form → (ℕ → Pic) → ℕ → ℕ → List ℕ → List ℕ
-storeTiles c T columns zero d = d
-storeTiles c T columns (suc n) d = storeTile c (T n) (n % columns) (n / columns) (storeTiles c T columns n d)
 
 -- whether a cell is in a list of cells
 unfoldable pub among : ℕ → List ℕ → Bool

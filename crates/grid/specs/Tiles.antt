@@ -1,7 +1,6 @@
 -- The tiles of a grid: their refusals, and what they fix ("Grid" and "Refusals in order", Grid). Assumes nothing.
 use mathlib.Core.Bool.{Bool, _&&_, _||_, not}
 use mathlib.Core.List.{List, [], _∷_}
-use mathlib.Core.Path.{_≡_}
 use Prim.Native.Nat.{_*_, ℕ}
 use lib.Dec.{eqb, leb}
 use Rattle.laws.specs.Out.{Out, andThen, done, reason, refuse, refused}
@@ -76,7 +75,3 @@ tilesOf body tray = onNumber (readNumber tray 0) (tilesAt body tray)
 abbrev pub tilesOut : TilesRead → Out Tiles
 tilesOut (TilesRead.Read t) = done t
 tilesOut (TilesRead.Refused e) = refused e
-
--- so many records stand there
-unfoldable pub FramesTaken : ℕ → List ℕ → ℕ → Type 0
-FramesTaken n s at = (frs : List Frame) × (framesAt n s at ≡ done frs)

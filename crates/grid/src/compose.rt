@@ -6,7 +6,7 @@ ghost use Rattle.laws.specs.Out.{answerOf, written};
 ghost use Rattle.laws.specs.Puts.{puts};
 ghost use Rattle.image.specs.Bytes.{encode, sizeOf};
 ghost use Rattle.grid.specs.Tiles.{canvasForm};
-ghost use Rattle.grid.specs.Ready.{TilesTaken};
+ghost use Rattle.grid.specs.inner.Ready.{TilesTaken};
 ghost use Rattle.grid.specs.Run.{gridOn, gridRun};
 use crate::cell::draw_tile;
 use crate::paint::paint_canvas;

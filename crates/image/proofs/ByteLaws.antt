@@ -13,8 +13,9 @@ use Rattle.laws.proofs.Span.{length-span-all, span-cong}
 use Rattle.laws.specs.Pick.{pick}
 use Rattle.laws.specs.Puts.{puts}
 use Rattle.laws.specs.Span.{run, span}
-use Rattle.image.specs.Bytes.{Bytes, dataOf, evenBytes, sampleAt, sampleBytes, samplesOf}
-use Rattle.image.specs.Line.{lineBytes, placeOn}
+use Rattle.image.specs.Bytes.{Bytes, dataOf, sampleAt, sampleBytes, samplesOf}
+use Rattle.image.specs.inner.Promoted.{evenBytes}
+use Rattle.image.specs.inner.Line.{lineBytes, placeOn}
 use Rattle.image.specs.declared.record.Plane.{Plane}
 use Rattle.image.specs.declared.samples.Line.{Line}
 

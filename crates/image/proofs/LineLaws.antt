@@ -8,7 +8,7 @@ use lib.ListN.{drop, length, take}
 use Rattle.laws.proofs.Span.{span-cong, span-end}
 use Rattle.image.proofs.ByteLaws.{samples-taken}
 use Rattle.image.specs.Bytes.{Bytes, sampleAt, sampleBytes, samplesOf}
-use Rattle.image.specs.Line.{LineFits, lineBytes, placeOn}
+use Rattle.image.specs.inner.Line.{LineFits, lineBytes, placeOn}
 use Rattle.image.specs.declared.samples.Line.{Line}
 
 -- a line that takes one sample after the other

@@ -8,7 +8,8 @@ use borrow.Author.Tests.{eqb-false, eqb-true}
 use Rattle.laws.proofs.Order.{by-test, or-left, or-right, pick-true}
 use Rattle.laws.specs.Pick.{pick}
 use Rattle.image.specs.Format.{cover, halved, halvesX, halvesY, hasAlpha, hasPart, isMono, sideOf}
-use Rattle.image.specs.Picture.{Evenly, Pic, as444, ensure, full, needs444, odd, pixel, promote}
+use Rattle.image.specs.Picture.{Pic, as444, ensure, full, needs444, odd, pixel, promote}
+use Rattle.image.specs.inner.Even.{Evenly}
 use Rattle.image.specs.declared.format.Form.{Form}
 use Rattle.image.specs.declared.format.Part.{Part}
 use Rattle.image.specs.declared.format.Part.the-variants.{Alpha, Cb, Cr, Luma}

@@ -19,7 +19,8 @@ use Rattle.numbers.specs.declared.NumberRead.the-variants.{Malformed, Number}
 use Rattle.image.specs.Bytes.{dataOf}
 use Rattle.image.specs.Format.{bytesOf, columnsOf, formOf, formatOf, hasPart, rowSize, rowsOf}
 use Rattle.image.specs.Record.{headAt, headOf, partAt, past, planeAt, planeOf, planesAt, recordAt, recordOf}
-use Rattle.image.specs.Sound.{FormSound, PlaneSound, Sound}
+use Rattle.image.specs.Sound.{FormSound}
+use Rattle.image.specs.inner.Placed.{PlaneSound, Sound}
 use Rattle.image.specs.declared.format.Form.{Form}
 use Rattle.image.specs.declared.format.Part.{Part}
 use Rattle.image.specs.declared.format.Part.the-variants.{Alpha, Cb, Cr, Luma}

@@ -1,20 +1,17 @@
 -- Pictures and records: what a record's bytes show, and the tight record of a picture. Assumes nothing.
-use mathlib.Core.Path.{_≡_}
-use mathlib.Core.Bool.{true}
 use mathlib.Core.List.{List, [], _∷_, _++_}
-use Prim.Native.Nat.{ℕ, _+_, _*_, _/_, _%_, _≤_, _<_}
+use Prim.Native.Nat.{ℕ, _+_, _*_, _/_, _%_, _<_}
 use lib.Dec.{eqb}
 use lib.ListN.{length, getD, take, drop}
 use Rattle.laws.specs.Pick.{pick}
 use Rattle.laws.specs.Span.{span}
 use Rattle.numbers.specs.Number.{numberBytes}
-use Rattle.image.specs.Format.{middleOf, bytesOf, hasPart, halfX, halfY, cover, columnsOf, rowsOf, rowSize}
+use Rattle.image.specs.Format.{bytesOf, hasPart, columnsOf, rowsOf, rowSize}
 use Rattle.image.specs.Record.{planeOf, past}
 use Rattle.image.specs.Picture.{Pic}
 use Rattle.image.specs.declared.format.Part.{Part}
 use Rattle.image.specs.declared.format.Part.the-variants.{Luma, Cb, Cr, Alpha}
 use Rattle.image.specs.declared.format.Form.{Form}
-use Rattle.image.specs.declared.format.PixelFormat.{PixelFormat}
 use Rattle.image.specs.declared.record.Plane.{Plane}
 use Rattle.image.specs.declared.record.Frame.{Frame}
 
@@ -36,16 +33,6 @@ sampleAt d bytes i = pick (eqb bytes 1) (getD d i 0) (getD d i 0 + 256 * getD d 
 unfoldable pub sampleIn : List ℕ → ℕ → ℕ → ℕ → ℕ → ℕ
 sampleIn d bytes stride x y = sampleAt d bytes (y * stride + x * bytes)
 
--- the sample that promotion puts at a place of the picture; 2 ^ (depth − 1) where the picture has not the plane
-unfoldable pub promotedIn : List ℕ → PixelFormat → ℕ → Part → ℕ → ℕ → ℕ
-promotedIn d f stride p x y = pick (hasPart f p) (sampleIn d (bytesOf f) stride (cover (halfX f p) x) (cover (halfY f p) y)) (middleOf f)
-
--- what reading it asks: a depth that has a middle, and the covering sample inside
-pub record PromotedFits (d : List ℕ) (f : PixelFormat) (stride : ℕ) (p : Part) (x y : ℕ) : Type 0 where
-  pub low : 8 ≤ f .depth
-  pub high : f .depth ≤ 16
-  pub inside : hasPart f p ≡ true → cover (halfY f p) y * stride + cover (halfX f p) x * bytesOf f + bytesOf f ≤ length d
-
 unfoldable pub decode : List ℕ → Frame → Pic
 decode s fr = record {
   form = fr .form;
@@ -60,10 +47,6 @@ sampleBytes bytes v = pick (eqb bytes 1) (v % 256 ∷ []) (v % 256 ∷ v / 256 %
 -- a row of so many samples
 unfoldable pub samplesOf : ℕ → (ℕ → ℕ) → ℕ → List ℕ
 samplesOf bytes f n = span (λ x. sampleBytes bytes (f x)) 0 n
-
--- the same bytes again and again
-unfoldable pub evenBytes : List ℕ → ℕ → List ℕ
-evenBytes b n = span (λ x. b) 0 n
 
 unfoldable pub rowBytes : Pic → Part → ℕ → List ℕ
 rowBytes P p y = samplesOf (bytesOf (P .form .format)) (λ x. P .at p x y) (columnsOf (P .form) p)

@@ -3,5 +3,5 @@ pub mod Record
 pub mod Tray
 pub mod Picture
 pub mod Bytes
-pub mod Line
 pub mod Sound
+pub mod inner

@@ -1,5 +1,5 @@
 -- Pictures as functions, what a plane reads at a place, and promotion to 4:4:4. Assumes nothing.
-use mathlib.Core.Bool.{Bool, _&&_, _||_, false, true}
+use mathlib.Core.Bool.{Bool, _&&_, _||_, true}
 use mathlib.Core.Path.{_≡_}
 use Prim.Native.Nat.{_%_, _<_, ℕ}
 use lib.Dec.{eqb}
@@ -43,16 +43,6 @@ needs444 f oddX oddY = halvesX f && oddX || halvesY f && oddY
 
 unfoldable pub ensure : Pic → Bool → Bool → Pic
 ensure P oddX oddY = pick (needs444 (P .form .format) oddX oddY) (promote P) P
-
--- a side or an offset along an axis: even where the axis is halved, so that no chroma sample reaches across it
-unfoldable pub Evenly : Bool → ℕ → Type 0
-Evenly true n = n % 2 ≡ 0
-Evenly false n = Unit {0}
-
--- a halved axis has an even side
-pub record Even (m : Form) : Type 0 where
-  pub evenX : Evenly (halvesX (m .format)) (m .width)
-  pub evenY : Evenly (halvesY (m .format)) (m .height)
 
 -- the same picture: the same form, and the same samples in every plane
 pub record Agree (P Q : Pic) : Type 0 where

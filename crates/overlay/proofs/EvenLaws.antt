@@ -11,7 +11,8 @@ use Rattle.laws.specs.Pick.{pick}
 use Rattle.numbers.specs.declared.Offset.{Offset}
 use Rattle.image.proofs.PictureLaws.{evenly-if, needs-X, needs-Y, odd-false}
 use Rattle.image.specs.Format.{cover, halfX, halfY, halved, halvesX, halvesY, hasAlpha, hasPart, isMono, middleOf, topOf}
-use Rattle.image.specs.Picture.{Evenly, full, odd, pixel}
+use Rattle.image.specs.Picture.{full, odd, pixel}
+use Rattle.image.specs.inner.Even.{Evenly}
 use Rattle.image.specs.declared.format.Form.{Form}
 use Rattle.image.specs.declared.format.Part.{Part}
 use Rattle.image.specs.declared.format.Part.the-variants.{Alpha, Cb, Cr, Luma}

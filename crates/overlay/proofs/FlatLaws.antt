@@ -28,7 +28,7 @@ use Rattle.fill.specs.Fill.{fillOf, nclxOf, partOf, ycbcrOf}
 use Rattle.fill.specs.declared.Colour.{Colour}
 use Rattle.fill.specs.declared.Ycbcr.{Ycbcr}
 use Rattle.derived.specs.declared.overlay.Fill.{Fill}
-use Rattle.overlay.specs.Block.{StripeFits}
+use Rattle.overlay.specs.inner.Block.{StripeFits}
 use Rattle.overlay.specs.Overlay.{Layer, allLaid, base, ground, overlayPic, placeAt, settled}
 use Rattle.overlay.specs.Run.{fillPart}
 

@@ -23,7 +23,7 @@ use Rattle.image.specs.declared.format.Part.{Part}
 use Rattle.image.specs.declared.format.Part.the-variants.{Alpha, Cb, Cr, Luma}
 use Rattle.image.specs.declared.record.Frame.{Frame}
 use Rattle.image.specs.declared.record.Plane.{Plane}
-use Rattle.overlay.specs.Block.{Inside, alphaPlane, alphaPlaneAt, framesFrom, noAlpha, onward}
+use Rattle.overlay.specs.inner.Block.{Inside, alphaPlane, alphaPlaneAt, framesFrom, noAlpha, onward}
 use Rattle.overlay.specs.Overlay.{some}
 use Rattle.overlay.specs.Run.{alphaAbove, firstForm, someBelow}
 use Rattle.overlay.specs.declared.hunt.AlphaPlane.{AlphaPlane}

@@ -27,9 +27,9 @@ use Rattle.derived.specs.declared.overlay.OverlayDescriptor.{OverlayDescriptor}
 use Rattle.derived.specs.declared.overlay.Placement.{Placement}
 use Rattle.overlay.proofs.BlendLaws.{less-one}
 use Rattle.overlay.proofs.FrameLaws.{frames-first}
-use Rattle.overlay.specs.Block.{allNoted, framesPlan, noted, notedForm, notedPlan, nothingNoted}
+use Rattle.overlay.specs.inner.Block.{allNoted, framesPlan, noted, notedForm, notedPlan, nothingNoted}
 use Rattle.overlay.specs.Overlay.{oddAcross, oddDown, oddOffset, otherChroma, overlayForm, promotes, seeThrough, some}
-use Rattle.overlay.specs.Plan.{planAt, planOf}
+use Rattle.overlay.specs.inner.Plan.{planAt, planOf}
 use Rattle.overlay.specs.Run.{Inputs, composedForm, firstFormat, inputsAt, layerOf, layersOf, otherDepth}
 use Rattle.overlay.specs.declared.inputs.Noted.{Noted}
 use Rattle.overlay.specs.declared.inputs.Plan.{Plan}

@@ -10,7 +10,7 @@ use Rattle.laws.proofs.Order.{and-true, item-within, mul-below, true-and}
 use Rattle.laws.specs.Pick.{pick}
 use Rattle.numbers.specs.declared.Offset.{Offset}
 use Rattle.image.specs.Format.{sideOf}
-use Rattle.overlay.specs.Block.{stretchOf}
+use Rattle.overlay.specs.inner.Block.{stretchOf}
 use Rattle.overlay.specs.Overlay.{base, covers, some, spotAt}
 
 -- ---- along one axis

@@ -24,12 +24,12 @@ use Rattle.image.specs.Tray.{framesAt}
 use Rattle.image.specs.declared.record.Frame.{Frame}
 use Rattle.fill.specs.declared.Colour.{Colour}
 use Rattle.derived.proofs.Taken.{overlay-taken}
-use Rattle.derived.specs.Sound.{OverlaySound}
+use Rattle.derived.specs.inner.Sound.{OverlaySound}
 use Rattle.derived.specs.Overlay.{overlayOf}
 use Rattle.overlay.proofs.FrameLaws.{frames-from}
-use Rattle.overlay.specs.Block.{PlanSound, framesFrom, layersAt}
+use Rattle.overlay.specs.inner.Block.{PlanSound, framesFrom, layersAt}
 use Rattle.overlay.specs.Overlay.{overlayForm, overlayPic, some}
-use Rattle.overlay.specs.Plan.{planAt, planOf}
+use Rattle.overlay.specs.inner.Plan.{planAt, planOf}
 use Rattle.overlay.specs.Run.{Inputs, alphaAbove, composed, composedForm, fillFor, firstForm, firstFormat, inputsAt, layersOf, otherDepth, overlayRun}
 use Rattle.overlay.specs.declared.inputs.Plan.{Plan}
 

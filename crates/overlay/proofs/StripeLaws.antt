@@ -15,7 +15,8 @@ use Rattle.laws.specs.Span.{run}
 use Rattle.laws.specs.declared.Refusal.{Refusal}
 use Rattle.image.proofs.FormLaws.{cover-in, width-le}
 use Rattle.image.proofs.RecordLaws.{sample-inside}
-use Rattle.image.specs.Bytes.{dataOf, decode, promotedIn}
+use Rattle.image.specs.Bytes.{dataOf, decode}
+use Rattle.image.specs.inner.Promoted.{promotedIn}
 use Rattle.image.specs.Format.{columnsOf, halfX, halfY, hasPart, rowsOf}
 use Rattle.image.specs.Picture.{full, pixel}
 use Rattle.image.specs.Record.{planeOf, recordAt}
@@ -29,7 +30,7 @@ use Rattle.derived.specs.declared.overlay.Placement.{Placement}
 use Rattle.overlay.proofs.BlendLaws.{less-one}
 use Rattle.overlay.proofs.FrameLaws.{from-next, from-refused, shown, tall, wide}
 use Rattle.overlay.proofs.ReachLaws.{line-in, line-out, line-small, row-last, row-mono, spot-inside, spot-step, step-small, stretch-covers, stretch-from}
-use Rattle.overlay.specs.Block.{Inside, RowFits, StripeFits, acrossAt, alphaIn, downAt, framesFrom, layerWith, rowLaid, stretchOf}
+use Rattle.overlay.specs.inner.Block.{Inside, RowFits, StripeFits, acrossAt, alphaIn, downAt, framesFrom, layerWith, rowLaid, stretchOf}
 use Rattle.overlay.specs.Overlay.{Layer, allLaid, alphaOf, base, covers, coversAt, laid, laidAt, sampleOf, some, spotAt}
 use Rattle.overlay.specs.Run.{layerOf, layersOf}
 use Rattle.overlay.specs.declared.blend.Source.{Source}

@@ -1,5 +1,4 @@
 pub mod Overlay
 pub mod Run
 pub mod Covered
-pub mod Plan
-pub mod Block
+pub mod inner

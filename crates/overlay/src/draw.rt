@@ -8,7 +8,7 @@ ghost use Rattle.image.specs.declared.format.Part.the-variants.{Alpha};
 ghost use Rattle.image.specs.Bytes.{samplesOf, rowsBytes, planeBytes, encode};
 ghost use Rattle.overlay.specs.Overlay.{ground, settle, settled, placeAt, overlayPic};
 ghost use Rattle.overlay.specs.Run.{fillFor};
-ghost use Rattle.overlay.specs.Block.{acrossAt, downAt, StripeFits, backdropFill, layersAt, PlanSound};
+ghost use Rattle.overlay.specs.inner.Block.{acrossAt, downAt, StripeFits, backdropFill, layersAt, PlanSound};
 use crate::blend::Stripe;
 use crate::blend::lay_inputs;
 use crate::blend::least;

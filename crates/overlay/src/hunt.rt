@@ -3,7 +3,7 @@ ghost use mathlib.Core.Path.{_≡_};
 ghost use Rattle.image.specs.Record.{recordAt};
 ghost use Rattle.overlay.specs.Overlay.{some};
 ghost use Rattle.overlay.specs.Run.{alphaAbove};
-ghost use Rattle.overlay.specs.Block.{framesFrom, noAlpha, alphaPlaneAt};
+ghost use Rattle.overlay.specs.inner.Block.{framesFrom, noAlpha, alphaPlaneAt};
 use image::FrameRead;
 use image::Part;
 use image::Plane;

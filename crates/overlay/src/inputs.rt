@@ -2,10 +2,10 @@
 ghost use mathlib.Core.Path.{_≡_};
 ghost use Prim.Native.Nat.{_≤_};
 ghost use Rattle.laws.specs.Pick.{pick};
-ghost use Rattle.derived.specs.Sound.{OverlaySound};
+ghost use Rattle.derived.specs.inner.Sound.{OverlaySound};
 ghost use Rattle.overlay.specs.Overlay.{oddOffset};
-ghost use Rattle.overlay.specs.Block.{noted, notedForm, planOut, framesPlan};
-ghost use Rattle.overlay.specs.Plan.{planAt};
+ghost use Rattle.overlay.specs.inner.Block.{noted, notedForm, planOut, framesPlan};
+ghost use Rattle.overlay.specs.inner.Plan.{planAt};
 use derived::OverlayDescriptor;
 use derived::OverlayRead;
 use derived::Placement;

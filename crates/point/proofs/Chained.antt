@@ -13,7 +13,8 @@ use Rattle.laws.specs.Pick.{pick}
 use Rattle.image.proofs.FormLaws.{cover-in}
 use Rattle.image.specs.Bytes.{decode, encode, tightAt}
 use Rattle.image.specs.Format.{columnsOf, halfX, halfY, hasPart, rowsOf}
-use Rattle.image.specs.Picture.{Agree, Even, Pic, pixel}
+use Rattle.image.specs.Picture.{Agree, Pic, pixel}
+use Rattle.image.specs.inner.Even.{Even}
 use Rattle.image.specs.Record.{recordOf}
 use Rattle.image.specs.declared.format.Form.{Form}
 use Rattle.image.specs.declared.format.Part.{Part}
@@ -31,7 +32,8 @@ use Rattle.sight.proofs.Steps.{place-in, sight-inside}
 use Rattle.sight.proofs.Turns.{back-in, back-once, place-path}
 use Rattle.sight.specs.Carry.{carryOf}
 use Rattle.sight.specs.Chain.{NotIscl, chainPic, picAfter}
-use Rattle.sight.specs.Seen.{Covers, PlaceAgrees, Seen}
+use Rattle.sight.specs.Seen.{Covers}
+use Rattle.sight.specs.inner.Seen.{PlaceAgrees, Seen}
 use Rattle.sight.specs.Sight.{back, backFrom, exchange, finalHeight, finalWidth, highOf, placeOf, sightOf, whole, wideOf}
 use Rattle.sight.specs.declared.Sight.{Sight}
 use Rattle.scene.specs.Chain.{Drawn, begun, chainDrawn, drawnAfter, longer, scaled}

@@ -20,7 +20,8 @@ use Rattle.image.proofs.PictureLaws.{evenX-of, evenY-of, evenly-part, full-pixe
 use Rattle.image.proofs.TrayLaws.{frames-length, tray-number}
 use Rattle.image.specs.Bytes.{decode}
 use Rattle.image.specs.Format.{columnsOf, cover, halfX, halfY, halved, halvesX, halvesY, hasAlpha, hasPart, isMono, middleOf, rowsOf, sideOf, topOf}
-use Rattle.image.specs.Picture.{Even, Evenly, Pic, as444, full, needs444, odd, pixel, sized}
+use Rattle.image.specs.Picture.{Pic, as444, full, needs444, odd, pixel, sized}
+use Rattle.image.specs.inner.Even.{Even, Evenly}
 use Rattle.image.specs.Sound.{FormSound}
 use Rattle.image.specs.Tray.{framesAt}
 use Rattle.image.specs.declared.format.Form.{Form}
@@ -35,7 +36,7 @@ use Rattle.grid.proofs.Composed.{below, canvas-chroma, mono-same, promotes-colo
 use Rattle.grid.proofs.Suited.{tile-parts, tilePic-form}
 use Rattle.grid.specs.Cell.{tileForm, tilePic}
 use Rattle.grid.specs.Mosaic.{gridPic, mosaicAt, opaqueAt, tileIndex}
-use Rattle.grid.specs.Ready.{Alike, TilesTaken}
+use Rattle.grid.specs.inner.Ready.{Alike, TilesTaken}
 use Rattle.grid.specs.Run.{framesIn, gridOn, noFrame, takenOf, tileIn}
 use Rattle.grid.specs.Tiles.{canvasForm, countOf, judgeOf, promotesOf, tilesAt, withAlpha}
 use Rattle.grid.specs.declared.tiles.Tiles.{Tiles}

@@ -18,7 +18,8 @@ use Rattle.image.proofs.PictureLaws.{evenly-if, needs-X, needs-Y, odd-false}
 use Rattle.image.proofs.TrayLaws.{frames-length, tray-number}
 use Rattle.image.specs.Bytes.{Bytes, decode}
 use Rattle.image.specs.Format.{halvesX, halvesY, hasAlpha, isMono, topOf}
-use Rattle.image.specs.Picture.{Even, Evenly, odd, pixel}
+use Rattle.image.specs.Picture.{odd, pixel}
+use Rattle.image.specs.inner.Even.{Even, Evenly}
 use Rattle.image.specs.declared.format.Part.{Part}
 use Rattle.image.specs.declared.format.Part.the-variants.{Alpha, Cb, Cr, Luma}
 use Rattle.image.specs.declared.format.PixelFormat.{PixelFormat}

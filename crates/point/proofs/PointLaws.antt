@@ -19,31 +19,33 @@ use Rattle.image.specs.Record.{recordAt}
 use Rattle.image.specs.declared.record.Frame.{Frame}
 use Rattle.derived.proofs.Taken.{overlay-taken}
 use Rattle.derived.specs.Overlay.{placementAt}
-use Rattle.derived.specs.Sound.{OverlaySound}
+use Rattle.derived.specs.inner.Sound.{OverlaySound}
 use Rattle.derived.specs.declared.overlay.OverlayDescriptor.{OverlayDescriptor}
 use Rattle.derived.specs.declared.overlay.Placement.{Placement}
 use Rattle.props.proofs.ChainLaws.{judged-chain, judged-refused}
-use Rattle.props.specs.Chain.{Judged, chainAt, entriesAt, judgedAt}
+use Rattle.props.specs.Chain.{chainAt, entriesAt}
+use Rattle.props.specs.inner.Judged.{Judged, judgedAt}
 use Rattle.props.specs.Sound.{Inside}
 use Rattle.props.specs.declared.chain.Chain.{Chain}
 use Rattle.props.specs.declared.entry.PropertyEntry.{PropertyEntry}
 use Rattle.transform.specs.Place.{Place}
 use Rattle.sight.proofs.Steps.{bounded-place, sight-bounded, sight-inside}
 use Rattle.sight.proofs.Turns.{back-in}
-use Rattle.sight.specs.Sight.{Bounded, back, boundedPlaceOf, placeOf, sightOf}
+use Rattle.sight.specs.Sight.{back, boundedPlaceOf, placeOf, sightOf}
+use Rattle.sight.specs.inner.Bounded.{Bounded}
 use Rattle.sight.specs.declared.CanvasPlace.{CanvasPlace}
 use Rattle.sight.specs.declared.Sight.{Sight}
 use Rattle.grid.proofs.GridLaws.{tiles-taken}
 use Rattle.grid.specs.Tiles.{tilesOf}
 use Rattle.grid.specs.declared.tiles.Tiles.{Tiles}
 use Rattle.overlay.proofs.FrameLaws.{frames-from, from-next, from-refused}
-use Rattle.overlay.specs.Block.{framesFrom}
+use Rattle.overlay.specs.inner.Block.{framesFrom}
 use Rattle.overlay.specs.Overlay.{covers, seeThrough, some, spotAt}
-use Rattle.overlay.specs.Plan.{planAt, planOf}
+use Rattle.overlay.specs.inner.Plan.{planAt, planOf}
 use Rattle.overlay.specs.Run.{Inputs, inputsAt, layerOf, layersOf}
 use Rattle.overlay.specs.declared.inputs.Plan.{Plan}
 use Rattle.point.proofs.GridShown.{canvas-sides}
-use Rattle.point.specs.Look.{GridHeld, Tiled, gridHeld, gridLooked, overlayHeld, overlayLooked, placeIn}
+use Rattle.point.specs.inner.Look.{GridHeld, Tiled, gridHeld, gridLooked, overlayHeld, overlayLooked, placeIn}
 use Rattle.point.specs.Point.{Look, gridLook, gridNames, liesOver, lookOn, overlayLook, overlayNames, pointFrom, seeThroughFrame, spotUnder, topmostFrom}
 use Rattle.point.specs.declared.Named.{Named}
 use Rattle.point.specs.declared.look.GridLook.{GridLook}

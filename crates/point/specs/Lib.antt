@@ -1,5 +1,5 @@
 pub mod Point
-pub mod Look
 pub mod Read
 pub mod Alike
 pub mod Agreement
+pub mod inner

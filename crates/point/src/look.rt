@@ -1,8 +1,8 @@
 // Point calls up to the place: what the chain leaves of the composed picture, and what the place is looked up in.
 ghost use mathlib.Core.Path.{_≡_};
-ghost use Rattle.derived.specs.Sound.{OverlaySound};
-ghost use Rattle.sight.specs.Sight.{Bounded};
-ghost use Rattle.point.specs.Look.{GridHeld, gridHeld, gridLookOut, gridLooked, overlayHeld, overlayLookOut, overlayLooked};
+ghost use Rattle.derived.specs.inner.Sound.{OverlaySound};
+ghost use Rattle.sight.specs.inner.Bounded.{Bounded};
+ghost use Rattle.point.specs.inner.Look.{GridHeld, gridHeld, gridLookOut, gridLooked, overlayHeld, overlayLookOut, overlayLooked};
 ghost use Rattle.point.specs.Point.{gridLook, overlayLook, pointFrom, pointOut};
 use crate::Point;
 use crate::PointRead;

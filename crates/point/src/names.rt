@@ -2,11 +2,11 @@
 ghost use mathlib.Core.Bool.{true};
 ghost use mathlib.Core.Path.{_≡_};
 ghost use Rattle.laws.specs.Pick.{pick};
-ghost use Rattle.derived.specs.Sound.{OverlaySound};
-ghost use Rattle.overlay.specs.Block.{framesFrom};
+ghost use Rattle.derived.specs.inner.Sound.{OverlaySound};
+ghost use Rattle.overlay.specs.inner.Block.{framesFrom};
 ghost use Rattle.overlay.specs.Overlay.{covers, spotAt};
 ghost use Rattle.point.specs.Point.{gridNames, liesOver, spotUnder, topmostFrom};
-ghost use Rattle.point.specs.Look.{Tiled, placeIn};
+ghost use Rattle.point.specs.inner.Look.{Tiled, placeIn};
 ghost use Rattle.point.specs.declared.Named.{Named};
 use crate::Named;
 use crate::Spot;

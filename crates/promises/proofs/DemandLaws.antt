@@ -15,7 +15,7 @@ use Rattle.image.specs.Format.{topOf}
 use Rattle.image.specs.Picture.{Pic}
 use Rattle.image.specs.Sound.{FormSound}
 use Rattle.fill.specs.declared.Colour.{Colour}
-use Rattle.derived.specs.Sound.{CanvasSound}
+use Rattle.derived.specs.inner.Sound.{CanvasSound}
 use Rattle.props.proofs.ChainLaws.{Applied}
 use Rattle.props.specs.Chain.{chainAt, countAt, entriesAt}
 use Rattle.props.specs.declared.entry.PropertyEntry.{PropertyEntry}
@@ -24,7 +24,7 @@ use Rattle.sight.specs.Chain.{NotIscl}
 use Rattle.sight.specs.declared.Sight.{Sight}
 use Rattle.grid.proofs.GridLaws.{tiles-taken}
 use Rattle.grid.proofs.TilesLaws.{tiles-number}
-use Rattle.grid.specs.Ready.{TilesTaken}
+use Rattle.grid.specs.inner.Ready.{TilesTaken}
 use Rattle.grid.specs.Run.{gridOn}
 use Rattle.grid.specs.Tiles.{tilesAt}
 use Rattle.grid.specs.declared.tiles.Tiles.{Tiles}

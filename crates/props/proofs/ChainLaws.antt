@@ -15,7 +15,8 @@ use Rattle.laws.specs.declared.Refusal.{Refusal}
 use Rattle.numbers.specs.Number.{onNumber, readNumber}
 use Rattle.numbers.specs.declared.NumberRead.{NumberRead}
 use Rattle.numbers.specs.declared.NumberRead.the-variants.{Number}
-use Rattle.props.specs.Chain.{Judged, applies, chainAt, countAt, entriesAt, foldChain, judgedAt}
+use Rattle.props.specs.Chain.{applies, chainAt, countAt, entriesAt, foldChain}
+use Rattle.props.specs.inner.Judged.{Judged, judgedAt}
 use Rattle.props.specs.Entry.{entryAt}
 use Rattle.props.specs.declared.chain.Chain.{Chain}
 use Rattle.props.specs.declared.entry.EntryAt.{EntryAt}

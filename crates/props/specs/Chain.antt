@@ -1,8 +1,7 @@
 -- Chains of properties (document 01, "What is handed in" and "Refusals in order", Scene). Assumes nothing.
 use mathlib.Core.Bool.{Bool, _||_, not}
 use mathlib.Core.List.{List, [], _∷_}
-use mathlib.Core.Path.{_≡_}
-use Prim.Native.Nat.{_≤_, suc, zero, ℕ}
+use Prim.Native.Nat.{suc, zero, ℕ}
 use lib.Dec.{ltb}
 use lib.ListN.{length}
 use Rattle.laws.specs.Out.{Out, andThen, done, refuse, refused}
@@ -26,16 +25,6 @@ entriesAt (suc n) s at = andThen (entryAt s at) (λ x. andThen (entriesAt n s (x
 -- the chain that stands at a place and ends with the bytes
 unfoldable pub chainAt : List ℕ → ℕ → Out (List PropertyEntry)
 chainAt s at = andThen (countAt s at) (λ c. entriesAt (c .count) s (c .first))
-
--- the same judgement, and where its entries stand
-unfoldable pub judgedAt : List ℕ → ℕ → Out Chain
-judgedAt s at = andThen (countAt s at) (λ c. andThen (entriesAt (c .count) s (c .first)) (λ es. done c))
-
--- a chain that was judged: the entries that are read from its first on
-pub record Judged (s : List ℕ) (c : Chain) : Type 0 where
-  pub few : c .count ≤ 256
-  pub entries : List PropertyEntry
-  pub read : entriesAt (c .count) s (c .first) ≡ done entries
 
 -- whether an entry is applied: under the flag only the essential
 unfoldable pub applies : Bool → PropertyEntry → Bool

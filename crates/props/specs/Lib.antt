@@ -4,3 +4,4 @@ pub mod Size
 pub mod Entry
 pub mod Chain
 pub mod Sound
+pub mod inner

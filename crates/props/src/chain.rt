@@ -1,6 +1,7 @@
 // Chains of properties (document 01, "What is handed in"): a count of at most 256, then entries, nothing after.
 ghost use mathlib.Core.Path.{_≡_};
-ghost use Rattle.props.specs.Chain.{judgedAt, chainOut};
+ghost use Rattle.props.specs.Chain.{chainOut};
+ghost use Rattle.props.specs.inner.Judged.{judgedAt};
 use crate::entry::EntryRead;
 use crate::entry::read_entry;
 use laws::Refusal;

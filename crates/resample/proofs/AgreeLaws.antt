@@ -8,7 +8,8 @@ use Rattle.image.specs.Picture.{Agree, Pic, sized}
 use Rattle.image.specs.Sound.{FormSound}
 use Rattle.image.specs.declared.format.Form.{Form}
 use Rattle.resample.proofs.FootLaws.{foot-in, past-in}
-use Rattle.resample.specs.Area.{FootIn, area, areaMean, firstOf, footOf, pastOf, sum, weighed, weightOf}
+use Rattle.resample.specs.Area.{area, areaMean, firstOf, footOf, pastOf, sum, weighed, weightOf}
+use Rattle.resample.specs.inner.Sums.{FootIn}
 use Rattle.resample.specs.Rounded.{rounded}
 use Rattle.resample.specs.declared.area.Foot.{Foot}
 

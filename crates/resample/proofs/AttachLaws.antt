@@ -16,16 +16,18 @@ use Rattle.image.specs.Bytes.{dataOf, decode, headBytes, planeBytes, planeSize}
 use Rattle.image.specs.Format.{columnsOf, halved, hasAlpha, hasPart, isMono, rowsOf, sideOf}
 use Rattle.image.specs.Picture.{sized}
 use Rattle.image.specs.Record.{planeOf, recordOf}
-use Rattle.image.specs.Sound.{FormSound, Sound}
+use Rattle.image.specs.Sound.{FormSound}
+use Rattle.image.specs.inner.Placed.{Sound}
 use Rattle.image.specs.declared.format.Form.{Form}
 use Rattle.image.specs.declared.format.Part.{Part}
 use Rattle.image.specs.declared.format.Part.the-variants.{Alpha, Cb, Cr, Luma}
 use Rattle.image.specs.declared.record.Frame.{Frame}
 use Rattle.image.specs.declared.record.Plane.{Plane}
-use Rattle.resample.specs.Attach.{KeptFits, Whole, attachBytes, coverBytes, coverKept, keptPart, keptPlane, lumaForm, lumaOf, withAlpha}
+use Rattle.resample.specs.Attach.{attachBytes, coverBytes, coverKept, keptPart, keptPlane, lumaForm, lumaOf, withAlpha}
+use Rattle.resample.specs.inner.Kept.{KeptFits, Whole}
 use Rattle.resample.specs.Depth.{rescaled, toDepth}
 use Rattle.resample.specs.Nearest.{nearest}
-use Rattle.resample.specs.Redraw.{RedrawFits, RuleFits, acrossOf, downOf, redrawn, rowAt, rowOf, ruleAt}
+use Rattle.resample.specs.inner.Redraw.{RedrawFits, RuleFits, acrossOf, downOf, redrawn, rowAt, rowOf, ruleAt}
 use Rattle.resample.specs.Run.{attachRun}
 use Rattle.resample.specs.declared.write.Rule.{Rule}
 

@@ -6,7 +6,8 @@ use native.Mathlib.Omega.{arith}
 use lib.Dec.{leb, lit≤}
 use borrow.Author.Tests.{le-leb, lt-leb}
 use Rattle.laws.proofs.Order.{by-order, pick-false, pick-true}
-use Rattle.resample.specs.Area.{FootIn, aroundOf, firstOf, footOf, pastOf, shareOf, sum, weighed, weightOf}
+use Rattle.resample.specs.Area.{aroundOf, firstOf, footOf, pastOf, shareOf, sum, weighed, weightOf}
+use Rattle.resample.specs.inner.Sums.{FootIn}
 use Rattle.resample.specs.Rounded.{greatest, least}
 use Rattle.resample.specs.declared.area.Foot.{Foot}
 

@@ -15,15 +15,16 @@ use Rattle.image.proofs.RoundTrip.{plane-some}
 use Rattle.image.specs.Bytes.{dataOf, decode, planeBytes, planeHead, rowBytes, rowsBytes, samplesOf}
 use Rattle.image.specs.Format.{hasPart}
 use Rattle.image.specs.Record.{planeOf}
-use Rattle.image.specs.Sound.{Sound}
+use Rattle.image.specs.inner.Placed.{Sound}
 use Rattle.image.specs.declared.format.Form.{Form}
 use Rattle.image.specs.declared.format.Part.{Part}
 use Rattle.image.specs.declared.record.Frame.{Frame}
 use Rattle.image.specs.declared.record.Plane.{Plane}
 use Rattle.resample.proofs.FootLaws.{foot-in, past-in}
 use Rattle.resample.proofs.PlaceLaws.{near-in}
-use Rattle.resample.specs.Area.{AreaFits, RowSumFits, footOf, pastOf}
-use Rattle.resample.specs.Redraw.{AxisFits, RasterFits, RedrawFits, RowFits, RuleFits, acrossOf, downOf, rasterAt, rasterBytes, rasterOf, rasterRow, redrawn, rowOf, ruleAt}
+use Rattle.resample.specs.Area.{footOf, pastOf}
+use Rattle.resample.specs.inner.Sums.{AreaFits, RowSumFits}
+use Rattle.resample.specs.inner.Redraw.{AxisFits, RasterFits, RedrawFits, RowFits, RuleFits, acrossOf, downOf, rasterAt, rasterBytes, rasterOf, rasterRow, redrawn, rowOf, ruleAt}
 use Rattle.resample.specs.declared.area.Foot.{Foot}
 use Rattle.resample.specs.declared.write.Axis.{Axis}
 use Rattle.resample.specs.declared.write.Raster.{Raster}

@@ -33,7 +33,7 @@ use Rattle.resample.proofs.PlaceLaws.{level-same, near-same}
 use Rattle.resample.specs.Area.{area}
 use Rattle.resample.specs.Depth.{levelOf, rescaled, toDepth}
 use Rattle.resample.specs.Nearest.{nearest, sameSize}
-use Rattle.resample.specs.Redraw.{RedrawFits, RuleFits, ScaleFits, acrossOf, downOf, redrawn, rowAt, rowOf, ruleAt}
+use Rattle.resample.specs.inner.Redraw.{RedrawFits, RuleFits, ScaleFits, acrossOf, downOf, redrawn, rowAt, rowOf, ruleAt}
 use Rattle.resample.specs.Run.{areaBytes, depthBytes, depthRun, isclRun, nearestBytes, nearestRun}
 use Rattle.resample.specs.declared.write.Rule.{Rule}
 

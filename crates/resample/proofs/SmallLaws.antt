@@ -10,7 +10,8 @@ use Rattle.image.specs.Format.{bytesOf, columnsOf, rowsOf}
 use Rattle.image.specs.Picture.{Pic, sized}
 use Rattle.image.specs.Sound.{FormSound}
 use Rattle.resample.proofs.FootLaws.{Weighing, foot-in, past-in, weighing-done, weighing-start, weighing-step}
-use Rattle.resample.specs.Area.{FootIn, area, areaMean, firstOf, pastOf, weighed}
+use Rattle.resample.specs.Area.{area, areaMean, firstOf, pastOf, weighed}
+use Rattle.resample.specs.inner.Sums.{FootIn}
 use Rattle.resample.specs.Rounded.{rounded}
 use Rattle.resample.specs.declared.area.Foot.{Foot}
 

@@ -1,10 +1,8 @@
 -- Another size by means over footprints (document 01, iscl, `resize_area`): a box where there are fewer samples, linear between
 -- the two nearest centres where there are more; each plane between its own sizes. Lengths along an axis are in 256ths of a sample.
 -- Assumes nothing.
-use mathlib.Core.List.{List}
-use Prim.Native.Nat.{_*_, _+_, _-_, _/_, _<_, _^_, _≤_, suc, zero, ℕ}
+use Prim.Native.Nat.{_*_, _+_, _-_, _/_, suc, zero, ℕ}
 use lib.Dec.{leb}
-use lib.ListN.{length}
 use Rattle.laws.specs.Pick.{pick}
 use Rattle.image.specs.Format.{columnsOf, rowsOf}
 use Rattle.image.specs.Picture.{Pic, sized}
@@ -56,30 +54,3 @@ area P w h =
       form = m;
       at = λ p x y. areaMean (footOf (columnsOf (P .form) p) (columnsOf m p) x) (footOf (rowsOf (P .form) p) (rowsOf m p) y) (P .at p);
     }
-
--- ---- what working it out asks
-
--- a footprint with some width that lies in an axis of n samples
-pub record FootIn (f : Foot) (n : ℕ) : Type 0 where
-  pub some : f .start < f .end
-  pub inside : f .end ≤ 256 * n
-
--- every sample under two footprints is inside the plane's bytes, and the sums fit
-pub record AreaFits (d : List ℕ) (bytes stride : ℕ) (across down : Foot) : Type 0 where
-  pub columns : ℕ
-  pub rows : ℕ
-  pub some : 1 ≤ bytes
-  pub few : bytes ≤ 2
-  pub wide : FootIn across columns
-  pub tall : FootIn down rows
-  pub size : columns * rows ≤ 2 ^ 30
-  pub inside : (x y : ℕ) → x < columns → y < rows → y * stride + x * bytes + bytes ≤ length d
-
--- the same of one row
-pub record RowSumFits (d : List ℕ) (bytes stride : ℕ) (f : Foot) (y : ℕ) : Type 0 where
-  pub columns : ℕ
-  pub some : 1 ≤ bytes
-  pub few : bytes ≤ 2
-  pub wide : FootIn f columns
-  pub size : columns ≤ 2 ^ 30
-  pub inside : (x : ℕ) → x < columns → y * stride + x * bytes + bytes ≤ length d

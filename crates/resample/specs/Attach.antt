@@ -3,16 +3,14 @@
 -- samples and then the master's depth, tight. Assumes nothing.
 use mathlib.Core.Bool.{Bool, _&&_}
 use mathlib.Core.List.{List, [], _++_}
-use Prim.Native.Nat.{_+_, _<_, _^_, _≤_, ℕ}
+use Prim.Native.Nat.{ℕ}
 use lib.Dec.{eqb}
-use lib.ListN.{length}
 use Rattle.laws.specs.Pick.{pick}
 use Rattle.numbers.specs.Number.{numberBytes}
 use Rattle.image.specs.Bytes.{dataOf, decode, headBytes, planeBytes}
 use Rattle.image.specs.Format.{hasPart}
 use Rattle.image.specs.Picture.{Pic}
 use Rattle.image.specs.Record.{planeOf}
-use Rattle.image.specs.Sound.{Sound}
 use Rattle.image.specs.declared.format.Form.{Form}
 use Rattle.image.specs.declared.format.Part.{Part}
 use Rattle.image.specs.declared.format.Part.the-variants.{Cb, Cr, Luma}
@@ -51,16 +49,3 @@ coverBytes m t gr =
 unfoldable pub attachBytes : List ℕ → Frame → List ℕ → Frame → List ℕ
 attachBytes s fr t gr =
     headBytes (withAlpha (fr .form)) ++ (keptPart s fr Luma ++ (keptPart s fr Cb ++ (keptPart s fr Cr ++ coverBytes (fr .form) t gr)))
-
--- ---- what writing it asks
-
--- a plane inside its record, its stride and its length small enough to be written
-pub record KeptFits (s : List ℕ) (q : Plane) : Type 0 where
-  pub inside : q .start + q .len ≤ length s
-  pub stride : q .stride < 2 ^ 32
-  pub len : q .len < 2 ^ 32
-
--- the same of every plane of a frame
-pub record Whole (s : List ℕ) (fr : Frame) : Type 0 where
-  pub sound : Sound s fr
-  pub lens : (p : Part) → planeOf fr p .len < 2 ^ 32

@@ -1,12 +1,11 @@
 -- Another depth (document 01, "Other operations", `rescale_depth`): round(v × new top / old top), capped at the new top; an equal
 -- depth is the sample as it is. Assumes nothing.
-use Prim.Native.Nat.{_*_, _-_, _^_, _≤_, ℕ}
+use Prim.Native.Nat.{_*_, _-_, _^_, ℕ}
 use lib.Dec.{eqb}
 use Rattle.laws.specs.Pick.{pick}
 use Rattle.image.specs.Picture.{Pic}
 use Rattle.image.specs.declared.format.Form.{Form}
 use Rattle.resample.specs.Rounded.{least, rounded}
-use Rattle.resample.specs.declared.depth.Depths.{Depths}
 
 unfoldable pub topAt : ℕ → ℕ
 topAt depth = 2 ^ depth - 1
@@ -20,10 +19,3 @@ toDepth m depth = record { width = m .width; height = m .height; format = record
 
 unfoldable pub rescaled : Pic → ℕ → Pic
 rescaled P depth = record { form = toDepth (P .form) depth; at = λ p x y. levelOf (P .form .format .depth) depth (P .at p x y) }
-
--- depths that a record may have
-pub record DepthsFit (k : Depths) : Type 0 where
-  pub oldLow : 8 ≤ k .old
-  pub oldHigh : k .old ≤ 16
-  pub newLow : 8 ≤ k .new
-  pub newHigh : k .new ≤ 16

@@ -2,6 +2,6 @@ pub mod Rounded
 pub mod Depth
 pub mod Nearest
 pub mod Area
-pub mod Redraw
 pub mod Attach
 pub mod Run
+pub mod inner

@@ -27,7 +27,7 @@ use Rattle.props.specs.declared.entry.Property.{Property}
 use Rattle.props.specs.declared.iscl.Iscl.{Iscl}
 use Rattle.props.specs.declared.size.Size.{Size}
 use Rattle.transform.proofs.Carried.{crop-made, draws-agree, draws-form, draws-tame, mirror-made, turn-agree, turn-form, turn-tame}
-use Rattle.transform.specs.Move.{mirrorMove}
+use Rattle.transform.specs.inner.Move.{mirrorMove}
 use Rattle.transform.specs.Run.{turnBytes}
 use Rattle.transform.specs.Turn.{Quarter, q0, q1, q2, q3, quarterOf, turn}
 use Rattle.resample.proofs.AgreeLaws.{area-agree}
@@ -37,9 +37,9 @@ use Rattle.resample.specs.Area.{area}
 use Rattle.resample.specs.Nearest.{sameSize}
 use Rattle.resample.specs.Run.{areaBytes}
 use Rattle.sight.specs.Chain.{picAfter}
-use Rattle.scene.specs.Carry.{recordAfter}
+use Rattle.scene.specs.inner.Carry.{recordAfter}
 use Rattle.scene.specs.Chain.{scaled}
-use Rattle.scene.specs.Course.{formAfter}
+use Rattle.scene.specs.inner.Course.{formAfter}
 
 -- ---- a picture and its record
 

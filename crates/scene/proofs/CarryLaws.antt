@@ -35,9 +35,9 @@ use Rattle.transform.specs.Run.{clapRun, imirRun, irotRun}
 use Rattle.sight.specs.Chain.{picAfter}
 use Rattle.resample.specs.Run.{isclRun}
 use Rattle.scene.proofs.AfterLaws.{Shows, after-bytes}
-use Rattle.scene.specs.Carry.{Buffers, Ended, Ready, Roomy, buffers, bytesIn, chainBytes, crossed, draws, lies, lying, movedOn, recordAfter, stepRun, wroteOf}
+use Rattle.scene.specs.inner.Carry.{Buffers, Ended, Ready, Roomy, buffers, bytesIn, chainBytes, crossed, draws, lies, lying, movedOn, recordAfter, stepRun, wroteOf}
 use Rattle.scene.specs.Chain.{Drawn, drawnAfter, longer, scaled}
-use Rattle.scene.specs.Course.{moves}
+use Rattle.scene.specs.inner.Course.{moves}
 
 -- ---- pictures and their records along a chain
 

@@ -34,14 +34,14 @@ use Rattle.grid.proofs.Composed.{canvas-depth}
 use Rattle.grid.proofs.GridLaws.{tiles-taken}
 use Rattle.grid.specs.Cell.{tilePic}
 use Rattle.grid.specs.Mosaic.{gridPic, mosaicAt, opaqueAt}
-use Rattle.grid.specs.Ready.{TilesTaken}
+use Rattle.grid.specs.inner.Ready.{TilesTaken}
 use Rattle.grid.specs.Run.{framesIn, gridOn, noFrame, tileIn}
 use Rattle.grid.specs.Tiles.{canvasForm, countOf, tilesAt, tilesOf}
 use Rattle.grid.specs.declared.tiles.Tiles.{Tiles}
 use Rattle.overlay.proofs.RunLaws.{plan-taken, took}
 use Rattle.overlay.proofs.Sentences.{fill-low}
 use Rattle.overlay.specs.Overlay.{overlayForm, overlayPic, placeAt, settle, settled}
-use Rattle.overlay.specs.Plan.{planAt, planOf}
+use Rattle.overlay.specs.inner.Plan.{planAt, planOf}
 use Rattle.overlay.specs.Run.{Inputs, composed, composedForm, firstFormat, inputsAt}
 
 -- ---- what fits the bytes of a sample of a depth

@@ -18,9 +18,9 @@ use Rattle.props.specs.declared.entry.Property.{Property}
 use Rattle.props.specs.declared.entry.PropertyEntry.{PropertyEntry}
 use Rattle.sight.specs.Chain.{picAfter}
 use Rattle.scene.proofs.AfterLaws.{Formed, after-form, after-tame, after-sound}
-use Rattle.scene.specs.Carry.{draws, lies}
+use Rattle.scene.specs.inner.Carry.{draws, lies}
 use Rattle.scene.specs.Chain.{Drawn, begun, chainDrawn, drawnAfter, longer, scaled}
-use Rattle.scene.specs.Course.{courseAfter, courseOf, formAfter, moves, setOff}
+use Rattle.scene.specs.inner.Course.{courseAfter, courseOf, formAfter, moves, setOff}
 use Rattle.scene.specs.declared.course.Course.{Course}
 
 -- a course and what is drawn

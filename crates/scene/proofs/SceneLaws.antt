@@ -26,28 +26,29 @@ use Rattle.image.specs.declared.format.Form.{Form}
 use Rattle.image.specs.declared.record.Frame.{Frame}
 use Rattle.fill.specs.declared.Colour.{Colour}
 use Rattle.props.proofs.ChainLaws.{judged-chain, judged-refused}
-use Rattle.props.specs.Chain.{Judged, chainAt, foldChain, judgedAt}
+use Rattle.props.specs.Chain.{chainAt, foldChain}
+use Rattle.props.specs.inner.Judged.{Judged, judgedAt}
 use Rattle.props.specs.declared.chain.Chain.{Chain}
 use Rattle.props.specs.declared.entry.PropertyEntry.{PropertyEntry}
 use Rattle.grid.proofs.GridLaws.{tiles-taken}
 use Rattle.grid.specs.Mosaic.{gridPic}
-use Rattle.grid.specs.Ready.{TilesTaken}
+use Rattle.grid.specs.inner.Ready.{TilesTaken}
 use Rattle.grid.specs.Run.{gridOn}
 use Rattle.grid.specs.Tiles.{canvasForm, tilesAt, tilesOf}
 use Rattle.grid.specs.declared.tiles.Tiles.{Tiles}
 use Rattle.overlay.proofs.FrameLaws.{frames-from}
 use Rattle.overlay.proofs.RunLaws.{Took, frames-are, plan-sound, planPic, took}
-use Rattle.overlay.specs.Block.{PlanSound, framesFrom}
+use Rattle.overlay.specs.inner.Block.{PlanSound, framesFrom}
 use Rattle.overlay.specs.Overlay.{overlayForm, overlayPic, some}
-use Rattle.overlay.specs.Plan.{planAt, planOf}
+use Rattle.overlay.specs.inner.Plan.{planAt, planOf}
 use Rattle.overlay.specs.Run.{Inputs, alphaAbove, composed, composedForm, fillFor, firstFormat, inputsAt, layersOf}
 use Rattle.overlay.specs.declared.inputs.Plan.{Plan}
 use Rattle.scene.proofs.CarryLaws.{Carried, chain-carried}
 use Rattle.scene.proofs.ComposedLaws.{grid-tame, overlay-tame}
 use Rattle.scene.proofs.CourseLaws.{Leads, course-drawn, lies-even}
-use Rattle.scene.specs.Carry.{Finished, Ready, bytesIn, chainBytes, lies, lying, recordAfter}
+use Rattle.scene.specs.inner.Carry.{Finished, Ready, bytesIn, chainBytes, lies, lying, recordAfter}
 use Rattle.scene.specs.Chain.{Drawn, begun, chainDrawn}
-use Rattle.scene.specs.Course.{courseOf, heldFor, heldOf}
+use Rattle.scene.specs.inner.Course.{courseOf, heldFor, heldOf}
 use Rattle.scene.specs.Scene.{gridDrawn, gridScene, outputOf, overlayDrawn, overlayScene, roomFor, spareOf}
 use Rattle.scene.specs.declared.carry.Held.{Held}
 use Rattle.scene.specs.declared.course.Course.{Course}

@@ -1,4 +1,3 @@
 pub mod Chain
 pub mod Scene
-pub mod Course
-pub mod Carry
+pub mod inner

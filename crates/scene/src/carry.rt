@@ -4,7 +4,7 @@ ghost use Prim.Native.Nat.{_-_, _≤_};
 ghost use mathlib.Core.List.{_++_};
 ghost use lib.ListN.{length, take, replicate};
 ghost use Rattle.laws.specs.Out.{answerOf, written};
-ghost use Rattle.scene.specs.Carry.{draws, lying, Ready, chainBytes, wroteOf, stepRun, buffers, movedOn, Ended, Finished};
+ghost use Rattle.scene.specs.inner.Carry.{draws, lying, Ready, chainBytes, wroteOf, stepRun, buffers, movedOn, Ended, Finished};
 use crate::course::is_move;
 use laws::Answer;
 use props::Chain;

@@ -3,8 +3,9 @@
 ghost use mathlib.Core.Path.{_≡_};
 ghost use Rattle.laws.specs.Out.{andThen};
 ghost use Rattle.image.specs.Sound.{FormSound};
-ghost use Rattle.props.specs.Chain.{Judged, entriesAt};
-ghost use Rattle.scene.specs.Course.{heldOf, heldOut};
+ghost use Rattle.props.specs.Chain.{entriesAt};
+ghost use Rattle.props.specs.inner.Judged.{Judged};
+ghost use Rattle.scene.specs.inner.Course.{heldOf, heldOut};
 use crate::carry::Held;
 use crate::course::CourseRead;
 use crate::course::plan_chain;

@@ -18,12 +18,13 @@ use Rattle.image.specs.Format.{bytesOf, hasPart, isMono}
 use Rattle.image.specs.Sound.{FormSound}
 use Rattle.image.specs.declared.format.Form.{Form}
 use Rattle.image.specs.declared.format.Part.{Part}
-use Rattle.derived.specs.Sound.{GridSound}
+use Rattle.derived.specs.inner.Sound.{GridSound}
 use Rattle.session.specs.declared.state.Canvas.{Canvas}
 use Rattle.derived.specs.declared.grid.GridDescriptor.{GridDescriptor}
 use Rattle.grid.proofs.CellLaws.{rows-cong}
 use Rattle.grid.proofs.Suited.{suits-bytes, suits-canvas, suits-rows, tile-bytes, tile-parts, tile-sample, tilePic-form}
-use Rattle.grid.specs.Cell.{Suits, cellOf, storeCell, storePart, storeRows, storeTile, tileForm, tilePic}
+use Rattle.grid.specs.Cell.{cellOf, storeCell, storePart, storeRows, storeTile, tileForm, tilePic}
+use Rattle.grid.specs.inner.Rows.{Suits}
 use Rattle.grid.specs.Tiles.{canvasForm, countOf, promotesOf}
 use Rattle.grid.specs.declared.cell.Cell.{Cell}
 use Rattle.session.proofs.StateLaws.{place-suits}

@@ -19,7 +19,8 @@ use Rattle.image.specs.Bytes.{decode, headBytes, planeBytes, sizeOf, tightAt}
 use Rattle.image.specs.Format.{columnsOf, hasAlpha, hasPart, rowsOf, topOf}
 use Rattle.image.specs.Picture.{Agree, Pic}
 use Rattle.image.specs.Record.{recordOf}
-use Rattle.image.specs.Sound.{FormSound, Sound}
+use Rattle.image.specs.Sound.{FormSound}
+use Rattle.image.specs.inner.Placed.{Sound}
 use Rattle.image.specs.declared.format.Form.{Form}
 use Rattle.image.specs.declared.format.Part.{Part}
 use Rattle.image.specs.declared.format.Part.the-variants.{Alpha, Cb, Cr, Luma}
@@ -32,9 +33,10 @@ use Rattle.grid.proofs.Composed.{below, canvas-alpha-is, canvas-columns, canvas
 use Rattle.grid.proofs.MosaicLaws.{pastes, pastes-at, pastes-form}
 use Rattle.grid.proofs.PasteLaws.{Meets, pasteTile}
 use Rattle.grid.proofs.Suited.{suits-bytes, suits-canvas, tile-alpha, tile-parts, tile-sample, tile-sound, tilePic-form}
-use Rattle.grid.specs.Cell.{Suits, tileForm, tilePic}
+use Rattle.grid.specs.Cell.{tileForm, tilePic}
+use Rattle.grid.specs.inner.Rows.{Suits}
 use Rattle.grid.specs.Mosaic.{among, laid, plainAt, plainPic, tileIndex}
-use Rattle.grid.specs.Ready.{Alike}
+use Rattle.grid.specs.inner.Ready.{Alike}
 use Rattle.grid.specs.Tiles.{canvasForm, coversOf, promotesOf, sameLayout, sameSize, withAlpha}
 use Rattle.session.proofs.BlankLaws.{blank-suits}
 use Rattle.session.proofs.DrawLaws.{begun-later}

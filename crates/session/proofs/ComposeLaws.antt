@@ -29,7 +29,7 @@ use Rattle.image.specs.declared.format.Part.the-variants.{Alpha, Cb, Cr, Luma}
 use Rattle.image.specs.declared.format.PixelFormat.{PixelFormat}
 use Rattle.image.specs.declared.record.Frame.{Frame}
 use Rattle.derived.proofs.Taken.{grid-taken}
-use Rattle.derived.specs.Sound.{GridSound}
+use Rattle.derived.specs.inner.Sound.{GridSound}
 use Rattle.session.specs.declared.state.Canvas.{Canvas}
 use Rattle.derived.specs.declared.grid.GridDescriptor.{GridDescriptor}
 use Rattle.grid.proofs.CellLaws.{length-storePart}
@@ -40,9 +40,10 @@ use Rattle.grid.proofs.PaintLaws.{head-alpha}
 use Rattle.grid.proofs.PasteLaws.{Meets, pasteTile}
 use Rattle.grid.proofs.Suited.{covered-column, covered-row, suits-bytes, suits-canvas, tile-parts, tile-sample, tile-sound, tilePic-form}
 use Rattle.grid.proofs.TilesLaws.{count-some}
-use Rattle.grid.specs.Cell.{Suits, storeTile, tileForm, tilePic}
+use Rattle.grid.specs.Cell.{storeTile, tileForm, tilePic}
+use Rattle.grid.specs.inner.Rows.{Suits}
 use Rattle.grid.specs.Mosaic.{among, laid, plainAt, plainPic, tileIndex}
-use Rattle.grid.specs.Ready.{Alike, TilesTaken}
+use Rattle.grid.specs.inner.Ready.{Alike, TilesTaken}
 use Rattle.grid.specs.Run.{framesIn, gridOn, gridRun, noFrame, tileIn}
 use Rattle.grid.specs.Tiles.{canvasForm, countOf, coversOf, promotesOf, sameLayout, sameSize, tilesOf, withAlpha}
 use Rattle.grid.specs.declared.tiles.Tiles.{Tiles}

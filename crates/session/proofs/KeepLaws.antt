@@ -24,7 +24,7 @@ use Rattle.image.specs.declared.format.PixelFormat.{PixelFormat}
 use Rattle.image.specs.declared.record.Frame.{Frame}
 use Rattle.derived.proofs.Taken.{grid-taken}
 use Rattle.derived.specs.Grid.{gridOf}
-use Rattle.derived.specs.Sound.{CanvasSound, GridSound}
+use Rattle.derived.specs.inner.Sound.{CanvasSound, GridSound}
 use Rattle.session.specs.declared.state.Canvas.{Canvas}
 use Rattle.derived.specs.declared.grid.GridDescriptor.{GridDescriptor}
 use Rattle.grid.specs.Tiles.{countOf, coversOf}

@@ -27,10 +27,10 @@ use Rattle.image.specs.declared.format.Form.{Form}
 use Rattle.derived.proofs.FieldLaws.{field-inside}
 use Rattle.derived.specs.Canvas.{canvasAt, fieldBytes, startOf}
 use Rattle.derived.specs.Grid.{gridAt, gridOf}
-use Rattle.derived.specs.Sound.{CanvasSound, GridSound}
+use Rattle.derived.specs.inner.Sound.{CanvasSound, GridSound}
 use Rattle.session.specs.declared.state.Canvas.{Canvas}
 use Rattle.derived.specs.declared.grid.GridDescriptor.{GridDescriptor}
-use Rattle.grid.specs.Ready.{Alike}
+use Rattle.grid.specs.inner.Ready.{Alike}
 use Rattle.grid.specs.Tiles.{canvasForm, countOf, coversOf, withAlpha}
 use Rattle.session.proofs.BlankLaws.{blank-done}
 use Rattle.session.proofs.ComposeLaws.{length-drawn, take-first, take-later}

@@ -11,15 +11,16 @@ use Rattle.laws.proofs.Out.{done-same, refuse-done}
 use Rattle.laws.specs.Out.{done}
 use Rattle.laws.specs.Pick.{pick}
 use Rattle.image.specs.Bytes.{sizeOf}
-use Rattle.image.specs.Sound.{FormSound, Sound}
+use Rattle.image.specs.Sound.{FormSound}
+use Rattle.image.specs.inner.Placed.{Sound}
 use Rattle.image.specs.declared.format.Form.{Form}
 use Rattle.image.specs.declared.record.Frame.{Frame}
-use Rattle.derived.specs.Sound.{CanvasSound, GridSound}
+use Rattle.derived.specs.inner.Sound.{CanvasSound, GridSound}
 use Rattle.session.specs.declared.state.Canvas.{Canvas}
 use Rattle.derived.specs.declared.grid.GridDescriptor.{GridDescriptor}
 use Rattle.grid.proofs.Composed.{canvas-alpha-is, canvas-chroma, canvas-depth, mono-same, promotes-colour, tile-chroma}
 use Rattle.grid.proofs.GridLaws.{canvas-sound}
-use Rattle.grid.specs.Cell.{Suits}
+use Rattle.grid.specs.inner.Rows.{Suits}
 use Rattle.grid.specs.Tiles.{canvasForm, coversOf, promotesOf, sameLayout}
 use Rattle.session.specs.State.{acceptOf, bareOk, formOk, gridOk, hasTile, sidesOk, stateOk, tiledOk}
 

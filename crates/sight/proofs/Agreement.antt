@@ -10,7 +10,8 @@ use Rattle.laws.specs.Out.{Out, andThen, done, reason, refused}
 use Rattle.laws.specs.Pick.{pick}
 use Rattle.laws.specs.declared.Refusal.{Refusal}
 use Rattle.image.specs.Format.{columnsOf, cover, halfX, halfY, rowsOf, sideOf}
-use Rattle.image.specs.Picture.{Even, Pic, odd, pixel}
+use Rattle.image.specs.Picture.{Pic, odd, pixel}
+use Rattle.image.specs.inner.Even.{Even}
 use Rattle.image.specs.declared.format.Form.{Form}
 use Rattle.image.specs.declared.format.Part.{Part}
 use Rattle.props.proofs.ApertureLaws.{resolve-holds}
@@ -23,14 +24,16 @@ use Rattle.props.specs.declared.entry.Property.{Property}
 use Rattle.props.specs.declared.entry.PropertyEntry.{PropertyEntry}
 use Rattle.props.specs.declared.iscl.Iscl.{Iscl}
 use Rattle.transform.proofs.Shown.{crop-shows, mirror-shows, turn-shows}
-use Rattle.transform.specs.Place.{Place, Shows, sideways, swaps, uncrop, unmirror, unturn}
+use Rattle.transform.specs.Place.{Place, sideways, swaps, unturn}
+use Rattle.transform.specs.inner.Shows.{Shows, uncrop, unmirror}
 use Rattle.transform.specs.Turn.{crop, mirror, quarterOf, turn}
 use Rattle.sight.proofs.Quarters.{mirror-below}
 use Rattle.sight.proofs.Steps.{place-across, place-down, place-in}
 use Rattle.sight.proofs.Stops.{sight-not-18}
 use Rattle.sight.proofs.Turns.{back-in, back-once, crop-back, crop-height, crop-inside, crop-width, mirror-back, mirror-height, mirror-width, turn-back, turn-height, turn-width, unmirror-in, unturn-in}
 use Rattle.sight.specs.Chain.{NotIscl, chainPic, picAfter}
-use Rattle.sight.specs.Seen.{Covers, PlaceAgrees, Seen}
+use Rattle.sight.specs.Seen.{Covers}
+use Rattle.sight.specs.inner.Seen.{PlaceAgrees, Seen}
 use Rattle.sight.specs.Sight.{back, backFrom, exchange, finalHeight, finalWidth, highOf, placeOf, sightAfter, sightOf, thenCrop, thenMirror, thenTurn, whole, wideOf}
 use Rattle.sight.specs.declared.Sight.{Sight}
 

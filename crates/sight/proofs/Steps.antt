@@ -23,7 +23,8 @@ use Rattle.transform.specs.Place.{Place, sideways, swaps, unturn}
 use Rattle.transform.specs.Turn.{Quarter, quarterOf}
 use Rattle.sight.proofs.Quarters.{by-quarter, mirror-below, quarter-3}
 use Rattle.sight.proofs.Turns.{crop-inside, exchange-inside, exchange-row, place-path, unturn-in, unturn-inside}
-use Rattle.sight.specs.Sight.{Bounded, Lies, back, backFrom, boundedPlaceOf, cropFrom, exchange, exchangeRect, finalHeight, finalWidth, highOf, mirrorTurns, placeOf, sightAfter, sightOf, thenCrop, thenMirror, thenTurn, unturnRect, whole, wideOf, within}
+use Rattle.sight.specs.Sight.{back, backFrom, boundedPlaceOf, cropFrom, exchange, exchangeRect, finalHeight, finalWidth, highOf, mirrorTurns, placeOf, sightAfter, sightOf, thenCrop, thenMirror, thenTurn, unturnRect, whole, wideOf, within}
+use Rattle.sight.specs.inner.Bounded.{Bounded, Lies}
 use Rattle.sight.specs.declared.CanvasPlace.{CanvasPlace}
 use Rattle.sight.specs.declared.Sight.{Sight}
 

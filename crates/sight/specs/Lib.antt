@@ -2,3 +2,4 @@ pub mod Sight
 pub mod Chain
 pub mod Seen
 pub mod Carry
+pub mod inner

@@ -2,8 +2,7 @@
 -- anticlockwise (document 01, "Point call"). Assumes nothing.
 use mathlib.Core.Bool.{Bool, false, not, true}
 use mathlib.Core.List.{List}
-use mathlib.Core.Path.{_≡_}
-use Prim.Native.Nat.{_%_, _+_, _-_, _<_, _^_, ℕ}
+use Prim.Native.Nat.{_%_, _+_, _-_, _^_, ℕ}
 use lib.Dec.{leb}
 use Rattle.laws.specs.Out.{Out, andThen, done, reason, refuse, refused}
 use Rattle.image.specs.Picture.{odd}
@@ -14,7 +13,6 @@ use Rattle.props.specs.declared.entry.Property.{Property}
 use Rattle.props.specs.declared.entry.PropertyEntry.{PropertyEntry}
 use Rattle.transform.specs.Place.{Place, sideways, swaps, unturn}
 use Rattle.transform.specs.Turn.{Quarter, q0, q1, q2, q3, quarterOf}
-use Rattle.sight.specs.declared.CanvasPlace.{CanvasPlace}
 use Rattle.sight.specs.declared.PlaceRead.{PlaceRead}
 use Rattle.sight.specs.declared.Sight.{Sight}
 use Rattle.sight.specs.declared.SightRead.{SightRead}
@@ -120,13 +118,3 @@ sightOut (SightRead.Refused e) = refused e
 abbrev pub placeOut : PlaceRead → Out Place
 placeOut (PlaceRead.Place l) = done (record { x = l .x; y = l .y })
 placeOut (PlaceRead.Refused e) = refused e
-
--- a rectangle whose far edges are 32-bit numbers
-pub record Bounded (r : CropRect) : Type 0 where
-  pub across : r .x + r .width < 2 ^ 32
-  pub down : r .y + r .height < 2 ^ 32
-
--- the code's place is the place
-pub record Lies (r : CanvasPlace) (l : Place) : Type 0 where
-  pub x : r .x ≡ l .x
-  pub y : r .y ≡ l .y

@@ -16,7 +16,7 @@ use Rattle.props.specs.declared.entry.PropertyEntry.{PropertyEntry}
 use Rattle.props.specs.declared.size.Size.{Size}
 use Rattle.steps_text.proofs.TextLaws.{entry-stands, lines-end, lines-next, lines-refused, text-read}
 use Rattle.steps_text.specs.Input.{inputOf}
-use Rattle.steps_text.specs.Step.{Readable, StepAt}
+use Rattle.steps_text.specs.inner.Step.{Readable, StepAt}
 use Rattle.steps_text.specs.Text.{heading, lineText, linesFrom, refusedLine, textOf}
 use Rattle.steps_text.specs.declared.input.Input.{Input}
 use Rattle.steps_text.specs.declared.text.Stepped.{Stepped}

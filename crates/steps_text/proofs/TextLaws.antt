@@ -20,14 +20,15 @@ use Rattle.numbers.specs.declared.NumberRead.{NumberRead}
 use Rattle.numbers.specs.declared.NumberRead.the-variants.{Number}
 use Rattle.props.proofs.ChainLaws.{chain-few, entries-first, entries-none, entries-step, judged-chain, judged-refused, refused-as}
 use Rattle.props.proofs.Prefix.{chain-prefix, number-prefix}
-use Rattle.props.specs.Chain.{Judged, chainAt, entriesAt, judgedAt}
+use Rattle.props.specs.Chain.{chainAt, entriesAt}
+use Rattle.props.specs.inner.Judged.{Judged, judgedAt}
 use Rattle.props.specs.Entry.{kindOf}
 use Rattle.props.specs.Size.{judgedSize, sizeAfter, sizeOut}
 use Rattle.props.specs.declared.chain.Chain.{Chain}
 use Rattle.props.specs.declared.entry.PropertyEntry.{PropertyEntry}
 use Rattle.props.specs.declared.size.Size.{Size}
 use Rattle.steps_text.specs.Input.{Steps, inputOf, stepsOf}
-use Rattle.steps_text.specs.Step.{Readable, StepAt}
+use Rattle.steps_text.specs.inner.Step.{Readable, StepAt}
 use Rattle.steps_text.specs.Text.{fieldText, heading, lineText, lineThen, linesFrom, outText, refusalText, refusedLine, refusedWord, textOf}
 use Rattle.steps_text.specs.declared.input.Input.{Input}
 use Rattle.steps_text.specs.declared.text.Stepped.{Stepped}

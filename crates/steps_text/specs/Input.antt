@@ -3,7 +3,8 @@ use mathlib.Core.List.{List}
 use Prim.Native.Nat.{ℕ}
 use Rattle.laws.specs.Out.{Out, andThen, done, refused}
 use Rattle.numbers.specs.Number.{onNumber, readNumber}
-use Rattle.props.specs.Chain.{chainAt, judgedAt}
+use Rattle.props.specs.Chain.{chainAt}
+use Rattle.props.specs.inner.Judged.{judgedAt}
 use Rattle.props.specs.Size.{judgedSize}
 use Rattle.props.specs.declared.entry.PropertyEntry.{PropertyEntry}
 use Rattle.props.specs.declared.size.Size.{Size}

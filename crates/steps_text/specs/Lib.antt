@@ -1,3 +1,3 @@
 pub mod Input
 pub mod Text
-pub mod Step
+pub mod inner

@@ -5,7 +5,7 @@ ghost use lib.ListN.{length};
 ghost use Rattle.laws.specs.Out.{done, answerOf, written, fitted};
 ghost use Rattle.laws.specs.Puts.{puts};
 ghost use Rattle.steps_text.specs.Input.{inputOf};
-ghost use Rattle.steps_text.specs.Step.{Readable, StepAt};
+ghost use Rattle.steps_text.specs.inner.Step.{Readable, StepAt};
 ghost use Rattle.steps_text.specs.Text.{textOf};
 use crate::input::Input;
 use crate::input::InputRead;

@@ -20,7 +20,7 @@ use Rattle.transform.proofs.Drawn.{full-sides}
 use Rattle.transform.proofs.Draws.{crop-draws, half-draws, left-draws, mirror-draws, right-draws}
 use Rattle.transform.proofs.Fits.{crop-fits, half-fits, mirror-fits, quarter-fits}
 use Rattle.transform.proofs.Runs.{quarter-one, quarter-three}
-use Rattle.transform.specs.Move.{MoveFits, alongFrom, cropMove, halfMove, mirrorMove, moved, planeAxis, quarterMove, turnForm, walkOf, walkX, walkY}
+use Rattle.transform.specs.inner.Move.{MoveFits, alongFrom, cropMove, halfMove, mirrorMove, moved, planeAxis, quarterMove, turnForm, walkOf, walkX, walkY}
 use Rattle.transform.specs.Turn.{Quarter, crop, mirror, q0, q1, q2, q3, quarterOf, turn}
 use Rattle.transform.specs.declared.moves.Move.{Move}
 

@@ -12,13 +12,13 @@ use Rattle.image.specs.Bytes.{dataOf, decode, planeBytes, planeHead, rowBytes, 
 use Rattle.image.specs.Format.{bytesOf, columnsOf, cover, halfX, halfY, halved, halvesX, halvesY, hasPart, rowsOf}
 use Rattle.image.specs.Picture.{Pic, as444, full, pixel, promote}
 use Rattle.image.specs.Record.{planeOf}
-use Rattle.image.specs.Sound.{Sound}
+use Rattle.image.specs.inner.Placed.{Sound}
 use Rattle.image.specs.declared.format.Form.{Form}
 use Rattle.image.specs.declared.format.Part.{Part}
 use Rattle.image.specs.declared.format.Part.the-variants.{Alpha, Cb, Cr, Luma}
 use Rattle.image.specs.declared.format.PixelFormat.{PixelFormat}
 use Rattle.image.specs.declared.record.Frame.{Frame}
-use Rattle.transform.specs.Move.{MoveFits, WalkInside, alongFrom, moved, planeAxis, walkAt, walkBytes, walkOf, walkX, walkY}
+use Rattle.transform.specs.inner.Move.{MoveFits, WalkInside, alongFrom, moved, planeAxis, walkAt, walkBytes, walkOf, walkX, walkY}
 use Rattle.transform.specs.declared.moves.Move.{Move}
 use Rattle.transform.specs.declared.moves.Walk.{Walk}
 

@@ -9,7 +9,7 @@ use Rattle.image.specs.Format.{columnsOf, cover, halfX, halfY, rowsOf}
 use Rattle.image.specs.Picture.{Agree, Pic, as444, ensure, needs444, odd, promote, sized}
 use Rattle.image.specs.declared.format.Part.{Part}
 use Rattle.props.specs.declared.clap.CropRect.{CropRect}
-use Rattle.transform.specs.Move.{alongFrom, cropMove, cropWith, endAxis, formWith, halfMove, halfWith, mirrorMove, moved, quarterMove, quarterWith}
+use Rattle.transform.specs.inner.Move.{alongFrom, cropMove, cropWith, endAxis, formWith, halfMove, halfWith, mirrorMove, moved, quarterMove, quarterWith}
 use Rattle.transform.specs.Turn.{crop, cut, fromBottom, fromRight, lopsided, mirror, q1, q2, q3, turn, turned}
 
 crop-with : (t : Bool) (P : Pic) (r : CropRect) → Agree (moved (cropWith t (P .form) r) P) (cut (pick t (promote P) P) r)

@@ -11,7 +11,8 @@ use Rattle.laws.specs.Pick.{pick}
 use Rattle.image.proofs.FormLaws.{height-le, side-le, width-le}
 use Rattle.image.proofs.PictureLaws.{evenly-if, evenly-part, needs-X, needs-Y, needs-colour, odd-false, parts-444}
 use Rattle.image.specs.Format.{bytesOf, columnsOf, cover, halfX, halfY, halved, halvesX, halvesY, hasPart, isMono, rowsOf, sideOf}
-use Rattle.image.specs.Picture.{Evenly, as444, needs444, sized}
+use Rattle.image.specs.Picture.{as444, needs444, sized}
+use Rattle.image.specs.inner.Even.{Evenly}
 use Rattle.image.specs.Sound.{FormSound}
 use Rattle.image.specs.declared.format.Form.{Form}
 use Rattle.image.specs.declared.format.Part.{Part}
@@ -19,7 +20,7 @@ use Rattle.image.specs.declared.format.Part.the-variants.{Alpha, Cb, Cr, Luma}
 use Rattle.image.specs.declared.format.PixelFormat.{PixelFormat}
 use Rattle.props.specs.Sound.{Inside}
 use Rattle.props.specs.declared.clap.CropRect.{CropRect}
-use Rattle.transform.specs.Move.{AxisFits, MoveFits, alongFrom, cropMove, cropWith, endAxis, formWith, halfMove, halfWith, mirrorMove, planeAxis, quarterMove, quarterWith, walkOf, walkX, walkY}
+use Rattle.transform.specs.inner.Move.{AxisFits, MoveFits, alongFrom, cropMove, cropWith, endAxis, formWith, halfMove, halfWith, mirrorMove, planeAxis, quarterMove, quarterWith, walkOf, walkX, walkY}
 use Rattle.transform.specs.Turn.{lopsided}
 use Rattle.transform.specs.declared.moves.Axis.{Axis}
 use Rattle.transform.specs.declared.moves.Move.{Move}

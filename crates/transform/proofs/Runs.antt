@@ -26,7 +26,7 @@ use Rattle.props.specs.declared.entry.Irot.{Irot}
 use Rattle.props.specs.declared.clap.Clap.{Clap}
 use Rattle.transform.proofs.Draws.{crop-draws, half-draws, left-draws, mirror-draws, right-draws}
 use Rattle.transform.proofs.Fits.{crop-fits}
-use Rattle.transform.specs.Move.{MoveFits, cropMove, halfMove, mirrorMove, moved, quarterMove}
+use Rattle.transform.specs.inner.Move.{MoveFits, cropMove, halfMove, mirrorMove, moved, quarterMove}
 use Rattle.transform.specs.Run.{clapRun, cropOf, cropRun, imirRun, irotRun, turnBytes}
 use Rattle.transform.specs.Turn.{Quarter, q0, q1, q2, q3, quarterOf}
 

@@ -5,11 +5,13 @@ use Prim.Native.Nat.{_%_, _+_, _<_, ℕ}
 use Rattle.laws.proofs.Order.{apart, or-left, or-right}
 use Rattle.image.proofs.PictureLaws.{Alike, cut-axis, ensure-alike, ensure-case, ensure-evenX, ensure-evenY, evenly-part, flip-axis, odd-false}
 use Rattle.image.specs.Format.{columnsOf, cover, halfX, halfY, halvesX, halvesY, hasPart, rowsOf}
-use Rattle.image.specs.Picture.{Even, Evenly, Pic, as444, ensure, odd, pixel, promote, sized}
+use Rattle.image.specs.Picture.{Pic, as444, ensure, odd, pixel, promote, sized}
+use Rattle.image.specs.inner.Even.{Even, Evenly}
 use Rattle.image.specs.declared.format.Part.{Part}
 use Rattle.props.specs.declared.clap.CropRect.{CropRect}
 use Rattle.transform.proofs.Fits.{balanced}
-use Rattle.transform.specs.Place.{Shows, sideways, swaps, uncrop, unmirror, unturn}
+use Rattle.transform.specs.Place.{sideways, swaps, unturn}
+use Rattle.transform.specs.inner.Shows.{Shows, uncrop, unmirror}
 use Rattle.transform.specs.Turn.{Quarter, crop, cut, fromBottom, fromRight, lopsided, mirror, q0, q1, q2, q3, turn, turned}
 
 -- ---- crop: asks nothing of the picture

@@ -12,9 +12,9 @@ use Rattle.laws.specs.Pick.{pick}
 use Rattle.image.proofs.ByteLaws.{length-samplesOf}
 use Rattle.image.specs.Bytes.{sampleAt, sampleBytes, sampleIn, samplesOf}
 use Rattle.image.specs.Format.{cover}
-use Rattle.image.specs.Line.{LineFits, lineBytes, placeOn}
+use Rattle.image.specs.inner.Line.{LineFits, lineBytes, placeOn}
 use Rattle.image.specs.declared.samples.Line.{Line}
-use Rattle.transform.specs.Move.{AxisFits, RowFits, WalkInside, alongFrom, lineOf, rowLine, walkAt, walkBytes, walkX, walkY}
+use Rattle.transform.specs.inner.Move.{AxisFits, RowFits, WalkInside, alongFrom, lineOf, rowLine, walkAt, walkBytes, walkX, walkY}
 use Rattle.transform.specs.declared.moves.Axis.{Axis}
 use Rattle.transform.specs.declared.moves.Walk.{Walk}
 

@@ -1,4 +1,4 @@
 pub mod Turn
 pub mod Place
-pub mod Move
 pub mod Run
+pub mod inner

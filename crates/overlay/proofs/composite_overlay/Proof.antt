@@ -5,7 +5,7 @@ use denote.Ref.{now}
 use Rattle.laws.proofs.Out.{done-answers, fitted-room, fitted-short, refuse-no, refuse-yes, refused-answers}
 use Rattle.overlay.proofs.RunLaws.{above-is, plan-taken, room-enough, room-short, run-malformed, run-refused}
 use Rattle.overlay.proofs.composite_overlay.Statement.{statement}
-use Rattle.overlay.specs.Block.{planOut}
+use Rattle.overlay.specs.inner.Block.{planOut}
 use Rattle.overlay.proofs.composite_overlay.Tie as tie
 use Rattle.overlay.proofs.composite_overlay.Reads as reads
 use Rattle.overlay.proofs.composite_overlay.Lts as lts

@@ -3,7 +3,7 @@ use borrow.Author.Needs.{needs}
 use Rattle.laws.proofs.Out.{then-done, then-refused}
 use Rattle.point.proofs.PointLaws.{grid-held}
 use Rattle.point.proofs.grid_point.Statement.{statement}
-use Rattle.point.specs.Look.{gridLookOut}
+use Rattle.point.specs.inner.Look.{gridLookOut}
 use Rattle.point.specs.Point.{gridPoint}
 use Rattle.point.proofs.grid_point.Tie as tie
 use Rattle.point.proofs.grid_point.Reads as reads

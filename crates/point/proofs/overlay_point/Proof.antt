@@ -3,7 +3,7 @@ use borrow.Author.Needs.{needs}
 use Rattle.laws.proofs.Out.{then-done, then-refused}
 use Rattle.point.proofs.PointLaws.{overlay-held}
 use Rattle.point.proofs.overlay_point.Statement.{statement}
-use Rattle.point.specs.Look.{overlayLookOut}
+use Rattle.point.specs.inner.Look.{overlayLookOut}
 use Rattle.point.specs.Point.{overlayPoint}
 use Rattle.point.proofs.overlay_point.Tie as tie
 use Rattle.point.proofs.overlay_point.Reads as reads

@@ -10,7 +10,7 @@ use Rattle.props.specs.Chain.{chainOut}
 use Rattle.grid.specs.Run.{gridOn}
 use Rattle.grid.specs.Tiles.{tilesOut}
 use Rattle.scene.proofs.SceneLaws.{GridKnown, first-output, first-spare, grid-chain, grid-form, grid-malformed, grid-read, grid-size, grid-tiles, held-refused, ready-output, ready-spare, scene-output, scene-refused, scene-spare}
-use Rattle.scene.specs.Course.{heldOf, heldOut}
+use Rattle.scene.specs.inner.Course.{heldOf, heldOut}
 use Rattle.scene.proofs.grid_scene.Statement.{statement}
 use Rattle.scene.proofs.grid_scene.Tie as tie
 use Rattle.scene.proofs.grid_scene.Reads as reads

@@ -8,9 +8,9 @@ use Rattle.laws.specs.Out.{done}
 use Rattle.image.specs.Bytes.{Bytes}
 use Rattle.props.specs.Chain.{chainOut}
 use Rattle.overlay.proofs.RunLaws.{above-is, planPic}
-use Rattle.overlay.specs.Block.{planOut}
+use Rattle.overlay.specs.inner.Block.{planOut}
 use Rattle.scene.proofs.SceneLaws.{OverlayKnown, first-output, first-spare, held-refused, overlay-chain, overlay-inputs, overlay-malformed, overlay-read, plan-form, ready-output, ready-spare, scene-output, scene-refused, scene-spare}
-use Rattle.scene.specs.Course.{heldOf, heldOut}
+use Rattle.scene.specs.inner.Course.{heldOf, heldOut}
 use Rattle.scene.proofs.overlay_scene.Statement.{statement}
 use Rattle.scene.proofs.overlay_scene.Tie as tie
 use Rattle.scene.proofs.overlay_scene.Reads as reads

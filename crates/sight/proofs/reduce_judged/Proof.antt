@@ -10,7 +10,8 @@ use Rattle.props.specs.Entry.{entryOut}
 use Rattle.props.specs.declared.entry.PropertyEntry.{PropertyEntry}
 use Rattle.sight.proofs.Steps.{entry-bounded, sight-start, start-bounded}
 use Rattle.sight.proofs.reduce_judged.Statement.{statement}
-use Rattle.sight.specs.Sight.{Bounded, sightAfter, sightOf, sightOut}
+use Rattle.sight.specs.Sight.{sightAfter, sightOf, sightOut}
+use Rattle.sight.specs.inner.Bounded.{Bounded}
 use Rattle.sight.proofs.reduce_judged.Tie as tie
 use Rattle.sight.proofs.reduce_judged.Reads as reads
 use Rattle.sight.proofs.reduce_judged.Lts as lts

@@ -10,7 +10,7 @@ use Rattle.image.specs.Record.{frameOut, recordOf}
 use Rattle.props.proofs.ApertureLaws.{refused-no-rect}
 use Rattle.props.specs.Aperture.{resolveOf, resolvedOut}
 use Rattle.transform.proofs.Runs.{clap-drawn, clap-fits, clap-refused}
-use Rattle.transform.specs.Move.{moved}
+use Rattle.transform.specs.inner.Move.{moved}
 use Rattle.transform.specs.Run.{clapRun}
 use Rattle.transform.specs.declared.moves.Move.{Move}
 use Rattle.transform.proofs.apply_clap.Statement.{statement}

@@ -10,7 +10,7 @@ use Rattle.image.specs.Picture.{odd}
 use Rattle.image.specs.Record.{frameOut, recordOf}
 use Rattle.transform.proofs.Fits.{mirror-fits}
 use Rattle.transform.proofs.Runs.{mirror-run}
-use Rattle.transform.specs.Move.{moved}
+use Rattle.transform.specs.inner.Move.{moved}
 use Rattle.transform.specs.Run.{imirRun}
 use Rattle.transform.specs.declared.moves.Move.{Move}
 use Rattle.transform.proofs.apply_imir.Statement.{statement}

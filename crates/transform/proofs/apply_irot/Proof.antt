@@ -10,10 +10,10 @@ use Rattle.laws.specs.Out.{Out, done, fitted}
 use Rattle.image.proofs.RecordLaws.{whole-sound}
 use Rattle.image.specs.Bytes.{decode, encode}
 use Rattle.image.specs.Record.{frameOut, recordOf}
-use Rattle.image.specs.Sound.{Sound}
+use Rattle.image.specs.inner.Placed.{Sound}
 use Rattle.transform.proofs.Fits.{half-fits, quarter-fits}
 use Rattle.transform.proofs.Runs.{turn-half, turn-left, turn-none, turn-right}
-use Rattle.transform.specs.Move.{moved}
+use Rattle.transform.specs.inner.Move.{moved}
 use Rattle.transform.specs.Run.{irotRun}
 use Rattle.transform.specs.declared.moves.Move.{Move}
 use Rattle.transform.proofs.apply_irot.Statement.{statement}

@@ -5,7 +5,7 @@ use borrow.Author.Needs.{needs}
 use Rattle.laws.proofs.Out.{done-answers, fitted-room, fitted-short, refused-answers}
 use Rattle.image.proofs.RoundTrip.{length-encode}
 use Rattle.image.specs.Bytes.{decode, encode}
-use Rattle.transform.specs.Move.{moved}
+use Rattle.transform.specs.inner.Move.{moved}
 use Rattle.transform.proofs.draw.Statement.{statement}
 use Rattle.transform.proofs.draw.Tie as tie
 use Rattle.transform.proofs.draw.Reads as reads

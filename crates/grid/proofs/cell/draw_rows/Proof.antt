@@ -7,11 +7,12 @@ use lib.ListN.{length}
 use borrow.Author.Needs.{needs}
 use denote.Ref.{now}
 use Rattle.laws.specs.Puts.{puts}
-use Rattle.image.specs.Line.{lineBytes}
+use Rattle.image.specs.inner.Line.{lineBytes}
 use Rattle.image.specs.declared.samples.Line.{Line}
 use Rattle.grid.proofs.CellLaws.{length-storeRows, line-fits, rows-more}
 use Rattle.grid.proofs.cell.draw_rows.Statement.{statement}
-use Rattle.grid.specs.Cell.{storeRows, tileLine}
+use Rattle.grid.specs.Cell.{storeRows}
+use Rattle.grid.specs.inner.Rows.{tileLine}
 use Rattle.grid.proofs.cell.draw_rows.Tie as tie
 use Rattle.grid.proofs.cell.draw_rows.Reads as reads
 use Rattle.grid.proofs.cell.draw_rows.Lts as lts

@@ -8,7 +8,7 @@ use Rattle.image.specs.Bytes.{Bytes, sizeOf}
 use Rattle.grid.proofs.Composed.{grid-fits, grid-short, length-gridOn}
 use Rattle.grid.proofs.GridLaws.{tiles-taken}
 use Rattle.grid.proofs.compose.composite_grid.Statement.{statement}
-use Rattle.grid.specs.Ready.{TilesTaken}
+use Rattle.grid.specs.inner.Ready.{TilesTaken}
 use Rattle.grid.specs.Run.{gridRun}
 use Rattle.grid.specs.Tiles.{tilesOf, tilesOut}
 use Rattle.grid.proofs.compose.composite_grid.Tie as tie

@@ -19,9 +19,11 @@ use Rattle.grid.proofs.Composed.{canvas-alpha-is, composed, drop-head, 
 use Rattle.grid.proofs.TilesLaws.{first-not-refused, first-read}
 use Rattle.grid.proofs.compose.draw_grid.Statement.{statement}
 use Rattle.grid.specs.Cell.{storeTile, tilePic}
-use Rattle.grid.specs.Mosaic.{canvasBytes, storeTiles}
+use Rattle.grid.specs.Mosaic.{canvasBytes}
+use Rattle.grid.specs.inner.Stored.{storeTiles}
 use Rattle.grid.specs.Run.{framesIn, noFrame, takenOf, tileIn}
-use Rattle.grid.specs.Tiles.{FramesTaken, countOf}
+use Rattle.grid.specs.Tiles.{countOf}
+use Rattle.grid.specs.inner.Taken.{FramesTaken}
 use Rattle.grid.proofs.compose.draw_grid.Tie as tie
 use Rattle.grid.proofs.compose.draw_grid.Reads as reads
 use Rattle.grid.proofs.compose.draw_grid.Lts as lts

@@ -13,7 +13,8 @@ use Rattle.image.specs.declared.format.Form.{Form}
 use Rattle.image.specs.declared.format.Part.the-variants.{Alpha, Cb, Cr, Luma}
 use Rattle.grid.proofs.PaintLaws.{canvas-planes, length-canvas, length-even-plane}
 use Rattle.grid.proofs.paint.paint_canvas.Statement.{statement}
-use Rattle.grid.specs.Mosaic.{canvasBytes, evenPic}
+use Rattle.grid.specs.Mosaic.{canvasBytes}
+use Rattle.grid.specs.inner.Stored.{evenPic}
 use Rattle.grid.specs.Tiles.{withAlpha}
 use Rattle.grid.proofs.paint.paint_canvas.Tie as tie
 use Rattle.grid.proofs.paint.paint_canvas.Reads as reads

@@ -14,7 +14,7 @@ use Rattle.image.specs.Bytes.{planeBytes, planeHead, samplesOf}
 use Rattle.image.specs.Format.{bytesOf, columnsOf, hasPart, rowsOf}
 use Rattle.grid.proofs.PaintLaws.{even-none, even-some, length-even-plane, plane-small}
 use Rattle.grid.proofs.paint.paint_plane.Statement.{statement}
-use Rattle.grid.specs.Mosaic.{evenPic}
+use Rattle.grid.specs.inner.Stored.{evenPic}
 use Rattle.grid.proofs.paint.paint_plane.Tie as tie
 use Rattle.grid.proofs.paint.paint_plane.Reads as reads
 use Rattle.grid.proofs.paint.paint_plane.Lts as lts

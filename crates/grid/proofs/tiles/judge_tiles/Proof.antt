@@ -9,7 +9,8 @@ use Rattle.image.specs.Tray.{framesAt}
 use Rattle.image.specs.declared.record.Frame.{Frame}
 use Rattle.grid.proofs.TilesLaws.{alike-end, alike-layout, alike-next, alike-size, first-not-refused, judge-start, judge-uncovered, judged, judged-done, judged-refused}
 use Rattle.grid.proofs.tiles.judge_tiles.Statement.{statement}
-use Rattle.grid.specs.Tiles.{FramesTaken, alikeFrom, judgeOf}
+use Rattle.grid.specs.Tiles.{alikeFrom, judgeOf}
+use Rattle.grid.specs.inner.Taken.{FramesTaken}
 use Rattle.grid.proofs.tiles.judge_tiles.Tie as tie
 use Rattle.grid.proofs.tiles.judge_tiles.Reads as reads
 use Rattle.grid.proofs.tiles.judge_tiles.Lts as lts

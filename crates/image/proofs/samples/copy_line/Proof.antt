@@ -11,7 +11,7 @@ use Rattle.laws.proofs.Writing.{Writing, writing-as, writing-done, writing-fits
 use Rattle.laws.specs.Span.{span}
 use Rattle.image.proofs.ByteLaws.{length-lineBytes, length-sampleBytes, sample-stored}
 use Rattle.image.specs.Bytes.{Bytes, sampleAt, sampleBytes, samplesOf}
-use Rattle.image.specs.Line.{lineBytes, placeOn}
+use Rattle.image.specs.inner.Line.{lineBytes, placeOn}
 use Rattle.image.specs.declared.samples.Line.{Line}
 use Rattle.image.proofs.samples.copy_line.Statement.{statement}
 use Rattle.image.proofs.samples.copy_line.Tie as tie

@@ -10,7 +10,7 @@ use Rattle.laws.proofs.Writing.{Writing, writing-as, writing-done, writing-put,
 use Rattle.laws.specs.Span.{span}
 use Rattle.image.proofs.ByteLaws.{length-even}
 use Rattle.image.proofs.samples.fill_pairs.Statement.{statement}
-use Rattle.image.specs.Bytes.{evenBytes}
+use Rattle.image.specs.inner.Promoted.{evenBytes}
 use Rattle.image.proofs.samples.fill_pairs.Tie as tie
 use Rattle.image.proofs.samples.fill_pairs.Reads as reads
 use Rattle.image.proofs.samples.fill_pairs.Lts as lts

@@ -2,7 +2,7 @@ use mathlib.Core.Path.{_∙_, sym}
 use borrow.Author.Needs.{needs}
 use Rattle.laws.specs.Pick.{pick}
 use Rattle.image.proofs.FormLaws.{bytes-few}
-use Rattle.image.specs.Bytes.{promotedIn}
+use Rattle.image.specs.inner.Promoted.{promotedIn}
 use Rattle.image.proofs.samples.promoted.Statement.{statement}
 use Rattle.image.proofs.samples.promoted.Tie as tie
 use Rattle.image.proofs.samples.promoted.Reads as reads

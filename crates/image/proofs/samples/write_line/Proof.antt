@@ -9,7 +9,7 @@ use Rattle.laws.proofs.Order.{positive}
 use Rattle.laws.specs.Puts.{puts}
 use Rattle.image.proofs.LineLaws.{line-inside, line-none, line-taken}
 use Rattle.image.specs.Bytes.{Bytes}
-use Rattle.image.specs.Line.{lineBytes}
+use Rattle.image.specs.inner.Line.{lineBytes}
 use Rattle.image.proofs.samples.write_line.Statement.{statement}
 use Rattle.image.proofs.samples.write_line.Tie as tie
 use Rattle.image.proofs.samples.write_line.Reads as reads

@@ -10,7 +10,7 @@ use Rattle.laws.specs.Span.{run}
 use Rattle.overlay.proofs.ReachLaws.{row-begins}
 use Rattle.overlay.proofs.StripeLaws.{row-shown, rows-begin, rows-end, rows-more}
 use Rattle.overlay.proofs.blend.lay_input.Statement.{statement}
-use Rattle.overlay.specs.Block.{acrossAt, downAt, layerWith, stretchOf}
+use Rattle.overlay.specs.inner.Block.{acrossAt, downAt, layerWith, stretchOf}
 use Rattle.overlay.specs.Overlay.{laidAt}
 use Rattle.overlay.specs.declared.blend.Stretch.{Stretch}
 use Rattle.overlay.proofs.blend.lay_input.Tie as tie

@@ -9,7 +9,7 @@ use Rattle.image.specs.Record.{frameOut}
 use Rattle.overlay.proofs.FrameLaws.{record-inside}
 use Rattle.overlay.proofs.StripeLaws.{all-laid, all-none, all-refused}
 use Rattle.overlay.proofs.blend.lay_inputs.Statement.{statement}
-use Rattle.overlay.specs.Block.{acrossAt, downAt, framesFrom}
+use Rattle.overlay.specs.inner.Block.{acrossAt, downAt, framesFrom}
 use Rattle.overlay.specs.Overlay.{allLaid}
 use Rattle.overlay.specs.Run.{layersOf}
 use Rattle.overlay.proofs.blend.lay_inputs.Tie as tie

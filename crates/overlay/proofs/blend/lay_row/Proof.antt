@@ -9,7 +9,7 @@ use Rattle.laws.proofs.Order.{pick-false, within, within-none}
 use Rattle.laws.specs.Pick.{pick}
 use Rattle.overlay.proofs.StripeLaws.{stored-more}
 use Rattle.overlay.proofs.blend.lay_row.Statement.{statement}
-use Rattle.overlay.specs.Block.{rowLaid}
+use Rattle.overlay.specs.inner.Block.{rowLaid}
 use Rattle.overlay.proofs.blend.lay_row.Tie as tie
 use Rattle.overlay.proofs.blend.lay_row.Reads as reads
 use Rattle.overlay.proofs.blend.lay_row.Lts as lts

@@ -1,7 +1,7 @@
 use mathlib.Core.Path.{sym}
 use borrow.Author.Needs.{needs}
 use Rattle.overlay.proofs.blend.reach.Statement.{statement}
-use Rattle.overlay.specs.Block.{stretchOf}
+use Rattle.overlay.specs.inner.Block.{stretchOf}
 use Rattle.overlay.proofs.blend.reach.Tie as tie
 use Rattle.overlay.proofs.blend.reach.Reads as reads
 use Rattle.overlay.proofs.blend.reach.Lts as lts

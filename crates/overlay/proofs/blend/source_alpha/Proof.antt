@@ -7,7 +7,7 @@ use Rattle.image.proofs.FormLaws.{bytes-few}
 use Rattle.image.specs.Bytes.{sampleIn}
 use Rattle.image.specs.Format.{hasAlpha, hasPart}
 use Rattle.overlay.proofs.blend.source_alpha.Statement.{statement}
-use Rattle.overlay.specs.Block.{alphaIn}
+use Rattle.overlay.specs.inner.Block.{alphaIn}
 use Rattle.overlay.proofs.blend.source_alpha.Tie as tie
 use Rattle.overlay.proofs.blend.source_alpha.Reads as reads
 use Rattle.overlay.proofs.blend.source_alpha.Lts as lts

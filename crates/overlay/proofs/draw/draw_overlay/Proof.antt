@@ -5,7 +5,7 @@ use Rattle.laws.proofs.Out.{done-same, not-done}
 use Rattle.fill.specs.Fill.{filledOut}
 use Rattle.overlay.proofs.FlatLaws.{drawn-answer, drawn-room, fill-taken}
 use Rattle.overlay.proofs.draw.draw_overlay.Statement.{statement}
-use Rattle.overlay.specs.Block.{layersAt}
+use Rattle.overlay.specs.inner.Block.{layersAt}
 use Rattle.overlay.specs.Run.{fillFor}
 use Rattle.overlay.proofs.draw.draw_overlay.Tie as tie
 use Rattle.overlay.proofs.draw.draw_overlay.Reads as reads

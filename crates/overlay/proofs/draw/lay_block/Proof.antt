@@ -7,7 +7,7 @@ use Rattle.laws.specs.Puts.{puts}
 use Rattle.image.proofs.FormLaws.{bytes-few}
 use Rattle.overlay.proofs.FlatLaws.{laid-place, samples-as}
 use Rattle.overlay.proofs.draw.lay_block.Statement.{statement}
-use Rattle.overlay.specs.Block.{acrossAt, backdropFill, downAt, layersAt}
+use Rattle.overlay.specs.inner.Block.{acrossAt, backdropFill, downAt, layersAt}
 use Rattle.overlay.proofs.draw.lay_block.Tie as tie
 use Rattle.overlay.proofs.draw.lay_block.Reads as reads
 use Rattle.overlay.proofs.draw.lay_block.Lts as lts

@@ -5,7 +5,7 @@ use Rattle.laws.proofs.Writing.{Writing, writing-ended, writing-fits, writing-r
 use Rattle.image.specs.Bytes.{encode, headBytes, planeBytes}
 use Rattle.image.specs.declared.format.Part.the-variants.{Alpha, Cb, Cr, Luma}
 use Rattle.overlay.proofs.draw.write_overlay.Statement.{statement}
-use Rattle.overlay.specs.Block.{backdropFill, layersAt}
+use Rattle.overlay.specs.inner.Block.{backdropFill, layersAt}
 use Rattle.overlay.specs.Overlay.{overlayPic}
 use Rattle.overlay.proofs.draw.write_overlay.Tie as tie
 use Rattle.overlay.proofs.draw.write_overlay.Reads as reads

@@ -6,7 +6,7 @@ use Rattle.laws.proofs.Writing.{Writing, writing-begin, writing-fits, writing-l
 use Rattle.image.proofs.RoundTrip.{plane-none, plane-some}
 use Rattle.image.specs.Bytes.{planeBytes, planeHead, rowsBytes}
 use Rattle.overlay.proofs.draw.write_plane.Statement.{statement}
-use Rattle.overlay.specs.Block.{backdropFill, layersAt}
+use Rattle.overlay.specs.inner.Block.{backdropFill, layersAt}
 use Rattle.overlay.specs.Overlay.{overlayPic}
 use Rattle.overlay.proofs.draw.write_plane.Tie as tie
 use Rattle.overlay.proofs.draw.write_plane.Reads as reads

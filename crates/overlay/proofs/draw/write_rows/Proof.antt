@@ -14,7 +14,7 @@ use Rattle.image.specs.Bytes.{rowsBytes, samplesOf}
 use Rattle.image.specs.Format.{bytesOf, columnsOf, rowsOf}
 use Rattle.overlay.proofs.FlatLaws.{flat-next, rows-flat, stripe-fits, stripeItem, top-some, total-small}
 use Rattle.overlay.proofs.draw.write_rows.Statement.{statement}
-use Rattle.overlay.specs.Block.{StripeFits, acrossAt, backdropFill, downAt, layersAt}
+use Rattle.overlay.specs.inner.Block.{StripeFits, acrossAt, backdropFill, downAt, layersAt}
 use Rattle.overlay.specs.Overlay.{base, overlayPic, placeAt}
 use Rattle.overlay.proofs.draw.write_rows.Tie as tie
 use Rattle.overlay.proofs.draw.write_rows.Reads as reads

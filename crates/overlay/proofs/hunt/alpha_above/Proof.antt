@@ -10,7 +10,7 @@ use Rattle.image.specs.Bytes.{sampleIn}
 use Rattle.overlay.proofs.BlendLaws.{less-one}
 use Rattle.overlay.proofs.FrameLaws.{seen-clear, seen-found, seen-inside, seen-shown, some-none}
 use Rattle.overlay.proofs.hunt.alpha_above.Statement.{statement}
-use Rattle.overlay.specs.Block.{framesFrom}
+use Rattle.overlay.specs.inner.Block.{framesFrom}
 use Rattle.overlay.specs.Overlay.{some}
 use Rattle.overlay.specs.Run.{alphaAbove}
 use Rattle.overlay.proofs.hunt.alpha_above.Tie as tie

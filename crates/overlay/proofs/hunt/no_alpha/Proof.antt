@@ -1,6 +1,6 @@
 use mathlib.Core.Path.{refl}
 use Rattle.overlay.proofs.hunt.no_alpha.Statement.{statement}
-use Rattle.overlay.specs.Block.{noAlpha}
+use Rattle.overlay.specs.inner.Block.{noAlpha}
 use Rattle.overlay.proofs.hunt.no_alpha.Tie as tie
 use Rattle.overlay.proofs.hunt.no_alpha.Reads as reads
 use Rattle.overlay.proofs.hunt.no_alpha.Lts as lts

@@ -2,7 +2,7 @@ use mathlib.Core.Path.{sym}
 use borrow.Author.Needs.{needs}
 use Rattle.image.specs.Format.{isMono}
 use Rattle.overlay.proofs.inputs.compose_form.Statement.{statement}
-use Rattle.overlay.specs.Block.{notedForm}
+use Rattle.overlay.specs.inner.Block.{notedForm}
 use Rattle.overlay.proofs.inputs.compose_form.Tie as tie
 use Rattle.overlay.proofs.inputs.compose_form.Reads as reads
 use Rattle.overlay.proofs.inputs.compose_form.Lts as lts

@@ -4,7 +4,7 @@ use borrow.Author.Needs.{needs}
 use Rattle.image.specs.Format.{hasPart}
 use Rattle.overlay.proofs.NotedLaws.{same-notes}
 use Rattle.overlay.proofs.inputs.note.Statement.{statement}
-use Rattle.overlay.specs.Block.{noted}
+use Rattle.overlay.specs.inner.Block.{noted}
 use Rattle.overlay.proofs.inputs.note.Tie as tie
 use Rattle.overlay.proofs.inputs.note.Reads as reads
 use Rattle.overlay.proofs.inputs.note.Lts as lts

@@ -5,7 +5,7 @@ use borrow.Author.Needs.{needs}
 use Rattle.image.specs.Record.{frameOut}
 use Rattle.overlay.proofs.NotedLaws.{Seen, plan-depth, plan-done, plan-refused, preceded-end, preceded-left, preceded-refused, seen-more, seen-none}
 use Rattle.overlay.proofs.inputs.read_frames.Statement.{statement}
-use Rattle.overlay.specs.Block.{nothingNoted}
+use Rattle.overlay.specs.inner.Block.{nothingNoted}
 use Rattle.overlay.proofs.inputs.read_frames.Tie as tie
 use Rattle.overlay.proofs.inputs.read_frames.Reads as reads
 use Rattle.overlay.proofs.inputs.read_frames.Lts as lts

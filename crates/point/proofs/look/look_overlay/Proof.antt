@@ -3,7 +3,7 @@ use borrow.Author.Needs.{needs}
 use Rattle.props.proofs.ChainLaws.{judged-chain}
 use Rattle.props.specs.Chain.{chainOut}
 use Rattle.sight.specs.Sight.{sightOut}
-use Rattle.overlay.specs.Block.{planOut}
+use Rattle.overlay.specs.inner.Block.{planOut}
 use Rattle.point.proofs.PointLaws.{overlay-alpha, overlay-chain, overlay-done, overlay-inputs, overlay-malformed, overlay-sight}
 use Rattle.point.proofs.look.look_overlay.Statement.{statement}
 use Rattle.point.proofs.look.look_overlay.Tie as tie

@@ -4,11 +4,11 @@ use native.Mathlib.Nat.{sub-zero}
 use native.Mathlib.Omega.{arith}
 use borrow.Author.Needs.{needs}
 use Rattle.image.specs.Record.{frameOut}
-use Rattle.overlay.specs.Block.{framesFrom}
+use Rattle.overlay.specs.inner.Block.{framesFrom}
 use Rattle.point.proofs.PointLaws.{top-next, top-none, top-refused}
 use Rattle.point.proofs.names.name_topmost.Statement.{statement}
 use Rattle.point.specs.Point.{topmostFrom}
-use Rattle.point.specs.Look.{placeIn}
+use Rattle.point.specs.inner.Look.{placeIn}
 use Rattle.point.specs.declared.Named.{Named}
 use Rattle.point.proofs.names.name_topmost.Tie as tie
 use Rattle.point.proofs.names.name_topmost.Reads as reads

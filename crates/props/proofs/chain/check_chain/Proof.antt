@@ -1,7 +1,8 @@
 use mathlib.Core.Path.{_∙_, _≡_, ap, sym}
 use borrow.Author.Needs.{needs}
 use Rattle.props.proofs.ChainLaws.{count-large, count-malformed, count-number, entries-end, entries-left, entries-refused, judged-none, judged-start, kept, kept-done, kept-next, kept-refused}
-use Rattle.props.specs.Chain.{entriesAt, judgedAt}
+use Rattle.props.specs.Chain.{entriesAt}
+use Rattle.props.specs.inner.Judged.{judgedAt}
 use Rattle.props.specs.Entry.{entryOut}
 use Rattle.props.proofs.chain.check_chain.Statement.{statement}
 use Rattle.props.proofs.chain.check_chain.Tie as tie

@@ -8,7 +8,7 @@ use Rattle.image.specs.Bytes.{decode, encode}
 use Rattle.image.specs.declared.format.Form.{Form}
 use Rattle.resample.proofs.RunLaws.{area-drawn, area-kept, area-rule}
 use Rattle.resample.proofs.area.resize_area.Statement.{statement}
-use Rattle.resample.specs.Redraw.{redrawn}
+use Rattle.resample.specs.inner.Redraw.{redrawn}
 use Rattle.resample.specs.declared.write.Rule.{Rule}
 use Rattle.resample.proofs.area.resize_area.Tie as tie
 use Rattle.resample.proofs.area.resize_area.Reads as reads

@@ -11,7 +11,7 @@ use Rattle.image.specs.declared.format.Part.the-variants.{Luma}
 use Rattle.resample.proofs.AttachLaws.{cover-as-is, cover-drawn, cover-fits, coverRule, luma-fits}
 use Rattle.resample.proofs.attach.write_cover.Statement.{statement}
 use Rattle.resample.specs.Attach.{coverBytes}
-use Rattle.resample.specs.Redraw.{redrawn}
+use Rattle.resample.specs.inner.Redraw.{redrawn}
 use Rattle.resample.proofs.attach.write_cover.Tie as tie
 use Rattle.resample.proofs.attach.write_cover.Reads as reads
 use Rattle.resample.proofs.attach.write_cover.Lts as lts

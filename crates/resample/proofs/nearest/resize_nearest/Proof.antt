@@ -12,7 +12,7 @@ use Rattle.props.proofs.SizeLaws.{judged-sound}
 use Rattle.props.specs.Size.{judgedSize, sizeOut}
 use Rattle.resample.proofs.RunLaws.{near-fits, nearRule, nearest-drawn, nearest-refused, nearest-same}
 use Rattle.resample.proofs.nearest.resize_nearest.Statement.{statement}
-use Rattle.resample.specs.Redraw.{redrawn}
+use Rattle.resample.specs.inner.Redraw.{redrawn}
 use Rattle.resample.specs.Run.{nearestRun}
 use Rattle.resample.proofs.nearest.resize_nearest.Tie as tie
 use Rattle.resample.proofs.nearest.resize_nearest.Reads as reads

@@ -6,7 +6,7 @@ use Rattle.laws.proofs.Out.{done-answers, fitted-room, fitted-short, refused-an
 use Rattle.image.proofs.RoundTrip.{length-encode}
 use Rattle.image.specs.Bytes.{decode, encode}
 use Rattle.resample.proofs.write.draw.Statement.{statement}
-use Rattle.resample.specs.Redraw.{redrawn}
+use Rattle.resample.specs.inner.Redraw.{redrawn}
 use Rattle.resample.proofs.write.draw.Tie as tie
 use Rattle.resample.proofs.write.draw.Reads as reads
 use Rattle.resample.proofs.write.draw.Lts as lts

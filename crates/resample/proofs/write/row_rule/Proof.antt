@@ -1,7 +1,7 @@
 use mathlib.Core.Path.{sym}
 use borrow.Author.Needs.{needs}
 use Rattle.resample.proofs.write.row_rule.Statement.{statement}
-use Rattle.resample.specs.Redraw.{RuleFits, rowOf}
+use Rattle.resample.specs.inner.Redraw.{RuleFits, rowOf}
 use Rattle.resample.proofs.write.row_rule.Tie as tie
 use Rattle.resample.proofs.write.row_rule.Reads as reads
 use Rattle.resample.proofs.write.row_rule.Lts as lts

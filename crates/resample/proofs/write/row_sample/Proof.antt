@@ -6,9 +6,11 @@ use Rattle.image.specs.Bytes.{sampleIn}
 use Rattle.resample.proofs.PlaceLaws.{near-in}
 use Rattle.resample.proofs.RedrawLaws.{area-fits}
 use Rattle.resample.proofs.write.row_sample.Statement.{statement}
-use Rattle.resample.specs.Area.{FootIn, areaMean}
-use Rattle.resample.specs.Depth.{DepthsFit, levelOf}
-use Rattle.resample.specs.Redraw.{AreaAxis, RowFits, rasterAt, rowAt}
+use Rattle.resample.specs.Area.{areaMean}
+use Rattle.resample.specs.inner.Sums.{FootIn}
+use Rattle.resample.specs.Depth.{levelOf}
+use Rattle.resample.specs.inner.Depths.{DepthsFit}
+use Rattle.resample.specs.inner.Redraw.{AreaAxis, RowFits, rasterAt, rowAt}
 use Rattle.resample.specs.declared.area.Foot.{Foot}
 use Rattle.resample.specs.declared.write.RowRule.{RowRule}
 use Rattle.resample.proofs.write.row_sample.Tie as tie

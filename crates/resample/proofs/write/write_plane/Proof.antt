@@ -14,7 +14,7 @@ use Rattle.image.specs.Record.{planeOf}
 use Rattle.image.specs.declared.record.Plane.{Plane}
 use Rattle.resample.proofs.RedrawLaws.{Worked, length-rasterBytes, plane-drawn, plane-raster, plane-rule, worked-bytes, worked-fits, worked-rule, worked-size}
 use Rattle.resample.proofs.write.write_plane.Statement.{statement}
-use Rattle.resample.specs.Redraw.{RasterFits, RuleFits, rasterBytes, rasterOf, redrawn}
+use Rattle.resample.specs.inner.Redraw.{RasterFits, RuleFits, rasterBytes, rasterOf, redrawn}
 use Rattle.resample.specs.declared.write.Raster.{Raster}
 use Rattle.resample.proofs.write.write_plane.Tie as tie
 use Rattle.resample.proofs.write.write_plane.Reads as reads

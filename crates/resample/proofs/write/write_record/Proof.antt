@@ -6,7 +6,7 @@ use Rattle.image.specs.Bytes.{decode, encode, headBytes, planeBytes}
 use Rattle.image.specs.Picture.{Pic}
 use Rattle.image.specs.declared.format.Part.the-variants.{Alpha, Cb, Cr, Luma}
 use Rattle.resample.proofs.write.write_record.Statement.{statement}
-use Rattle.resample.specs.Redraw.{redrawn}
+use Rattle.resample.specs.inner.Redraw.{redrawn}
 use Rattle.resample.proofs.write.write_record.Tie as tie
 use Rattle.resample.proofs.write.write_record.Reads as reads
 use Rattle.resample.proofs.write.write_record.Lts as lts

@@ -12,7 +12,7 @@ use Rattle.image.proofs.ByteLaws.{length-sampleBytes}
 use Rattle.image.specs.Bytes.{sampleBytes, samplesOf}
 use Rattle.resample.proofs.RedrawLaws.{length-rasterRow}
 use Rattle.resample.proofs.write.write_row.Statement.{statement}
-use Rattle.resample.specs.Redraw.{rasterAt, rasterRow}
+use Rattle.resample.specs.inner.Redraw.{rasterAt, rasterRow}
 use Rattle.resample.proofs.write.write_row.Tie as tie
 use Rattle.resample.proofs.write.write_row.Reads as reads
 use Rattle.resample.proofs.write.write_row.Lts as lts

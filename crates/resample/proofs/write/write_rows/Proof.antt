@@ -10,7 +10,7 @@ use Rattle.laws.specs.Puts.{puts}
 use Rattle.laws.specs.Span.{span}
 use Rattle.resample.proofs.RedrawLaws.{length-rasterBytes, length-rasterRow, row-fits}
 use Rattle.resample.proofs.write.write_rows.Statement.{statement}
-use Rattle.resample.specs.Redraw.{rasterBytes, rasterRow, rowOf}
+use Rattle.resample.specs.inner.Redraw.{rasterBytes, rasterRow, rowOf}
 use Rattle.resample.specs.declared.write.RowRule.{RowRule}
 use Rattle.resample.proofs.write.write_rows.Tie as tie
 use Rattle.resample.proofs.write.write_rows.Reads as reads

@@ -6,7 +6,7 @@ use Rattle.props.specs.Entry.{entryOut}
 use Rattle.sight.proofs.Quarters.{next}
 use Rattle.scene.proofs.CarryLaws.{Going, going-ends, going-on}
 use Rattle.scene.proofs.carry.draw_chain.Statement.{statement}
-use Rattle.scene.specs.Carry.{buffers, chainBytes, lying}
+use Rattle.scene.specs.inner.Carry.{buffers, chainBytes, lying}
 use Rattle.scene.proofs.carry.draw_chain.Tie as tie
 use Rattle.scene.proofs.carry.draw_chain.Reads as reads
 use Rattle.scene.proofs.carry.draw_chain.Lts as lts

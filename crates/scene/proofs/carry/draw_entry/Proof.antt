@@ -3,7 +3,7 @@ use borrow.Author.Needs.{needs}
 use Rattle.laws.proofs.Order.{pick-false, pick-true}
 use Rattle.scene.proofs.CarryLaws.{crossed-back, crossed-over}
 use Rattle.scene.proofs.carry.draw_entry.Statement.{statement}
-use Rattle.scene.specs.Carry.{buffers, movedOn}
+use Rattle.scene.specs.inner.Carry.{buffers, movedOn}
 use Rattle.scene.proofs.carry.draw_entry.Tie as tie
 use Rattle.scene.proofs.carry.draw_entry.Reads as reads
 use Rattle.scene.proofs.carry.draw_entry.Lts as lts

@@ -2,7 +2,7 @@ use mathlib.Core.Path.{_∙_, ap, sym}
 use lib.Seq.{length-take-le}
 use borrow.Author.Needs.{needs}
 use Rattle.scene.proofs.carry.draw_into.Statement.{statement}
-use Rattle.scene.specs.Carry.{wroteOf}
+use Rattle.scene.specs.inner.Carry.{wroteOf}
 use Rattle.scene.proofs.carry.draw_into.Tie as tie
 use Rattle.scene.proofs.carry.draw_into.Reads as reads
 use Rattle.scene.proofs.carry.draw_into.Lts as lts

@@ -2,7 +2,7 @@ use mathlib.Core.Path.{sym}
 use borrow.Author.Needs.{needs}
 use Rattle.props.specs.Chain.{applies}
 use Rattle.scene.proofs.carry.is_drawn.Statement.{statement}
-use Rattle.scene.specs.Carry.{draws}
+use Rattle.scene.specs.inner.Carry.{draws}
 use Rattle.scene.proofs.carry.is_drawn.Tie as tie
 use Rattle.scene.proofs.carry.is_drawn.Reads as reads
 use Rattle.scene.proofs.carry.is_drawn.Lts as lts

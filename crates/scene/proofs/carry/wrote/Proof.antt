@@ -1,6 +1,6 @@
 use borrow.Author.Needs.{needs}
 use Rattle.scene.proofs.carry.wrote.Statement.{statement}
-use Rattle.scene.specs.Carry.{wroteOf}
+use Rattle.scene.specs.inner.Carry.{wroteOf}
 use Rattle.scene.proofs.carry.wrote.Tie as tie
 use Rattle.scene.proofs.carry.wrote.Reads as reads
 use Rattle.scene.proofs.carry.wrote.Lts as lts

@@ -7,7 +7,7 @@ use Rattle.props.specs.Aperture.{resolvedOut}
 use Rattle.props.specs.Size.{sizeOut}
 use Rattle.transform.proofs.Carried.{turn-form}
 use Rattle.scene.proofs.course.form_after.Statement.{statement}
-use Rattle.scene.specs.Course.{formAfter}
+use Rattle.scene.specs.inner.Course.{formAfter}
 use Rattle.scene.proofs.course.form_after.Tie as tie
 use Rattle.scene.proofs.course.form_after.Reads as reads
 use Rattle.scene.proofs.course.form_after.Lts as lts

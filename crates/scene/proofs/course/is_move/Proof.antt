@@ -1,6 +1,6 @@
 use borrow.Author.Needs.{needs}
 use Rattle.scene.proofs.course.is_move.Statement.{statement}
-use Rattle.scene.specs.Course.{moves}
+use Rattle.scene.specs.inner.Course.{moves}
 use Rattle.scene.proofs.course.is_move.Tie as tie
 use Rattle.scene.proofs.course.is_move.Reads as reads
 use Rattle.scene.proofs.course.is_move.Lts as lts

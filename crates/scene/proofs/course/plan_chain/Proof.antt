@@ -11,7 +11,7 @@ use Rattle.props.specs.declared.entry.PropertyEntry.{PropertyEntry}
 use Rattle.sight.proofs.Quarters.{next}
 use Rattle.scene.proofs.CourseLaws.{course-start, entry-sound, start-sound}
 use Rattle.scene.proofs.course.plan_chain.Statement.{statement}
-use Rattle.scene.specs.Course.{courseAfter, courseOut}
+use Rattle.scene.specs.inner.Course.{courseAfter, courseOut}
 use Rattle.scene.proofs.course.plan_chain.Tie as tie
 use Rattle.scene.proofs.course.plan_chain.Reads as reads
 use Rattle.scene.proofs.course.plan_chain.Lts as lts

@@ -4,7 +4,7 @@ use borrow.Author.Needs.{needs}
 use borrow.Author.Tests.{le-ltb, lt-ltb}
 use Rattle.laws.proofs.Out.{refuse-no, refuse-yes, then-done, then-refused}
 use Rattle.laws.specs.Out.{Out, done}
-use Rattle.scene.specs.Course.{courseOf, courseOut, heldFor, heldOf}
+use Rattle.scene.specs.inner.Course.{courseOf, courseOut, heldFor, heldOf}
 use Rattle.scene.specs.declared.carry.Held.{Held}
 use Rattle.scene.proofs.plan.plan_scene.Statement.{statement}
 use Rattle.scene.proofs.plan.plan_scene.Tie as tie

@@ -1,7 +1,7 @@
 use mathlib.Core.Path.{sym}
 use borrow.Author.Needs.{needs}
 use Rattle.laws.specs.Pick.{pick}
-use Rattle.transform.specs.Move.{lineOf}
+use Rattle.transform.specs.inner.Move.{lineOf}
 use Rattle.transform.proofs.moves.axis_line.Statement.{statement}
 use Rattle.transform.proofs.moves.axis_line.Tie as tie
 use Rattle.transform.proofs.moves.axis_line.Reads as reads

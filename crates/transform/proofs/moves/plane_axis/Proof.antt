@@ -1,7 +1,7 @@
 use mathlib.Core.Path.{sym}
 use borrow.Author.Needs.{needs}
 use Rattle.laws.specs.Pick.{pick}
-use Rattle.transform.specs.Move.{planeAxis}
+use Rattle.transform.specs.inner.Move.{planeAxis}
 use Rattle.transform.proofs.moves.plane_axis.Statement.{statement}
 use Rattle.transform.proofs.moves.plane_axis.Tie as tie
 use Rattle.transform.proofs.moves.plane_axis.Reads as reads

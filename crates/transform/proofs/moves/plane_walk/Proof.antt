@@ -1,6 +1,6 @@
 use mathlib.Core.Path.{sym}
 use borrow.Author.Needs.{needs}
-use Rattle.transform.specs.Move.{walkOf}
+use Rattle.transform.specs.inner.Move.{walkOf}
 use Rattle.transform.proofs.moves.plane_walk.Statement.{statement}
 use Rattle.transform.proofs.moves.plane_walk.Tie as tie
 use Rattle.transform.proofs.moves.plane_walk.Reads as reads

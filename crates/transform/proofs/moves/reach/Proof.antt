@@ -1,7 +1,7 @@
 use mathlib.Core.Path.{sym}
 use borrow.Author.Needs.{needs}
 use Rattle.laws.specs.Pick.{pick}
-use Rattle.transform.specs.Move.{alongFrom}
+use Rattle.transform.specs.inner.Move.{alongFrom}
 use Rattle.transform.proofs.moves.reach.Statement.{statement}
 use Rattle.transform.proofs.moves.reach.Tie as tie
 use Rattle.transform.proofs.moves.reach.Reads as reads

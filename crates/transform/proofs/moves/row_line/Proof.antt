@@ -7,7 +7,7 @@ use borrow.Author.Needs.{needs}
 use Rattle.laws.proofs.Order.{mul-below}
 use Rattle.laws.specs.Pick.{pick}
 use Rattle.transform.proofs.Walks.{reach-small}
-use Rattle.transform.specs.Move.{rowLine}
+use Rattle.transform.specs.inner.Move.{rowLine}
 use Rattle.transform.proofs.moves.row_line.Statement.{statement}
 use Rattle.transform.proofs.moves.row_line.Tie as tie
 use Rattle.transform.proofs.moves.row_line.Reads as reads

@@ -4,7 +4,7 @@ use borrow.Author.Needs.{needs}
 use Rattle.laws.proofs.Writing.{Writing, writing-ended, writing-fits, writing-run, writing-whole}
 use Rattle.image.specs.Bytes.{decode, encode, headBytes, planeBytes}
 use Rattle.image.specs.declared.format.Part.the-variants.{Alpha, Cb, Cr, Luma}
-use Rattle.transform.specs.Move.{moved}
+use Rattle.transform.specs.inner.Move.{moved}
 use Rattle.transform.proofs.moves.write_moved.Statement.{statement}
 use Rattle.transform.proofs.moves.write_moved.Tie as tie
 use Rattle.transform.proofs.moves.write_moved.Reads as reads

@@ -16,7 +16,7 @@ use Rattle.image.specs.declared.format.PixelFormat.{PixelFormat}
 use Rattle.image.specs.declared.record.Plane.{Plane}
 use Rattle.transform.proofs.Drawn.{Worked, plane-drawn, walk-inside, worked-bytes, worked-inside, worked-size}
 use Rattle.transform.proofs.Walks.{length-walkBytes}
-use Rattle.transform.specs.Move.{WalkInside, moved, walkBytes, walkOf}
+use Rattle.transform.specs.inner.Move.{WalkInside, moved, walkBytes, walkOf}
 use Rattle.transform.proofs.moves.write_plane.Statement.{statement}
 use Rattle.transform.proofs.moves.write_plane.Tie as tie
 use Rattle.transform.proofs.moves.write_plane.Reads as reads

@@ -11,10 +11,10 @@ use Rattle.laws.specs.Puts.{puts}
 use Rattle.laws.specs.Span.{span}
 use Rattle.image.proofs.ByteLaws.{length-samplesOf}
 use Rattle.image.specs.Bytes.{samplesOf}
-use Rattle.image.specs.Line.{lineBytes}
+use Rattle.image.specs.inner.Line.{lineBytes}
 use Rattle.image.specs.declared.samples.Line.{Line}
 use Rattle.transform.proofs.Walks.{length-walkBytes, line-fits, row-bytes, row-fits}
-use Rattle.transform.specs.Move.{walkAt, walkBytes}
+use Rattle.transform.specs.inner.Move.{walkAt, walkBytes}
 use Rattle.transform.proofs.moves.write_rows.Statement.{statement}
 use Rattle.transform.proofs.moves.write_rows.Tie as tie
 use Rattle.transform.proofs.moves.write_rows.Reads as reads

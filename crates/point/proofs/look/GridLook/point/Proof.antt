@@ -3,7 +3,7 @@ use borrow.Author.Needs.{needs}
 use Rattle.sight.specs.Sight.{placeOut}
 use Rattle.point.proofs.PointLaws.{held-tiled, point-done, point-refused}
 use Rattle.point.proofs.look.GridLook.point.Statement.{statement}
-use Rattle.point.specs.Look.{gridLooked}
+use Rattle.point.specs.inner.Look.{gridLooked}
 use Rattle.point.proofs.look.GridLook.point.Tie as tie
 use Rattle.point.proofs.look.GridLook.point.Reads as reads
 use Rattle.point.proofs.look.GridLook.point.Lts as lts

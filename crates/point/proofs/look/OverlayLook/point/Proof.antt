@@ -3,7 +3,7 @@ use borrow.Author.Needs.{needs}
 use Rattle.sight.specs.Sight.{placeOut}
 use Rattle.point.proofs.PointLaws.{point-done, point-refused}
 use Rattle.point.proofs.look.OverlayLook.point.Statement.{statement}
-use Rattle.point.specs.Look.{overlayLooked}
+use Rattle.point.specs.inner.Look.{overlayLooked}
 use Rattle.point.specs.Point.{overlayNames}
 use Rattle.point.proofs.look.OverlayLook.point.Tie as tie
 use Rattle.point.proofs.look.OverlayLook.point.Reads as reads

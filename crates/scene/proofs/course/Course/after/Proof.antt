@@ -4,7 +4,7 @@ use Rattle.laws.proofs.Out.{holds-done, then-done, then-refused}
 use Rattle.image.specs.Sound.{FormSound}
 use Rattle.scene.proofs.AfterLaws.{after-sound}
 use Rattle.scene.proofs.course.Course.after.Statement.{statement}
-use Rattle.scene.specs.Course.{courseAfter, formOut}
+use Rattle.scene.specs.inner.Course.{courseAfter, formOut}
 use Rattle.scene.proofs.course.Course.after.Tie as tie
 use Rattle.scene.proofs.course.Course.after.Reads as reads
 use Rattle.scene.proofs.course.Course.after.Lts as lts

@@ -1,6 +1,6 @@
 use borrow.Author.Needs.{needs}
 use Rattle.scene.proofs.course.Course.new.Statement.{statement}
-use Rattle.scene.specs.Course.{setOff}
+use Rattle.scene.specs.inner.Course.{setOff}
 use Rattle.scene.proofs.course.Course.new.Tie as tie
 use Rattle.scene.proofs.course.Course.new.Reads as reads
 use Rattle.scene.proofs.course.Course.new.Lts as lts

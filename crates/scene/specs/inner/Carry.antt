@@ -19,7 +19,7 @@ use Rattle.props.specs.declared.entry.PropertyEntry.{PropertyEntry}
 use Rattle.resample.specs.Run.{areaBytes}
 use Rattle.transform.specs.Run.{turnBytes}
 use Rattle.transform.specs.Turn.{crop, mirror, quarterOf}
-use Rattle.scene.specs.Course.{moves}
+use Rattle.scene.specs.inner.Course.{moves}
 use Rattle.scene.specs.declared.carry.Held.{Held}
 
 -- what an operation writes of a record, where there is room

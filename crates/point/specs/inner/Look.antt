@@ -3,13 +3,13 @@
 use mathlib.Core.List.{List}
 use Prim.Native.Nat.{_*_, _<_, _≤_, ℕ}
 use Rattle.laws.specs.Out.{Out, done, refused}
-use Rattle.derived.specs.Sound.{OverlaySound}
+use Rattle.derived.specs.inner.Sound.{OverlaySound}
 use Rattle.props.specs.Sound.{Inside}
 use Rattle.transform.specs.Place.{Place}
-use Rattle.sight.specs.Sight.{Bounded}
+use Rattle.sight.specs.inner.Bounded.{Bounded}
 use Rattle.sight.specs.declared.CanvasPlace.{CanvasPlace}
 use Rattle.grid.specs.declared.tiles.Tiles.{Tiles}
-use Rattle.overlay.specs.Block.{framesFrom}
+use Rattle.overlay.specs.inner.Block.{framesFrom}
 use Rattle.point.specs.Point.{Look, gridNames, overlayNames}
 use Rattle.point.specs.declared.look.GridLook.{GridLook}
 use Rattle.point.specs.declared.look.GridLookRead.{GridLookRead}

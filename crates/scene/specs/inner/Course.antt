@@ -13,7 +13,7 @@ use Rattle.props.specs.Chain.{foldChain}
 use Rattle.props.specs.Scale.{scaleOf}
 use Rattle.props.specs.declared.entry.Property.{Property}
 use Rattle.props.specs.declared.entry.PropertyEntry.{PropertyEntry}
-use Rattle.transform.specs.Move.{cropMove, turnForm}
+use Rattle.transform.specs.inner.Move.{cropMove, turnForm}
 use Rattle.transform.specs.Turn.{quarterOf}
 use Rattle.scene.specs.Chain.{longer}
 use Rattle.scene.specs.declared.carry.Held.{Held}

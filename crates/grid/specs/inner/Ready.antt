@@ -4,7 +4,8 @@ use mathlib.Core.Path.{_≡_}
 use Prim.Native.Nat.{_*_, _<_, _≤_, ℕ}
 use lib.ListN.{getD}
 use Rattle.laws.specs.Out.{done}
-use Rattle.image.specs.Sound.{FormSound, Sound}
+use Rattle.image.specs.Sound.{FormSound}
+use Rattle.image.specs.inner.Placed.{Sound}
 use Rattle.image.specs.Tray.{framesAt}
 use Rattle.image.specs.declared.format.Form.{Form}
 use Rattle.grid.specs.Run.{framesIn, noFrame}

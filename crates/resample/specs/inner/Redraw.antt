@@ -13,8 +13,10 @@ use Rattle.image.specs.declared.format.Form.{Form}
 use Rattle.image.specs.declared.format.Part.{Part}
 use Rattle.props.specs.Sound.{SizeSound}
 use Rattle.props.specs.declared.size.Size.{Size}
-use Rattle.resample.specs.Area.{FootIn, areaMean, footOf}
-use Rattle.resample.specs.Depth.{DepthsFit, levelOf}
+use Rattle.resample.specs.Area.{areaMean, footOf}
+use Rattle.resample.specs.inner.Sums.{FootIn}
+use Rattle.resample.specs.Depth.{levelOf}
+use Rattle.resample.specs.inner.Depths.{DepthsFit}
 use Rattle.resample.specs.Nearest.{nearPlace, sameSize}
 use Rattle.resample.specs.declared.write.Axis.{Axis}
 use Rattle.resample.specs.declared.write.Raster.{Raster}

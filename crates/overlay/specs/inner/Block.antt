@@ -9,11 +9,13 @@ use lib.ListN.{length}
 use Rattle.laws.specs.Out.{Out, andThen, done, refuse, refused}
 use Rattle.laws.specs.Pick.{pick}
 use Rattle.numbers.specs.declared.Offset.{Offset}
-use Rattle.image.specs.Bytes.{PromotedFits, decode, promotedIn, sampleIn}
+use Rattle.image.specs.Bytes.{decode, sampleIn}
+use Rattle.image.specs.inner.Promoted.{PromotedFits, promotedIn}
 use Rattle.image.specs.Format.{bytesOf, hasAlpha, isMono, sideOf, topOf}
 use Rattle.image.specs.Picture.{needs444, odd}
 use Rattle.image.specs.Record.{planeOf, recordAt}
-use Rattle.image.specs.Sound.{FormSound, Sound}
+use Rattle.image.specs.Sound.{FormSound}
+use Rattle.image.specs.inner.Placed.{Sound}
 use Rattle.image.specs.Tray.{framesAt}
 use Rattle.image.specs.declared.format.Form.{Form}
 use Rattle.image.specs.declared.format.Part.{Part}
@@ -21,7 +23,7 @@ use Rattle.image.specs.declared.format.PixelFormat.{PixelFormat}
 use Rattle.image.specs.declared.record.Frame.{Frame}
 use Rattle.fill.specs.Fill.{fillAlphaOf}
 use Rattle.derived.specs.Overlay.{placementAt}
-use Rattle.derived.specs.Sound.{OverlaySound}
+use Rattle.derived.specs.inner.Sound.{OverlaySound}
 use Rattle.derived.specs.declared.overlay.OverlayDescriptor.{OverlayDescriptor}
 use Rattle.derived.specs.declared.overlay.Placement.{Placement}
 use Rattle.overlay.specs.Overlay.{Layer, base, laid, oddOffset}

@@ -1,0 +1,5 @@
+-- What only proofs and the contracts of inner functions cite: no public promise does.
+pub mod Line
+pub mod Placed
+pub mod Promoted
+pub mod Even
