@@ -1,4 +1,4 @@
--- Laws of the canvas session's words. Assumes nothing.
+-- Laws of the canvas session's words.
 use mathlib.Core.Bool.{true}
 use mathlib.Core.List.{List, [], _++_, _∷_, append-nil}
 use mathlib.Core.Path.{_∙_, _≡_, ap, refl, sym}

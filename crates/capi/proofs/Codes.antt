@@ -1,4 +1,4 @@
--- Laws of answers as one number. Assumes nothing.
+-- Laws of answers as one number.
 use mathlib.Core.List.{List, [], _++_, _∷_}
 use mathlib.Core.Path.{_∙_, _≡_, ap, refl, sym}
 use Prim.Native.Nat.{_+_, _<_, _≤_, ℕ}

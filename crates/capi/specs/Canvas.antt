@@ -1,4 +1,4 @@
--- The canvas session's state as words, and what the calls on them come to. Assumes nothing.
+-- The canvas session's state as words, and what the calls on them come to.
 use mathlib.Core.List.{List, _++_, _∷_}
 use Prim.Native.Nat.{_-_, _^_, ℕ}
 use lib.Dec.{ltb}

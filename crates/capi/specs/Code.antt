@@ -1,4 +1,4 @@
--- Answers as one 64-bit number. Assumes nothing.
+-- Answers as one 64-bit number.
 use Prim.Native.Nat.{_+_, _^_, ℕ}
 use Rattle.laws.specs.Out.{Out, andThen, done, refused}
 use Rattle.laws.specs.declared.Answer.{Answer}

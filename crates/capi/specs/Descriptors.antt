@@ -1,4 +1,4 @@
--- What the calls on descriptor bodies write. Assumes nothing.
+-- What the calls on descriptor bodies write.
 use mathlib.Core.List.{List, [], _∷_}
 use Prim.Native.Nat.{ℕ}
 use lib.Dec.{leb}

@@ -1,4 +1,4 @@
--- What the fill call takes and writes. Assumes nothing.
+-- What the fill call takes and writes.
 use mathlib.Core.Bool.{not}
 use mathlib.Core.List.{List, [], _∷_}
 use Prim.Native.Nat.{ℕ}

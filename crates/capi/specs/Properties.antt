@@ -1,4 +1,4 @@
--- What the calls on chains and properties answer and write. Assumes nothing.
+-- What the calls on chains and properties answer and write.
 use mathlib.Core.List.{List, [], _∷_}
 use Prim.Native.Nat.{ℕ}
 use lib.ListN.{length}

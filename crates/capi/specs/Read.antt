@@ -1,4 +1,4 @@
--- What the reading calls write. Assumes nothing.
+-- What the reading calls write.
 use mathlib.Core.List.{List, [], _∷_, _++_}
 use Prim.Native.Nat.{ℕ}
 use Rattle.laws.specs.Out.{Out, andThen, fitted}

@@ -1,4 +1,4 @@
--- What the point calls take and write (document 01, "Point call"). Assumes nothing.
+-- What the point calls take and write (document 01, "Point call").
 use mathlib.Core.Bool.{Bool, not}
 use mathlib.Core.List.{List, [], _++_, _∷_}
 use Prim.Native.Nat.{ℕ}

@@ -1,4 +1,4 @@
--- The table of document 01's starred cases holds: one equation, computed. Assumes nothing.
+-- The table of document 01's starred cases holds: one equation, computed.
 use mathlib.Core.Path.{refl}
 use lib.Ieee.{add, div, mul, ofInt, round, sub}
 use Rattle.laws.specs.Out.{andThen, fitted, refuse}

@@ -1,5 +1,4 @@
 -- Document 01's starred cases ("Cases"), in its order: calls by the definitions that their contracts cite, and the paper's answers.
--- Assumes nothing.
 use mathlib.Core.Bool.{false}
 use mathlib.Core.List.{List, [], _++_, _∷_, map}
 use mathlib.Core.Path.{_≡_}

@@ -1,4 +1,4 @@
--- Laws of big-endian fields: how large a value is, and where its field ends. Assumes nothing.
+-- Laws of big-endian fields: how large a value is, and where its field ends.
 use mathlib.Core.Bool.{false, true}
 use mathlib.Core.List.{List}
 use mathlib.Core.Path.{_∙_, _≡_, ap, refl, sym}

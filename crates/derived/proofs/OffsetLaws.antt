@@ -1,4 +1,4 @@
--- Laws of an overlay's offsets: where they stand, and what they are. Assumes nothing.
+-- Laws of an overlay's offsets: where they stand, and what they are.
 use mathlib.Core.List.{List}
 use mathlib.Core.Path.{_≡_, ap}
 use Prim.Native.Nat.{_%_, _*_, _+_, _-_, _<_, _^_, _≤_, suc, ℕ}

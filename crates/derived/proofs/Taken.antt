@@ -1,4 +1,4 @@
--- What holds of descriptors that were taken. Assumes nothing.
+-- What holds of descriptors that were taken.
 use mathlib.Core.List.{List}
 use mathlib.Core.Path.{_≡_, ap, refl, sym}
 use Prim.Native.Nat.{_<_, _^_, _≤_, ℕ}

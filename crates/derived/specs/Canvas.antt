@@ -1,4 +1,4 @@
--- What both descriptors have (ISO/IEC 23008-12, 6.6.2; document 01, "Refusals in order", Grid: 1, 2, 1, 3, 4). Assumes nothing.
+-- What both descriptors have (ISO/IEC 23008-12, 6.6.2; document 01, "Refusals in order", Grid: 1, 2, 1, 3, 4).
 use mathlib.Core.Bool.{not}
 use mathlib.Core.List.{List}
 use Prim.Native.Nat.{_%_, _*_, _+_, _^_, ℕ}

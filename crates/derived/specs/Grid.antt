@@ -1,4 +1,4 @@
--- The grid's descriptor (ISO/IEC 23008-12, 6.6.2.3.2). Assumes nothing.
+-- The grid's descriptor (ISO/IEC 23008-12, 6.6.2.3.2).
 use mathlib.Core.List.{List}
 use Prim.Native.Nat.{_+_, ℕ}
 use Rattle.laws.specs.Out.{Out, andThen, done, refused}

@@ -1,4 +1,4 @@
--- The overlay's descriptor (ISO/IEC 23008-12, 6.6.2.2.2; document 01, "Refusals in order", Overlay). Assumes nothing.
+-- The overlay's descriptor (ISO/IEC 23008-12, 6.6.2.2.2; document 01, "Refusals in order", Overlay).
 use mathlib.Core.List.{List}
 use Prim.Native.Nat.{_*_, _+_, _^_, ℕ}
 use lib.Dec.{ltb}

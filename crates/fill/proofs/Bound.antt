@@ -1,4 +1,4 @@
--- How far a fill's samples lie from H.273's figures. Assumes nothing.
+-- How far a fill's samples lie from H.273's figures.
 use mathlib.Core.Bool.{Bool, false, true, true≢false}
 use mathlib.Core.Path.{_≡_, ap, refl, sym}
 use Prim.Native.Nat.{_*_, _+_, _-_, _/_, _<_, _^_, _≤_, min, ℕ}

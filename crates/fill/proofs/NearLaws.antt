@@ -1,5 +1,5 @@
 -- A double that lies near a fraction of whole numbers, and each operation on such doubles. Distances are counted in units of
--- binary64's smallest value, of which W make 1; one operation adds E of them. Assumes nothing.
+-- binary64's smallest value, of which W make 1; one operation adds E of them.
 use mathlib.Core.Bool.{Bool, false, true}
 use mathlib.Core.Path.{_∙_, _≡_, ap, sym}
 use Prim.Native.Nat.{_*_, _+_, _<_, _^_, _≤_, ℕ}

@@ -1,5 +1,5 @@
 -- How far a rounded operation lies from the exact result. A double is a count of units of binary64's smallest value, of which W
--- make 1; up to 2 ^ 24 a result is off by E units at most. Assumes nothing.
+-- make 1; up to 2 ^ 24 a result is off by E units at most.
 use mathlib.Core.Bool.{Bool, false, not, true, true≢false}
 use mathlib.Core.Path.{_∙_, _≡_, ap, ap₂, refl, subst, sym}
 use Prim.Native.Nat.{_%_, _*_, _+_, _-_, _/_, _<_, _^_, _≤_, compare, suc, zero, ℕ}

@@ -1,4 +1,4 @@
--- A fill's samples and its alpha are at most top. Assumes nothing.
+-- A fill's samples and its alpha are at most top.
 use mathlib.Core.Bool.{Bool, false, true}
 use Prim.Native.Nat.{_*_, _<_, _^_, _≤_, ℕ}
 use native.Mathlib.Nat.{le-refl, mul-le-mul-right}

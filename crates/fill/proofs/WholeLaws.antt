@@ -1,4 +1,4 @@
--- A double to a whole number by its whole part t and a test against t + 1/2: a half goes away from zero. Assumes nothing.
+-- A double to a whole number by its whole part t and a test against t + 1/2: a half goes away from zero.
 use mathlib.Core.Bool.{false, true, true≢false}
 use mathlib.Core.Path.{_∙_, _≡_, ap, refl, subst, sym}
 use Prim.Native.Nat.{_*_, _+_, _/_, _<_, _^_, _≤_, ℕ}

@@ -1,4 +1,4 @@
--- H.273's figures for a fill, exact, and what it is to lie less than one step from one. Assumes nothing.
+-- H.273's figures for a fill, exact, and what it is to lie less than one step from one.
 use mathlib.Core.Bool.{Bool}
 use Prim.Native.Nat.{ℕ, _+_, _-_, _*_, _^_, _<_, min}
 use lib.Dec.{eqb}

@@ -1,4 +1,4 @@
--- A fill's samples (document 01, Fill; `fill_to_ycbcr`; H.273), over doubles whose operations round once. Assumes nothing.
+-- A fill's samples (document 01, Fill; `fill_to_ycbcr`; H.273), over doubles whose operations round once.
 use mathlib.Core.Bool.{Bool, true}
 use Prim.Native.Nat.{ℕ, _+_, _-_, _*_, _/_, _^_}
 use lib.Dec.{eqb, ltb}

@@ -1,4 +1,4 @@
--- IEEE 754's binary64 as the fill uses it: each operation rounds once. Assumes nothing.
+-- IEEE 754's binary64 as the fill uses it: each operation rounds once.
 use mathlib.Core.Bool.{false, cond}
 use Prim.Native.Nat.{ℕ, _+_, _*_, _/_, min}
 use lib.IntN.{pos}

@@ -1,4 +1,4 @@
--- Laws of a cell in the canvas's record: it lies inside, and its numbers are small. Assumes nothing.
+-- Laws of a cell in the canvas's record: it lies inside, and its numbers are small.
 use mathlib.Core.Bool.{Bool, _||_, false, true}
 use mathlib.Core.Path.{_∙_, _≡_, ap, refl, sym}
 use Prim.Native.Nat.{_*_, _+_, _<_, _^_, _≤_, ℕ}

@@ -1,4 +1,4 @@
--- Laws of cells: how much of a tile shows along one axis, and rows stored one below the other. Assumes nothing.
+-- Laws of cells: how much of a tile shows along one axis, and rows stored one below the other.
 use mathlib.Core.Bool.{Bool, false, true}
 use mathlib.Core.List.{List}
 use mathlib.Core.Path.{_∙_, _≡_, ap, ap₂, refl, sym}

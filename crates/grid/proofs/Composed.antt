@@ -1,4 +1,4 @@
--- A grid's tiles, stored in turn on a plain canvas, are the composed picture's record. Assumes nothing.
+-- A grid's tiles, stored in turn on a plain canvas, are the composed picture's record.
 use mathlib.Core.Bool.{Bool, _&&_, _||_, false, true}
 use mathlib.Core.List.{List, [], _++_, _∷_}
 use mathlib.Core.Path.{_∙_, _≡_, ap, ap₂, refl, sym}

@@ -1,4 +1,4 @@
--- Laws of a grid that was taken: what holds of its tiles, and that its tiles, stored in turn, are the composed picture. Assumes nothing.
+-- Laws of a grid that was taken: what holds of its tiles, and that its tiles, stored in turn, are the composed picture.
 use mathlib.Core.Bool.{false, not, true}
 use mathlib.Core.List.{List, [], _∷_}
 use mathlib.Core.Logic.{_⊎_, inl, inr}

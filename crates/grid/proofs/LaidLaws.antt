@@ -1,4 +1,4 @@
--- Laws of a record's planes one after the other: where each part's rows stand, and a record with one part changed. Assumes nothing.
+-- Laws of a record's planes one after the other: where each part's rows stand, and a record with one part changed.
 use mathlib.Core.Bool.{Bool, false, true}
 use mathlib.Core.List.{List, [], _++_, append-assoc}
 use mathlib.Core.Path.{_∙_, _≡_, ap, ap₂, refl, sym}

@@ -1,4 +1,4 @@
--- Laws of all tiles of a grid pasted in: the composed picture. Assumes nothing.
+-- Laws of all tiles of a grid pasted in: the composed picture.
 use mathlib.Core.Bool.{Bool, _&&_, false, true}
 use mathlib.Core.List.{List, [], _++_, _∷_}
 use mathlib.Core.Path.{_∙_, _≡_, ap, ap₂, refl, sym}

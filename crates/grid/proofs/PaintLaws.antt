@@ -1,4 +1,4 @@
--- Laws of a canvas before its tiles. Assumes nothing.
+-- Laws of a canvas before its tiles.
 use mathlib.Core.Bool.{false, true}
 use mathlib.Core.List.{List, [], _++_, append-nil}
 use mathlib.Core.Path.{_∙_, _≡_, ap, ap₂, refl, sym}

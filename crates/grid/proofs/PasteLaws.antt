@@ -1,4 +1,4 @@
--- Laws of tiles stored in a canvas's record: its picture with the tiles pasted in. Assumes nothing.
+-- Laws of tiles stored in a canvas's record: its picture with the tiles pasted in.
 use mathlib.Core.Bool.{Bool, _&&_, false, true}
 use mathlib.Core.List.{List, _++_}
 use mathlib.Core.Path.{_∙_, _≡_, ap, ap₂, refl, sym}

@@ -1,4 +1,4 @@
--- Laws of rows and samples stored in the middle of others. Assumes nothing.
+-- Laws of rows and samples stored in the middle of others.
 use mathlib.Core.Bool.{Bool, false, true}
 use mathlib.Core.List.{List, _++_, append-assoc}
 use mathlib.Core.Path.{_∙_, _≡_, ap, ap₂, refl, sym}

@@ -1,4 +1,4 @@
--- Laws of a tile that suits its canvas: its rows are read and written inside, and stored they are the tile's part. Assumes nothing.
+-- Laws of a tile that suits its canvas: its rows are read and written inside, and stored they are the tile's part.
 use mathlib.Core.Bool.{Bool, _&&_, false, not, true}
 use mathlib.Core.List.{List}
 use mathlib.Core.Path.{_∙_, _≡_, ap, ap₂, refl, sym}

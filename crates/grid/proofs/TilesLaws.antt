@@ -1,4 +1,4 @@
--- Laws of a grid's tiles, read in turn and held to the first. Assumes nothing.
+-- Laws of a grid's tiles, read in turn and held to the first.
 use mathlib.Core.Bool.{false, not, true}
 use mathlib.Core.List.{List, _∷_}
 use mathlib.Core.Path.{_∙_, _≡_, ap, refl, sym}

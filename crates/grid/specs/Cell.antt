@@ -1,4 +1,4 @@
--- A tile in its cell of a canvas's bytes ("Grid": tile i covers its cell; what lies beyond the canvas is cut). Assumes nothing.
+-- A tile in its cell of a canvas's bytes ("Grid": tile i covers its cell; what lies beyond the canvas is cut).
 use mathlib.Core.Bool.{Bool, _||_}
 use mathlib.Core.List.{List}
 use Prim.Native.Nat.{_*_, _+_, _-_, suc, zero, ℕ}

@@ -1,4 +1,4 @@
--- The composed picture of a grid ("Grid"), and the canvas that its tiles are stored in. Assumes nothing.
+-- The composed picture of a grid ("Grid"), and the canvas that its tiles are stored in.
 use mathlib.Core.Bool.{Bool, false, true}
 use mathlib.Core.List.{List, [], _++_, _∷_}
 use Prim.Native.Nat.{_%_, _*_, _+_, _/_, ℕ}

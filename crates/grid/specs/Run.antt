@@ -1,4 +1,4 @@
--- composite_grid, from a body and a tray to bytes. Assumes nothing.
+-- composite_grid, from a body and a tray to bytes.
 use mathlib.Core.List.{List, []}
 use Prim.Native.Nat.{ℕ}
 use lib.ListN.{getD}

@@ -1,4 +1,4 @@
--- The tiles of a grid: their refusals, and what they fix ("Grid" and "Refusals in order", Grid). Assumes nothing.
+-- The tiles of a grid: their refusals, and what they fix ("Grid" and "Refusals in order", Grid).
 use mathlib.Core.Bool.{Bool, _&&_, _||_, not}
 use mathlib.Core.List.{List, [], _∷_}
 use Prim.Native.Nat.{_*_, ℕ}

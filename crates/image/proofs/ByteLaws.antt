@@ -1,4 +1,4 @@
--- Laws of samples as bytes, and of a tight record's parts and their lengths. Assumes nothing.
+-- Laws of samples as bytes, and of a tight record's parts and their lengths.
 use mathlib.Core.List.{List, [], _++_, _∷_}
 use mathlib.Core.Path.{_∙_, _≡_, ap, ap₂, refl, sym}
 use Prim.Native.Nat.{_%_, _*_, _+_, _-_, _/_, _<_, _^_, _≤_, suc, zero, ℕ}

@@ -1,4 +1,4 @@
--- Laws of formats: the bounds of tops, sides and rows. Assumes nothing.
+-- Laws of formats: the bounds of tops, sides and rows.
 use mathlib.Core.Bool.{Bool, _||_, false, true}
 use mathlib.Core.Path.{_≡_, ap}
 use Prim.Native.Nat.{_%_, _*_, _<_, _^_, _≤_, ℕ}

@@ -1,4 +1,4 @@
--- Laws of lines of samples. Assumes nothing.
+-- Laws of lines of samples.
 use mathlib.Core.List.{List, []}
 use mathlib.Core.Path.{_∙_, _≡_, ap, ap₂}
 use Prim.Native.Nat.{_*_, _+_, _-_, _/_, _<_, _^_, _≤_, suc, ℕ}

@@ -1,4 +1,4 @@
--- Laws of pictures: what promotion keeps, and even sides along one axis. Assumes nothing.
+-- Laws of pictures: what promotion keeps, and even sides along one axis.
 use mathlib.Core.Bool.{Bool, _&&_, false, true}
 use mathlib.Core.Path.{_∙_, _≡_, refl}
 use Prim.Native.Nat.{_%_, _+_, _-_, _<_, _≤_, ℕ}

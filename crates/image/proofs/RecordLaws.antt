@@ -1,4 +1,4 @@
--- What holds of a record that was taken. Assumes nothing.
+-- What holds of a record that was taken.
 use mathlib.Core.Bool.{false, true}
 use mathlib.Core.List.{List}
 use mathlib.Core.Path.{_∙_, _≡_, ap, refl, sym}

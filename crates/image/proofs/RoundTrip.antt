@@ -1,4 +1,4 @@
--- What was encoded reads back: the tight record of a picture is taken, and shows the picture. Assumes nothing.
+-- What was encoded reads back: the tight record of a picture is taken, and shows the picture.
 use mathlib.Core.Bool.{Bool, false, true}
 use mathlib.Core.List.{List, [], _++_, _∷_, append-assoc, append-nil}
 use mathlib.Core.Path.{_∙_, _≡_, ap, ap₂, refl, sym}

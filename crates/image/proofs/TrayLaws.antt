@@ -1,4 +1,4 @@
--- Laws of trays: reading record by record. Assumes nothing.
+-- Laws of trays: reading record by record.
 use mathlib.Core.List.{List, [], _∷_}
 use mathlib.Core.Path.{_∙_, _≡_, ap, refl, sym}
 use Prim.Native.Nat.{_-_, _<_, _≤_, suc, zero, ℕ}

@@ -1,4 +1,4 @@
--- Pictures and records: what a record's bytes show, and the tight record of a picture. Assumes nothing.
+-- Pictures and records: what a record's bytes show, and the tight record of a picture.
 use mathlib.Core.List.{List, [], _∷_, _++_}
 use Prim.Native.Nat.{ℕ, _+_, _*_, _/_, _%_, _<_}
 use lib.Dec.{eqb}

@@ -1,5 +1,4 @@
 -- Pixel formats: what a chroma number, a depth and an alpha number say of a picture's planes (document 01, "What is handed in").
--- Assumes nothing.
 use mathlib.Core.Bool.{Bool, true, false, not, _||_}
 use Prim.Native.Nat.{ℕ, _+_, _-_, _*_, _/_, _^_}
 use lib.Dec.{eqb, ltb, leb}

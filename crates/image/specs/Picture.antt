@@ -1,4 +1,4 @@
--- Pictures as functions, what a plane reads at a place, and promotion to 4:4:4. Assumes nothing.
+-- Pictures as functions, what a plane reads at a place, and promotion to 4:4:4.
 use mathlib.Core.Bool.{Bool, _&&_, _||_, true}
 use mathlib.Core.Path.{_≡_}
 use Prim.Native.Nat.{_%_, _<_, ℕ}

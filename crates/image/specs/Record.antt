@@ -1,4 +1,4 @@
--- Frame records ("What is handed in" and "Refusals in order", Record). Assumes nothing.
+-- Frame records ("What is handed in" and "Refusals in order", Record).
 use mathlib.Core.List.{List}
 use Prim.Native.Nat.{ℕ, _+_, _-_, _*_}
 use lib.Dec.{ltb}

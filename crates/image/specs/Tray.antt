@@ -1,4 +1,4 @@
--- Trays: a count, then that many records, nothing after ("What is handed in"). Assumes nothing.
+-- Trays: a count, then that many records, nothing after ("What is handed in").
 use mathlib.Core.List.{List, [], _∷_}
 use Prim.Native.Nat.{ℕ, zero, suc}
 use lib.Dec.{ltb}

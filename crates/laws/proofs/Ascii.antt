@@ -1,4 +1,4 @@
--- Texts as bytes, computed from the definition. Assumes nothing.
+-- Texts as bytes, computed from the definition.
 use mathlib.Core.List.{[], _∷_}
 use mathlib.Core.Path.{_≡_, refl}
 use Rattle.laws.specs.Ascii.{ascii, characterBytes}

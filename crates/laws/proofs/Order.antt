@@ -1,4 +1,4 @@
--- Proofs by cases on an order or on a test, and bounds of products. Assumes nothing.
+-- Proofs by cases on an order or on a test, and bounds of products.
 use mathlib.Core.Path.{_≡_, refl, sym, _∙_}
 use mathlib.Core.Bool.{Bool, true, false, _&&_, _||_}
 use Prim.Native.Nat.{ℕ, _+_, _*_, _≤_, _<_}

@@ -1,4 +1,4 @@
--- Laws of answers and refusals. Assumes nothing.
+-- Laws of answers and refusals.
 use mathlib.Core.Path.{_≡_, refl, sym, ap, _∙_}
 use mathlib.Core.Bool.{Bool, true, false}
 use mathlib.Core.List.{List}

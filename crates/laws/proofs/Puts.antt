@@ -1,4 +1,4 @@
--- Laws of bytes stored one after the other. Assumes nothing.
+-- Laws of bytes stored one after the other.
 use mathlib.Core.Path.{_≡_, refl, sym, ap, _∙_}
 use mathlib.Core.List.{List, [], _∷_, _++_, append-assoc}
 use Prim.Native.Nat.{ℕ, _+_, _-_, _≤_, _<_}

@@ -1,4 +1,4 @@
--- Laws of lists that are made item by item. Assumes nothing.
+-- Laws of lists that are made item by item.
 use mathlib.Core.Path.{_≡_, refl, sym, ap, ap₂, _∙_}
 use mathlib.Core.List.{List, [], _++_, append-assoc}
 use Prim.Native.Nat.{ℕ, zero, suc, _+_, _-_, _*_, _≤_, _<_}

@@ -1,4 +1,4 @@
--- The record that a loop or a run of calls carries while it stores bytes one after the other. Assumes nothing.
+-- The record that a loop or a run of calls carries while it stores bytes one after the other.
 use mathlib.Core.Path.{_≡_, refl, sym, ap, _∙_}
 use mathlib.Core.List.{List, [], _∷_, _++_}
 use Prim.Native.Nat.{ℕ, _+_, _≤_}

@@ -1,4 +1,4 @@
--- Texts in definitions: the bytes of a quoted text. Assumes nothing.
+-- Texts in definitions: the bytes of a quoted text.
 use mathlib.Core.List.{List, [], _++_, _∷_}
 use Prim.Native.Char.{code}
 use Prim.Native.Nat.{_%_, _+_, _/_, ℕ}

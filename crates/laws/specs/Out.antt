@@ -1,4 +1,4 @@
--- What a call comes to: an answer, or why it refuses. Assumes nothing.
+-- What a call comes to: an answer, or why it refuses.
 use mathlib.Core.Bool.{Bool, true, false}
 use mathlib.Core.List.{List, _++_}
 use Prim.Native.Nat.{ℕ}

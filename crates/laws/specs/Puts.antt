@@ -1,4 +1,4 @@
--- Bytes stored one after the other in a list. Assumes nothing.
+-- Bytes stored one after the other in a list.
 use mathlib.Core.List.{List, [], _∷_}
 use Prim.Native.Nat.{ℕ, _+_}
 use lib.ListN.{set}

@@ -1,4 +1,4 @@
--- A list that is made item by item. Assumes nothing.
+-- A list that is made item by item.
 use mathlib.Core.List.{List, [], _++_}
 use Prim.Native.Nat.{ℕ, zero, suc, _+_, _-_}
 

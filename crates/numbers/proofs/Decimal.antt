@@ -1,4 +1,4 @@
--- Laws of decimal text. Assumes nothing.
+-- Laws of decimal text.
 use mathlib.Core.Path.{_≡_, refl, sym, _∙_}
 use mathlib.Core.List.{List, [], _∷_}
 use Prim.Native.Nat.{ℕ, zero, suc, _+_, _*_, _/_, _%_, _^_, _≤_, _<_}

@@ -1,4 +1,4 @@
--- Laws of big-endian fields. Assumes nothing.
+-- Laws of big-endian fields.
 use mathlib.Core.Path.{_≡_, refl}
 use mathlib.Core.List.{List}
 use Prim.Native.Nat.{ℕ, _+_, _*_, _^_, _≤_, _<_}

@@ -1,5 +1,5 @@
 -- Laws of house numbers: a step of the writer, a step of the reader; what was written is read back, and what is read is the shortest
--- form. Assumes nothing.
+-- form.
 use mathlib.Core.Path.{_≡_, refl, sym, ap, ap₂, _∙_}
 use mathlib.Core.List.{List, [], _∷_, _++_}
 use Prim.Native.Nat.{ℕ, zero, suc, _+_, _-_, _*_, _/_, _%_, _^_, _≤_, _<_}

@@ -1,4 +1,4 @@
--- A number as decimal text, in ASCII. Assumes nothing.
+-- A number as decimal text, in ASCII.
 use mathlib.Core.List.{List, [], _∷_}
 use Prim.Native.Nat.{ℕ, zero, suc, _+_, _/_, _%_}
 use lib.Dec.{ltb}

@@ -1,4 +1,4 @@
--- Big-endian fields, and signed numbers by their patterns (ISO/IEC 23008-12's unsigned int and signed int). Assumes nothing.
+-- Big-endian fields, and signed numbers by their patterns (ISO/IEC 23008-12's unsigned int and signed int).
 use mathlib.Core.List.{List}
 use Prim.Native.Nat.{ℕ, zero, suc, _+_, _-_, _*_, _/_}
 use lib.Dec.{ltb}

@@ -1,4 +1,4 @@
--- House numbers (document 01, "What is handed in"). Assumes nothing.
+-- House numbers (document 01, "What is handed in").
 use mathlib.Core.List.{List, [], _∷_}
 use Prim.Native.Nat.{ℕ, zero, suc, _+_, _-_, _*_, _/_, _%_, _^_}
 use lib.Dec.{ltb, leb}

@@ -1,4 +1,4 @@
--- Bounds of the blending arithmetic: every number fits. Assumes nothing.
+-- Bounds of the blending arithmetic: every number fits.
 use mathlib.Core.Path.{_≡_}
 use Prim.Native.Nat.{_*_, _+_, _-_, _/_, _<_, _^_, _≤_, ℕ}
 use native.Mathlib.Nat.{div-le-self}

@@ -1,6 +1,5 @@
 -- Document 01's two sentences on an overlay's places: one that no input covers holds fill and fill alpha exactly; one whose covering
 -- inputs all have alpha top or straight alpha 0 there ends as the topmost at top, capped at top, with alpha top, or as the fill.
--- Assumes nothing.
 use mathlib.Core.Bool.{Bool, _&&_, and-false, false, true}
 use mathlib.Core.List.{List, [], _∷_}
 use mathlib.Core.Path.{_∙_, _≡_, ap, ap₂, refl, sym}

@@ -1,4 +1,4 @@
--- Where nothing is promoted all lies even: a halved plane, too, reads at each place what is worked there. Assumes nothing.
+-- Where nothing is promoted all lies even: a halved plane, too, reads at each place what is worked there.
 use mathlib.Core.Bool.{Bool, _&&_, _||_, false, not, true}
 use mathlib.Core.List.{List, [], _∷_}
 use mathlib.Core.Path.{_∙_, _≡_, ap, ap₂, refl, sym}

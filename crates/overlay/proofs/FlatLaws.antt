@@ -1,4 +1,4 @@
--- A plane's rows one after the other are one run of samples. Assumes nothing.
+-- A plane's rows one after the other are one run of samples.
 use mathlib.Core.Bool.{Bool}
 use mathlib.Core.List.{List, _++_, append-nil}
 use mathlib.Core.Path.{_∙_, _≡_, ap, ap₂, sym}

@@ -1,4 +1,4 @@
--- Laws of records in turn, and of the search through them. Assumes nothing.
+-- Laws of records in turn, and of the search through them.
 use mathlib.Core.Bool.{Bool, _&&_, _||_, false, true}
 use mathlib.Core.List.{List, [], _∷_}
 use mathlib.Core.Path.{_∙_, _≡_, ap, ap₂, refl, sym}

@@ -1,5 +1,4 @@
 -- What the inputs come to, noted one after the other, is what the definition asks of them all; and the runs step by step.
--- Assumes nothing.
 use mathlib.Core.Bool.{Bool, _||_, false, not, true}
 use mathlib.Core.List.{List, [], _++_, _∷_, append-assoc, append-nil}
 use mathlib.Core.Path.{_∙_, _≡_, ap, ap₂, refl, sym}

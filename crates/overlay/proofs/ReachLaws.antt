@@ -1,4 +1,4 @@
--- Which samples of a stripe an input covers. Assumes nothing.
+-- Which samples of a stripe an input covers.
 use mathlib.Core.Bool.{Bool, false, true}
 use mathlib.Core.Path.{_∙_, _≡_, ap}
 use Prim.Native.Nat.{_%_, _*_, _+_, _-_, _/_, _<_, _≤_, max, min, ℕ}

@@ -1,4 +1,4 @@
--- The run step by step: what holds of a plan that was read, and what is left to answer. Assumes nothing.
+-- The run step by step: what holds of a plan that was read, and what is left to answer.
 use mathlib.Core.Bool.{Bool, false}
 use mathlib.Core.List.{List}
 use mathlib.Core.Path.{_∙_, _≡_, ap, ap₂, sym}

@@ -1,5 +1,5 @@
 -- Document 01's two sentences on overlay places (Overlay): what the composed picture reads where no input covers, and where all that
--- cover have alpha top or straight alpha 0. Assumes nothing.
+-- cover have alpha top or straight alpha 0.
 use mathlib.Core.Bool.{false}
 use mathlib.Core.List.{List}
 use mathlib.Core.Path.{_∙_, _≡_}

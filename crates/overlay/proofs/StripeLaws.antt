@@ -1,4 +1,4 @@
--- Samples of a stripe laid one after the other, row after row. Assumes nothing.
+-- Samples of a stripe laid one after the other, row after row.
 use mathlib.Core.Bool.{Bool, _&&_, false, not, true, true≢false}
 use mathlib.Core.List.{List}
 use mathlib.Core.Path.{_∙_, _≡_, ap, ap₂, refl, sym}

@@ -1,4 +1,4 @@
--- What a place of the overlay ends as where nothing is translucent there (document 01, Overlay). Assumes nothing.
+-- What a place of the overlay ends as where nothing is translucent there (document 01, Overlay).
 use mathlib.Core.Bool.{Bool, _&&_, false, true}
 use mathlib.Core.List.{List, [], _∷_}
 use mathlib.Core.Path.{_≡_}

@@ -1,4 +1,4 @@
--- What composite_overlay answers and writes (document 01, Overlay and "Refusals in order"). Assumes nothing.
+-- What composite_overlay answers and writes (document 01, Overlay and "Refusals in order").
 use mathlib.Core.Bool.{Bool, _&&_, _||_, false, not}
 use mathlib.Core.List.{List, [], _∷_}
 use Prim.Native.Nat.{_+_, suc, zero, ℕ}

@@ -32,7 +32,6 @@ use Rattle.overlay.specs.Run.{firstFormat, inputsAt, otherDepth}
 use Rattle.point.specs.Alike.{SameBytes, SameHead, SameNumber, SameParts, SameRecords, SameTray}
 use Rattle.point.specs.Point.{Look, gridLook, gridNames, gridPoint, lookOn, overlayLook, overlayNames, overlayPoint, pointFrom, seeThroughFrame}
 
--- Assumes nothing.
 
 -- ---- runs step by step, of two that read the same
 

@@ -1,5 +1,4 @@
 -- A chain on a composed picture and the point run on its size: they agree, for any naming of places that the picture reads by.
--- Assumes nothing.
 use mathlib.Core.Bool.{Bool, true}
 use mathlib.Core.List.{List, []}
 use mathlib.Core.Path.{_∙_, _≡_, ap, refl, sym}

@@ -1,5 +1,5 @@
 -- The composed grid reads, at each place of its canvas, what is read at the tile and the spot that the place names; no two places name
--- one spot; its halved sides are even. Assumes nothing.
+-- one spot; its halved sides are even.
 use mathlib.Core.Bool.{Bool, false, true}
 use mathlib.Core.List.{List, [], _∷_}
 use mathlib.Core.Path.{_∙_, _≡_, ap, ap₂, refl, sym}

@@ -1,4 +1,4 @@
--- A point call as one run: the steps before the place, then the place. Assumes nothing.
+-- A point call as one run: the steps before the place, then the place.
 use mathlib.Core.Bool.{Bool}
 use mathlib.Core.List.{List}
 use mathlib.Core.Path.{_∙_, _≡_, ap, refl}

@@ -1,5 +1,5 @@
 -- The composed overlay of inputs without alpha reads, at each place of its canvas, what is read at the input and the spot that the place
--- names, or the fill; no two places name one spot; its halved sides are even. Assumes nothing.
+-- names, or the fill; no two places name one spot; its halved sides are even.
 use mathlib.Core.Bool.{Bool, _&&_, _||_, false, not, true}
 use mathlib.Core.List.{List, [], _∷_}
 use mathlib.Core.Path.{_∙_, _≡_, ap, ap₂, refl, sym}

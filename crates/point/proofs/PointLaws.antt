@@ -1,4 +1,4 @@
--- Laws of the point calls: everything before the place step by step, and what holds of a place that was found. Assumes nothing.
+-- Laws of the point calls: everything before the place step by step, and what holds of a place that was found.
 use mathlib.Core.Bool.{Bool, _&&_, _||_, false, not, true}
 use mathlib.Core.List.{List, [], _∷_}
 use mathlib.Core.Path.{_∙_, _≡_, ap, ap₂, refl, sym}

@@ -1,4 +1,4 @@
--- Picture runs and point runs that begin alike, step by step: what holds of them after the first steps holds of the whole. Assumes nothing.
+-- Picture runs and point runs that begin alike, step by step: what holds of them after the first steps holds of the whole.
 use mathlib.Core.Bool.{Bool}
 use mathlib.Core.List.{List, [], _∷_}
 use mathlib.Core.Path.{_≡_, ap, refl}

@@ -1,5 +1,5 @@
 -- What a picture run and the point runs over the same descriptor, tray, chain and settings have to do with each other, in the words of
--- document 01 ("Point call"): demand 3 is said with these. Assumes nothing.
+-- document 01 ("Point call"): demand 3 is said with these.
 use mathlib.Core.Bool.{Bool, false, true}
 use mathlib.Core.List.{List, [], _∷_}
 use mathlib.Core.Path.{_≡_}

@@ -1,4 +1,4 @@
--- Trays alike in all but their sample values, said of their bytes (document 01, "What is handed in"). Assumes nothing.
+-- Trays alike in all but their sample values, said of their bytes (document 01, "What is handed in").
 use mathlib.Core.List.{List, [], _∷_}
 use mathlib.Core.Path.{_≡_}
 use Prim.Native.Nat.{_+_, _<_, _≤_, suc, zero, ℕ}

@@ -1,4 +1,4 @@
--- The point calls (document 01, "Point call" and "Refusals in order", Point). Assumes nothing.
+-- The point calls (document 01, "Point call" and "Refusals in order", Point).
 use mathlib.Core.Bool.{Bool, _&&_}
 use mathlib.Core.List.{List, [], _∷_}
 use Prim.Native.Nat.{_%_, _*_, _+_, _/_, ℕ}

@@ -1,4 +1,4 @@
--- What document 01 reads at an input and a spot ("Point call"). Assumes nothing.
+-- What document 01 reads at an input and a spot ("Point call").
 use mathlib.Core.List.{List}
 use Prim.Native.Nat.{min, ℕ}
 use lib.ListN.{getD, length}

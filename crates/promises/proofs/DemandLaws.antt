@@ -1,4 +1,4 @@
--- Demand 3, of grids and of overlays whose inputs have no alpha. Assumes nothing.
+-- Demand 3, of grids and of overlays whose inputs have no alpha.
 use mathlib.Core.Bool.{Bool, false}
 use mathlib.Core.List.{List, []}
 use mathlib.Core.Path.{_∙_, _≡_, ap, ap₂, refl, sym}

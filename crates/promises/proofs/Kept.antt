@@ -1,4 +1,4 @@
--- The promises, each by its law. Assumes nothing.
+-- The promises, each by its law.
 use mathlib.Core.Path.{_≡_}
 use Prim.Native.Nat.{_-_, _^_, _≤_, ℕ}
 use lib.ListN.{drop, take}

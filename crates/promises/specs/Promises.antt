@@ -1,5 +1,4 @@
 -- What is promised beyond the calls' contracts: each theorem that document 01 or the demands ask for, with the sentence that asks for it.
--- Assumes nothing.
 use mathlib.Core.Bool.{Bool, false, true}
 use mathlib.Core.List.{List, [], _++_, _∷_}
 use mathlib.Core.Path.{_≡_}

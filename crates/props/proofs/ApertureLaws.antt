@@ -1,4 +1,4 @@
--- Laws of the clean aperture: its edge told by natural numbers, and where its rectangle lies. Assumes nothing.
+-- Laws of the clean aperture: its edge told by natural numbers, and where its rectangle lies.
 use mathlib.Core.Bool.{false, not}
 use mathlib.Core.Path.{_∙_, _≡_, ap, refl, sym}
 use Prim.Native.Nat.{_%_, _*_, _+_, _-_, _/_, _<_, _^_, _≤_, suc, zero, ℕ}

@@ -1,4 +1,4 @@
--- Laws of chains: judging entry by entry, going through entries that were judged, folding over them. Assumes nothing.
+-- Laws of chains: judging entry by entry, going through entries that were judged, folding over them.
 use mathlib.Core.Bool.{Bool, false, true}
 use mathlib.Core.List.{List, [], _∷_}
 use mathlib.Core.Path.{_∙_, _≡_, ap, refl, sym}

@@ -1,4 +1,4 @@
--- Chains are told by their first bytes: an entry takes at most fifty. Assumes nothing.
+-- Chains are told by their first bytes: an entry takes at most fifty.
 use mathlib.Core.Bool.{Bool}
 use mathlib.Core.List.{List, _∷_}
 use mathlib.Core.Path.{_∙_, _≡_, ap, ap₂, refl, sym}

@@ -1,4 +1,4 @@
--- Laws of sizes: scaling rounds up, and a chain keeps within a picture's limits. Assumes nothing.
+-- Laws of sizes: scaling rounds up, and a chain keeps within a picture's limits.
 use mathlib.Core.Bool.{Bool, _&&_, false, true}
 use mathlib.Core.List.{List}
 use mathlib.Core.Path.{_∙_, _≡_, refl, sym}

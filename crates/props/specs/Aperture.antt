@@ -1,4 +1,4 @@
--- The clean aperture (ISO/IEC 14496-12, 12.1.4; document 01, clap). Assumes nothing.
+-- The clean aperture (ISO/IEC 14496-12, 12.1.4; document 01, clap).
 use mathlib.Core.Bool.{not}
 use mathlib.Core.Path.{_≡_}
 use Prim.Native.Nat.{_%_, _*_, _+_, _-_, _/_, _^_, _≤_, suc, ℕ}

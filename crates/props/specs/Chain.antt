@@ -1,4 +1,4 @@
--- Chains of properties (document 01, "What is handed in" and "Refusals in order", Scene). Assumes nothing.
+-- Chains of properties (document 01, "What is handed in" and "Refusals in order", Scene).
 use mathlib.Core.Bool.{Bool, _||_, not}
 use mathlib.Core.List.{List, [], _∷_}
 use Prim.Native.Nat.{suc, zero, ℕ}

@@ -1,4 +1,4 @@
--- A chain's entries (document 01, "What is handed in" and "Refusals in order", Scene: 5). Assumes nothing.
+-- A chain's entries (document 01, "What is handed in" and "Refusals in order", Scene: 5).
 use mathlib.Core.List.{List}
 use Prim.Native.Nat.{ℕ}
 use lib.Dec.{eqb, ltb}

@@ -1,4 +1,4 @@
--- Image scaling (ISO/IEC 23008-12, 6.5.13; document 01, iscl). Assumes nothing.
+-- Image scaling (ISO/IEC 23008-12, 6.5.13; document 01, iscl).
 use mathlib.Core.Bool.{_&&_}
 use Prim.Native.Nat.{_*_, _+_, _-_, _/_, _^_, ℕ}
 use lib.Dec.{eqb, ltb}

@@ -1,4 +1,4 @@
--- A picture's size, and what a property makes of it (document 01, clap to iscl). Assumes nothing.
+-- A picture's size, and what a property makes of it (document 01, clap to iscl).
 use Prim.Native.Nat.{_%_, _*_, _^_, ℕ}
 use lib.Dec.{eqb, ltb}
 use Rattle.laws.specs.Out.{Out, andThen, done, refuse, refused}

@@ -1,4 +1,4 @@
--- What holds of rectangles and sizes that were taken. Assumes nothing.
+-- What holds of rectangles and sizes that were taken.
 use Prim.Native.Nat.{_*_, _+_, _^_, _≤_, ℕ}
 use Rattle.props.specs.declared.clap.CropRect.{CropRect}
 use Rattle.props.specs.declared.size.Size.{Size}

@@ -1,4 +1,4 @@
--- What each operation makes of a picture depends on its samples in range alone. Assumes nothing.
+-- What each operation makes of a picture depends on its samples in range alone.
 use mathlib.Core.Path.{_∙_, _≡_, ap, ap₂, refl}
 use Prim.Native.Nat.{_*_, _+_, _-_, _<_, _≤_, suc, zero, ℕ}
 use native.Mathlib.Omega.{arith}

@@ -1,4 +1,4 @@
--- Laws of attached alpha planes: what is kept as it stands, how long it is, and what is drawn. Assumes nothing.
+-- Laws of attached alpha planes: what is kept as it stands, how long it is, and what is drawn.
 use mathlib.Core.Bool.{false, true}
 use mathlib.Core.List.{List, [], _++_}
 use mathlib.Core.Path.{_∙_, _≡_, ap, refl}

@@ -1,4 +1,4 @@
--- Laws of another depth, for every pair of depths: 0 stays 0, top becomes top, and the order is kept. Assumes nothing.
+-- Laws of another depth, for every pair of depths: 0 stays 0, top becomes top, and the order is kept.
 use mathlib.Core.Path.{_∙_, _≡_, ap}
 use Prim.Native.Nat.{_*_, _+_, _/_, _<_, _≤_, ℕ}
 use native.Mathlib.Nat.{add-zero, div-eq-of-lt, div-mul-le-self, le-div-iff-mul-le, le-trans, mul-add-div, mul-le-mul-right, zero-mul}

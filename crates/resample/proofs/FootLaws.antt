@@ -1,4 +1,4 @@
--- Laws of footprints: where they lie, how samples share them, and the weighed sums, which fit 64 bits. Assumes nothing.
+-- Laws of footprints: where they lie, how samples share them, and the weighed sums, which fit 64 bits.
 use mathlib.Core.Path.{_∙_, _≡_, ap, sym}
 use Prim.Native.Nat.{_*_, _+_, _-_, _/_, _<_, _^_, _≤_, suc, ℕ}
 use native.Mathlib.Nat.{add-mul, div-le-of-le-mul, div-lt-iff-lt-mul, div-mul-le-self, le-div-iff-mul-le, le-trans, mul-assoc, mul-comm, mul-le-mul, mul-le-mul-right, mul-left-comm, suc-mul, zero-add}

@@ -1,4 +1,4 @@
--- A mean over footprints is a mean: the weights of a footprint sum to its length, and a plane of one value keeps it. Assumes nothing.
+-- A mean over footprints is a mean: the weights of a footprint sum to its length, and a plane of one value keeps it.
 use mathlib.Core.Path.{_∙_, _≡_, ap}
 use Prim.Native.Nat.{_*_, _+_, _-_, _/_, _<_, _≤_, suc, zero, ℕ}
 use native.Mathlib.Nat.{add-mul, div-lt-iff-lt-mul, le-div-iff-mul-le, mul-assoc, mul-comm}

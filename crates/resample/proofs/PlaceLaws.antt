@@ -1,4 +1,4 @@
--- Laws of nearest samples and of depths. Assumes nothing.
+-- Laws of nearest samples and of depths.
 use mathlib.Core.Path.{_≡_, refl}
 use Prim.Native.Nat.{_*_, _<_, _^_, _≤_, ℕ}
 use native.Mathlib.Nat.{div-lt-iff-lt-mul, mul-comm, mul-div-cancel, mul-lt-mul-of-pos-right}

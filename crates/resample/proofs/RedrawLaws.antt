@@ -1,4 +1,4 @@
--- What the writer draws is the redrawn picture, plane by plane. Assumes nothing.
+-- What the writer draws is the redrawn picture, plane by plane.
 use mathlib.Core.Bool.{true}
 use mathlib.Core.List.{List, _++_}
 use mathlib.Core.Path.{_≡_}

@@ -1,4 +1,4 @@
--- The runs in terms of the pictures that the writer draws. Assumes nothing.
+-- The runs in terms of the pictures that the writer draws.
 use mathlib.Core.Bool.{Bool, _&&_, false, true}
 use mathlib.Core.List.{List}
 use mathlib.Core.Path.{_∙_, _≡_, ap, ap₂, refl, sym}

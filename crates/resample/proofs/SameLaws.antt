@@ -1,4 +1,4 @@
--- An equal depth and an equal size are the identity. Assumes nothing.
+-- An equal depth and an equal size are the identity.
 use mathlib.Core.Path.{_∙_, _≡_, ap, ap₂, refl}
 use Prim.Native.Nat.{_*_, _+_, _-_, _/_, _≤_, ℕ}
 use native.Mathlib.Nat.{add-zero, mul-div-cancel, mul-right-comm}

@@ -1,4 +1,4 @@
--- What each operation makes of a picture whose samples fit their bytes has samples that fit theirs. Assumes nothing.
+-- What each operation makes of a picture whose samples fit their bytes has samples that fit theirs.
 use mathlib.Core.Path.{_∙_, _≡_, refl, sym}
 use Prim.Native.Nat.{_*_, _+_, _-_, _/_, _<_, _^_, _≤_, suc, zero, ℕ}
 use native.Mathlib.Nat.{div-lt-iff-lt-mul, mul-assoc, mul-comm, mul-le-mul, mul-left-comm, suc-mul}

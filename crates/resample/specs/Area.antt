@@ -1,6 +1,5 @@
 -- Another size by means over footprints (document 01, iscl, `resize_area`): a box where there are fewer samples, linear between
 -- the two nearest centres where there are more; each plane between its own sizes. Lengths along an axis are in 256ths of a sample.
--- Assumes nothing.
 use Prim.Native.Nat.{_*_, _+_, _-_, _/_, suc, zero, ℕ}
 use lib.Dec.{leb}
 use Rattle.laws.specs.Pick.{pick}

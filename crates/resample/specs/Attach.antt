@@ -1,6 +1,6 @@
 -- An attached alpha plane (document 01, "Other operations", `attach_alpha`): the master's colour planes as they stand, stride and
 -- spare bytes with them; as alpha the other record's luma, as it stands where neither size nor depth changes, else at the nearest
--- samples and then the master's depth, tight. Assumes nothing.
+-- samples and then the master's depth, tight.
 use mathlib.Core.Bool.{Bool, _&&_}
 use mathlib.Core.List.{List, [], _++_}
 use Prim.Native.Nat.{ℕ}

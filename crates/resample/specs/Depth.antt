@@ -1,5 +1,5 @@
 -- Another depth (document 01, "Other operations", `rescale_depth`): round(v × new top / old top), capped at the new top; an equal
--- depth is the sample as it is. Assumes nothing.
+-- depth is the sample as it is.
 use Prim.Native.Nat.{_*_, _-_, _^_, ℕ}
 use lib.Dec.{eqb}
 use Rattle.laws.specs.Pick.{pick}

@@ -1,5 +1,4 @@
--- Another size by nearest samples (document 01, "Other operations", `resize_nearest`): each plane between its own sizes. Assumes
--- nothing.
+-- Another size by nearest samples (document 01, "Other operations", `resize_nearest`): each plane between its own sizes.
 use mathlib.Core.Bool.{Bool, _&&_}
 use Prim.Native.Nat.{_*_, _/_, ℕ}
 use lib.Dec.{eqb}

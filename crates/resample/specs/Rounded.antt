@@ -1,4 +1,4 @@
--- Whole numbers near a quotient, and the lesser of two. Assumes nothing.
+-- Whole numbers near a quotient, and the lesser of two.
 use Prim.Native.Nat.{ℕ, _+_, _/_}
 use lib.Dec.{leb}
 use Rattle.laws.specs.Pick.{pick}

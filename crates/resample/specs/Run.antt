@@ -1,4 +1,4 @@
--- What each operation answers and writes (document 01, iscl, "Other operations", and "Refusals in order"). Assumes nothing.
+-- What each operation answers and writes (document 01, iscl, "Other operations", and "Refusals in order").
 use mathlib.Core.List.{List}
 use Prim.Native.Nat.{ℕ}
 use lib.Dec.{eqb, ltb}

@@ -1,4 +1,4 @@
--- What a property makes of a picture, of its record and of its form. Assumes nothing.
+-- What a property makes of a picture, of its record and of its form.
 use mathlib.Core.Bool.{Bool, false, true}
 use mathlib.Core.List.{List, [], append-nil}
 use mathlib.Core.Path.{_∙_, _≡_, ap, ap₂, refl, sym}

@@ -1,4 +1,4 @@
--- The chain from record to record between two buffers. Assumes nothing.
+-- The chain from record to record between two buffers.
 use mathlib.Core.Bool.{Bool, _&&_, false, not, true}
 use mathlib.Core.List.{List, [], _++_, _∷_, append-nil}
 use mathlib.Core.Path.{_∙_, _≡_, ap, refl, sym}

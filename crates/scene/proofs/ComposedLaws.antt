@@ -1,4 +1,4 @@
--- The composed picture of a grid or an overlay that was taken has a sound form and samples that fit their bytes. Assumes nothing.
+-- The composed picture of a grid or an overlay that was taken has a sound form and samples that fit their bytes.
 use mathlib.Core.Bool.{Bool, false, true}
 use mathlib.Core.List.{List}
 use mathlib.Core.Path.{_≡_, refl}

@@ -1,4 +1,4 @@
--- Where a chain leads by forms is where it leads by pictures. Assumes nothing.
+-- Where a chain leads by forms is where it leads by pictures.
 use mathlib.Core.Bool.{Bool, _&&_, false, not, true}
 use mathlib.Core.List.{List, [], _∷_}
 use mathlib.Core.Path.{_∙_, _≡_, ap, ap₂, refl, sym}

@@ -1,4 +1,4 @@
--- What the scene calls come to, refusal by refusal. Assumes nothing.
+-- What the scene calls come to, refusal by refusal.
 use mathlib.Core.Bool.{Bool, false, true}
 use mathlib.Core.List.{List, _++_}
 use mathlib.Core.Path.{_∙_, _≡_, ap, refl, sym}

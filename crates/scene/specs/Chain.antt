@@ -1,5 +1,4 @@
 -- A chain on a composed picture, iscl included, and the longest record on the way (document 01, "The scene call"; `apply_transforms`).
--- Assumes nothing.
 use mathlib.Core.Bool.{Bool}
 use mathlib.Core.List.{List}
 use Prim.Native.Nat.{ℕ}

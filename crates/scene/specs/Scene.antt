@@ -1,4 +1,4 @@
--- The scene calls (document 01, "The scene call" and "Refusals in order", Scene). Assumes nothing.
+-- The scene calls (document 01, "The scene call" and "Refusals in order", Scene).
 use mathlib.Core.Bool.{Bool}
 use mathlib.Core.List.{List, _++_}
 use Prim.Native.Nat.{_-_, ℕ}

@@ -1,4 +1,4 @@
--- Laws of a blank cell: what it asks, what it stores, and blank refusal by refusal. Assumes nothing.
+-- Laws of a blank cell: what it asks, what it stores, and blank refusal by refusal.
 use mathlib.Core.Bool.{Bool, false, not, true}
 use mathlib.Core.List.{List}
 use mathlib.Core.Path.{_∙_, _≡_, ap, ap₂, refl, sym}

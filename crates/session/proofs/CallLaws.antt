@@ -1,5 +1,4 @@
 -- What places and blanks in turn leave: each place of the canvas shows the last tile that was drawn in its cell and has the plane.
--- Assumes nothing.
 use mathlib.Core.Bool.{Bool, _&&_, false, not, true}
 use mathlib.Core.List.{List, [], _++_, _∷_}
 use mathlib.Core.Path.{_∙_, _≡_, ap, ap₂, refl, sym}

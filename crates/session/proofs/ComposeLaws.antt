@@ -1,5 +1,4 @@
--- Placing all cells of a grid, in any order, and finishing gives the record that composite_grid gives over the same tiles. Assumes
--- nothing.
+-- Placing all cells of a grid, in any order, and finishing gives the record that composite_grid gives over the same tiles.
 use mathlib.Core.Bool.{Bool, _&&_, false, not, true}
 use mathlib.Core.List.{List, [], _++_, _∷_, append-assoc, append-nil}
 use mathlib.Core.Logic.{_⊎_, inl, inr}

@@ -1,4 +1,4 @@
--- Laws of what a call comes to, and of what place and blank write. Assumes nothing.
+-- Laws of what a call comes to, and of what place and blank write.
 use mathlib.Core.Bool.{Bool, false, not, true}
 use mathlib.Core.List.{List, [], _∷_}
 use mathlib.Core.Path.{_∙_, _≡_, ap, refl, sym}

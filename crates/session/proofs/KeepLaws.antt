@@ -1,5 +1,4 @@
--- Each call keeps a state that calls can have made: start makes one, place and blank keep it (MadeLaws has the other way too). Assumes
--- nothing.
+-- Each call keeps a state that calls can have made: start makes one, place and blank keep it (MadeLaws has the other way too).
 use mathlib.Core.Bool.{false, not, true}
 use mathlib.Core.List.{List}
 use mathlib.Core.Path.{_∙_, _≡_, ap, refl, sym}

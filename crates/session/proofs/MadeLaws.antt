@@ -1,5 +1,5 @@
 -- Which states calls can have made, both ways: start and calls that are accepted make only states that pass `stateOk`, with 1024 words
--- of 64 bits for marks (made-ok), and they make each of those (ok-made). Assumes nothing.
+-- of 64 bits for marks (made-ok), and they make each of those (ok-made).
 use mathlib.Core.Bool.{Bool, false, not, true}
 use mathlib.Core.List.{List, [], _∷_}
 use mathlib.Core.Logic.{_⊎_, inl, inr}

@@ -1,4 +1,4 @@
--- Laws of marks: one bit set by an `or` with a power of two, and the searches word by word and cell by cell. Assumes nothing.
+-- Laws of marks: one bit set by an `or` with a power of two, and the searches word by word and cell by cell.
 use mathlib.Core.Bool.{Bool, cond, false, not, true}
 use mathlib.Core.List.{List}
 use mathlib.Core.Logic.{_⊎_, inl, inr}

@@ -1,4 +1,4 @@
--- Laws over calls in turn: the buffer shows a picture behind its header, and each cell that is drawn is pasted on it. Assumes nothing.
+-- Laws over calls in turn: the buffer shows a picture behind its header, and each cell that is drawn is pasted on it.
 use mathlib.Core.Bool.{true}
 use mathlib.Core.List.{List, [], _++_, _∷_, append-assoc}
 use mathlib.Core.Path.{_∙_, _≡_, ap, refl, sym}

@@ -1,4 +1,4 @@
--- Laws of a state that calls can have made: its grid, its tile and its canvas are sound. Assumes nothing.
+-- Laws of a state that calls can have made: its grid, its tile and its canvas are sound.
 use mathlib.Core.Bool.{true}
 use mathlib.Core.List.{List}
 use mathlib.Core.Path.{_∙_, _≡_, refl, sym}

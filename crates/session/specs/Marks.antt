@@ -1,4 +1,4 @@
--- The mark of a cell: bit i mod 64 of word i / 64 (document 01, "Canvas session"). Assumes nothing.
+-- The mark of a cell: bit i mod 64 of word i / 64 (document 01, "Canvas session").
 use mathlib.Core.Bool.{Bool, _&&_, _||_, false, not, true}
 use mathlib.Core.List.{List}
 use Prim.Native.Nat.{_%_, _*_, _+_, _-_, _/_, _^_, suc, zero, ℕ}

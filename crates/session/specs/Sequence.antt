@@ -1,4 +1,4 @@
--- Calls of a session in turn ("Canvas session"). Assumes nothing.
+-- Calls of a session in turn ("Canvas session").
 use mathlib.Core.Bool.{_&&_}
 use mathlib.Core.List.{List, [], _∷_}
 use mathlib.Core.Path.{_≡_}

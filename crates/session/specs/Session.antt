@@ -1,5 +1,4 @@
--- The canvas session's calls: state, answer and buffer ("Canvas session"; "Refusals in order", Start, Place, Blank, Finish). Assumes
--- nothing.
+-- The canvas session's calls: state, answer and buffer ("Canvas session"; "Refusals in order", Start, Place, Blank, Finish).
 use mathlib.Core.Bool.{Bool, not}
 use mathlib.Core.List.{List, [], _∷_}
 use Prim.Native.Nat.{_%_, _-_, _/_, ℕ}

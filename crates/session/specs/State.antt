@@ -1,5 +1,5 @@
 -- A canvas's state: which states calls can have made, and how a tile's form is held to the first's ("Canvas session"; "Refusals in
--- order", Place). Assumes nothing.
+-- order", Place).
 use mathlib.Core.Bool.{Bool, _&&_, not}
 use Prim.Native.Nat.{_*_, _-_, _/_, _^_, ℕ}
 use lib.Dec.{eqb, leb}

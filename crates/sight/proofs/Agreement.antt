@@ -1,4 +1,4 @@
--- A chain on a picture and the same chain on a sight: the same refusal, or a picture that is what the sight shows. Assumes nothing.
+-- A chain on a picture and the same chain on a sight: the same refusal, or a picture that is what the sight shows.
 use mathlib.Core.Bool.{Bool, false, true}
 use mathlib.Core.List.{List, [], _∷_}
 use mathlib.Core.Path.{_∙_, _≡_, ap, ap₂, refl, sym}

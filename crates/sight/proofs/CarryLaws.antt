@@ -1,5 +1,5 @@
 -- The rectangle of a chain is what its entries, one by one, do not crop away, and its turn carries each place that stays to where they
--- do. Assumes nothing.
+-- do.
 use mathlib.Core.Bool.{Bool, false, true}
 use mathlib.Core.List.{List, [], _∷_}
 use mathlib.Core.Path.{_∙_, _≡_, ap, ap₂, refl, sym}

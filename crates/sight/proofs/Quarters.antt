@@ -1,4 +1,4 @@
--- Quarter turns by their number: sums and mirrors of turns. Assumes nothing.
+-- Quarter turns by their number: sums and mirrors of turns.
 use mathlib.Core.Bool.{Bool, false, true}
 use mathlib.Core.Path.{_∙_, _≡_, ap, refl, sym}
 use Prim.Native.Nat.{_%_, _+_, _<_, suc, zero, ℕ}

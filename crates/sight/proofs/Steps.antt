@@ -1,4 +1,4 @@
--- What the tests and numbers of the code say of a sight and of a place. Assumes nothing.
+-- What the tests and numbers of the code say of a sight and of a place.
 use mathlib.Core.Bool.{Bool, false, not, true}
 use mathlib.Core.List.{List}
 use mathlib.Core.Path.{_∙_, _≡_, ap, ap₂, refl, sym}

@@ -1,4 +1,4 @@
--- A sight is refused 18 only where an applied entry is an iscl. Assumes nothing.
+-- A sight is refused 18 only where an applied entry is an iscl.
 use mathlib.Core.Bool.{Bool, false, true}
 use mathlib.Core.List.{List, [], _∷_}
 use mathlib.Core.Path.{_≡_, ap, refl}

@@ -1,4 +1,4 @@
--- The place maps of sights: a further turn, mirror or crop is a further step back, and no two places meet. Assumes nothing.
+-- The place maps of sights: a further turn, mirror or crop is a further step back, and no two places meet.
 use mathlib.Core.Bool.{Bool, false, not, true}
 use mathlib.Core.Path.{_∙_, _≡_, ap, refl, sym}
 use Prim.Native.Nat.{_+_, _-_, _<_, _≤_, ℕ}

@@ -1,4 +1,4 @@
--- Where the entries of a chain carry a place of the canvas, one by one, or crop it away (document 01, "Point call"). Assumes nothing.
+-- Where the entries of a chain carry a place of the canvas, one by one, or crop it away (document 01, "Point call").
 use mathlib.Core.Bool.{Bool, _&&_, false, true}
 use mathlib.Core.List.{List}
 use mathlib.Core.Path.{_≡_}

@@ -1,4 +1,4 @@
--- A chain on a picture, entry by entry (document 01, "The scene call" and the transforms; `apply_transforms`). Assumes nothing.
+-- A chain on a picture, entry by entry (document 01, "The scene call" and the transforms; `apply_transforms`).
 use mathlib.Core.Bool.{Bool}
 use mathlib.Core.List.{List}
 use Rattle.laws.specs.Out.{Out, andThen, done}

@@ -1,5 +1,5 @@
 -- What a chain without scaling leaves of a picture: a rectangle of it, its left and right exchanged or not, then quarter turns
--- anticlockwise (document 01, "Point call"). Assumes nothing.
+-- anticlockwise (document 01, "Point call").
 use mathlib.Core.Bool.{Bool, false, not, true}
 use mathlib.Core.List.{List}
 use Prim.Native.Nat.{_%_, _+_, _-_, _^_, ℕ}

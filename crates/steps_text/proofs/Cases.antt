@@ -1,4 +1,4 @@
--- Document 01's example of the steps program, computed from the definition. Assumes nothing.
+-- Document 01's example of the steps program, computed from the definition.
 use mathlib.Core.List.{List, [], _++_, _∷_}
 use mathlib.Core.Path.{_≡_, refl}
 use Prim.Native.Nat.{ℕ}

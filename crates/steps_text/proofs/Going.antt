@@ -1,4 +1,4 @@
--- A loop over the entries of an input: what is left of the text at each turn. Assumes nothing.
+-- A loop over the entries of an input: what is left of the text at each turn.
 use mathlib.Core.List.{List, [], _++_}
 use mathlib.Core.Path.{_∙_, _≡_, ap, sym}
 use Prim.Native.Nat.{_+_, _-_, _<_, _≤_, ℕ}

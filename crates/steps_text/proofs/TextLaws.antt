@@ -1,4 +1,4 @@
--- Laws of the text: how its parts are stored, how long they are, and how it goes on entry by entry. Assumes nothing.
+-- Laws of the text: how its parts are stored, how long they are, and how it goes on entry by entry.
 use mathlib.Core.List.{List, [], _++_, _∷_}
 use mathlib.Core.Path.{_∙_, _≡_, ap, refl, sym}
 use Prim.Native.Nat.{_*_, _+_, _-_, _<_, _≤_, ℕ}

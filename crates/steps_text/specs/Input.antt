@@ -1,4 +1,4 @@
--- What is handed to `steps` (document 01, "Steps program"). Assumes nothing.
+-- What is handed to `steps` (document 01, "Steps program").
 use mathlib.Core.List.{List}
 use Prim.Native.Nat.{ℕ}
 use Rattle.laws.specs.Out.{Out, andThen, done, refused}

@@ -1,4 +1,4 @@
--- The text that `steps` prints, in ASCII (document 01, "Steps program"). Assumes nothing.
+-- The text that `steps` prints, in ASCII (document 01, "Steps program").
 use mathlib.Core.List.{List, [], _++_, _∷_}
 use Prim.Native.Char.{code}
 use Prim.Native.Nat.{_+_, ℕ}

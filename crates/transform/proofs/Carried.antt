@@ -1,4 +1,4 @@
--- What a move carries over: pictures that agree, and samples that fit their bytes. Assumes nothing.
+-- What a move carries over: pictures that agree, and samples that fit their bytes.
 use mathlib.Core.Bool.{Bool, _&&_, false, true}
 use mathlib.Core.Path.{_∙_, _≡_, ap, refl, sym}
 use Prim.Native.Nat.{_%_, ℕ}

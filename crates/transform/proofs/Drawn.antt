@@ -1,4 +1,4 @@
--- What the writer draws is the moved picture, plane by plane. Assumes nothing.
+-- What the writer draws is the moved picture, plane by plane.
 use mathlib.Core.Bool.{Bool, _&&_, false, true}
 use mathlib.Core.List.{List, _++_}
 use mathlib.Core.Path.{_∙_, _≡_, ap, ap₂, refl}

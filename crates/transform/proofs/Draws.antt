@@ -1,4 +1,4 @@
--- The moves draw the pictures that document 01 names. Assumes nothing.
+-- The moves draw the pictures that document 01 names.
 use mathlib.Core.Bool.{Bool, _||_, false, true}
 use mathlib.Core.Path.{_≡_, ap, ap₂, refl}
 use Prim.Native.Nat.{_+_, _-_, _≤_, ℕ}

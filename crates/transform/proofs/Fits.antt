@@ -1,4 +1,4 @@
--- Crops, turns and mirrors are moves that every plane can make. Assumes nothing.
+-- Crops, turns and mirrors are moves that every plane can make.
 use mathlib.Core.Bool.{Bool, _&&_, _||_, false, or-false, true}
 use mathlib.Core.Path.{_∙_, _≡_, ap, refl, sym}
 use Prim.Native.Nat.{_*_, _+_, _-_, _<_, _^_, _≤_, ℕ}

@@ -1,4 +1,4 @@
--- The runs in terms of the moves that draw them. Assumes nothing.
+-- The runs in terms of the moves that draw them.
 use mathlib.Core.Bool.{false, true}
 use mathlib.Core.List.{List}
 use mathlib.Core.Path.{_∙_, _≡_, ap}

@@ -1,4 +1,4 @@
--- Crop, the four turns and the two mirrors carry places as they carry samples, chroma included. Assumes nothing.
+-- Crop, the four turns and the two mirrors carry places as they carry samples, chroma included.
 use mathlib.Core.Bool.{Bool, _||_, false, true}
 use mathlib.Core.Path.{_∙_, _≡_, ap, ap₂, refl}
 use Prim.Native.Nat.{_%_, _+_, _<_, ℕ}

@@ -1,4 +1,4 @@
--- Laws of walks: a row of a walked plane is one line of samples. Assumes nothing.
+-- Laws of walks: a row of a walked plane is one line of samples.
 use mathlib.Core.Bool.{Bool, false, true}
 use mathlib.Core.List.{List}
 use mathlib.Core.Path.{_∙_, _≡_, ap}

@@ -1,4 +1,4 @@
--- What each operation answers and writes (document 01, clap, irot, imir and their refusals). Assumes nothing.
+-- What each operation answers and writes (document 01, clap, irot, imir and their refusals).
 use mathlib.Core.List.{List}
 use Prim.Native.Nat.{_+_, ℕ}
 use lib.Dec.{eqb, ltb}

@@ -1,4 +1,4 @@
--- Crop, quarter turns and mirrors of pictures (document 01, clap, irot, imir). Assumes nothing.
+-- Crop, quarter turns and mirrors of pictures (document 01, clap, irot, imir).
 use mathlib.Core.Bool.{Bool, _||_, false, true}
 use Prim.Native.Nat.{_%_, _+_, _-_, ℕ}
 use lib.Dec.{eqb}

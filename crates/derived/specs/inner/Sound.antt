@@ -1,4 +1,4 @@
--- What holds of a descriptor that was taken. Assumes nothing.
+-- What holds of a descriptor that was taken.
 use mathlib.Core.List.{List}
 use Prim.Native.Nat.{_*_, _+_, _^_, _≤_, ℕ}
 use lib.ListN.{length}

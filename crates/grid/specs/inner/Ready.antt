@@ -1,4 +1,4 @@
--- What holds of a grid's tiles that were taken. Assumes nothing.
+-- What holds of a grid's tiles that were taken.
 use mathlib.Core.List.{List}
 use mathlib.Core.Path.{_≡_}
 use Prim.Native.Nat.{_*_, _<_, _≤_, ℕ}

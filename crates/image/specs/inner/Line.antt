@@ -1,4 +1,4 @@
--- A line of samples through a plane: along a row or a column, forward or back, each sample once or twice. Assumes nothing.
+-- A line of samples through a plane: along a row or a column, forward or back, each sample once or twice.
 use mathlib.Core.List.{List}
 use Prim.Native.Nat.{ℕ, _+_, _-_, _*_, _/_, _^_, _≤_, _<_}
 use lib.ListN.{length}

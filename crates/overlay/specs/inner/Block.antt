@@ -1,5 +1,5 @@
 -- What the functions of this crate hand to each other: records in turn, what the inputs come to, and a stripe of samples, which is a
--- run of them in a plane of the canvas, row after row. Assumes nothing.
+-- run of them in a plane of the canvas, row after row.
 use mathlib.Core.Bool.{Bool, _&&_, _||_, false, not, true}
 use mathlib.Core.List.{List, [], _∷_}
 use mathlib.Core.Path.{_≡_}

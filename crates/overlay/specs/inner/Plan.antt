@@ -1,4 +1,4 @@
--- What reading an overlay answers, for the calls that go on with it. Assumes nothing.
+-- What reading an overlay answers, for the calls that go on with it.
 use mathlib.Core.List.{List}
 use Prim.Native.Nat.{ℕ}
 use Rattle.laws.specs.Out.{Out, andThen, done}

@@ -1,5 +1,4 @@
 -- What the functions of this crate hand to each other: everything before the place as the code holds it, and a place of the canvas.
--- Assumes nothing.
 use mathlib.Core.List.{List}
 use Prim.Native.Nat.{_*_, _<_, _≤_, ℕ}
 use Rattle.laws.specs.Out.{Out, done, refused}

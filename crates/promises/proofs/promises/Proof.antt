@@ -1,4 +1,4 @@
--- `promises::promises` keeps the page of promises. Assumes nothing.
+-- `promises::promises` keeps the page of promises.
 use Rattle.promises.proofs.Kept.{kept}
 use Rattle.promises.proofs.promises.Statement.{statement}
 use Rattle.promises.proofs.promises.Tie as tie

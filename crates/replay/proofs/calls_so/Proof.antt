@@ -1,4 +1,4 @@
--- `calls_so` is safe and ends: the buffer keeps its length. Assumes nothing.
+-- `calls_so` is safe and ends: the buffer keeps its length.
 use mathlib.Core.Path.{_≡_}
 use Prim.Native.Nat.{_-_}
 use lib.ListN.{length}

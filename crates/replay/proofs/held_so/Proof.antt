@@ -1,4 +1,4 @@
--- `held_so` is safe: each part that is handed on is a start. Assumes nothing.
+-- `held_so` is safe: each part that is handed on is a start.
 use mathlib.Core.Path.{sym}
 use lib.Seq.{length-take-le}
 use borrow.Author.Needs.{needs}

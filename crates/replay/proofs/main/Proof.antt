@@ -1,4 +1,4 @@
--- `main` is safe and ends: the turns that are left count down. Assumes nothing.
+-- `main` is safe and ends: the turns that are left count down.
 use borrow.Author.Needs.{needs}
 use Rattle.replay.proofs.main.Statement.{statement}
 use Rattle.replay.proofs.main.Tie as tie

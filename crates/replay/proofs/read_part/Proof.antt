@@ -1,4 +1,4 @@
--- `read_part` is safe: what is lent is the start of the part. Assumes nothing.
+-- `read_part` is safe: what is lent is the start of the part.
 use mathlib.Core.Path.{sym}
 use lib.Seq.{length-take-le}
 use borrow.Author.Needs.{needs}

@@ -1,4 +1,4 @@
--- `replay_all` is safe and ends: no more are alike than were read. Assumes nothing.
+-- `replay_all` is safe and ends: no more are alike than were read.
 use Prim.Native.Nat.{_-_, _≤_}
 use borrow.Author.Needs.{needs}
 use Rattle.replay.proofs.replay_all.Statement.{statement}

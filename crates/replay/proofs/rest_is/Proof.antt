@@ -1,4 +1,4 @@
--- `rest_is` is safe and ends. Assumes nothing.
+-- `rest_is` is safe and ends.
 use Prim.Native.Nat.{_-_}
 use lib.ListN.{length}
 use borrow.Author.Needs.{needs}

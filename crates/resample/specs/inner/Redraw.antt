@@ -1,4 +1,4 @@
--- What the writer draws: a picture of another form whose samples a rule works out from another's, plane by plane. Assumes nothing.
+-- What the writer draws: a picture of another form whose samples a rule works out from another's, plane by plane.
 use mathlib.Core.Bool.{false, true}
 use mathlib.Core.List.{List}
 use mathlib.Core.Path.{_≡_}

@@ -1,4 +1,4 @@
--- The chain from record to record, as the two lent buffers hold them. Assumes nothing.
+-- The chain from record to record, as the two lent buffers hold them.
 use mathlib.Core.Bool.{Bool, _&&_, false, not, true}
 use mathlib.Core.List.{List, [], _++_, _∷_}
 use mathlib.Core.Path.{_≡_}

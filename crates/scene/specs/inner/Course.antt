@@ -1,4 +1,4 @@
--- Where a chain leads, by forms alone: what is known before anything is drawn. Assumes nothing.
+-- Where a chain leads, by forms alone: what is known before anything is drawn.
 use mathlib.Core.Bool.{Bool, false, not, true}
 use mathlib.Core.List.{List}
 use Prim.Native.Nat.{ℕ}

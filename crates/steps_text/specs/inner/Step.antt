@@ -1,4 +1,4 @@
--- One entry of a chain, applied to a size. Assumes nothing.
+-- One entry of a chain, applied to a size.
 use mathlib.Core.List.{List}
 use mathlib.Core.Path.{_≡_}
 use Prim.Native.Nat.{ℕ}

@@ -1,5 +1,4 @@
 -- What the writer draws: a picture whose planes are walked along the axes of another, forward or back, exchanged or not.
--- Assumes nothing.
 use mathlib.Core.Bool.{Bool, _&&_, _||_, false, not, true}
 use mathlib.Core.List.{List}
 use mathlib.Core.Path.{_≡_}
