@@ -1,7 +1,7 @@
 -- Document 01's example of the steps program, computed from the definition.
-use mathlib.Core.List.{List, [], _++_, _∷_}
+use mathlib.Core.List.{[], _∷_}
 use mathlib.Core.Path.{_≡_, refl}
-use Prim.Native.Nat.{ℕ}
+use Rattle.laws.specs.Ascii.{ascii, characterBytes}
 use Rattle.laws.specs.Out.{andThen, refuse}
 use Rattle.laws.specs.Pick.{pick}
 use Rattle.numbers.specs.Decimal.{decimal, digitsOnto}
@@ -13,10 +13,6 @@ use Rattle.props.specs.Size.{judgedSize, sizeAfter, swapped}
 use Rattle.steps_text.specs.Input.{stepsOf}
 use Rattle.steps_text.specs.Text.{fieldText, heading, lineText, lineThen, linesFrom, outText, textOf}
 
--- "0 2 4 6" and "1 3 4 6"
-abbrev twoLines : List ℕ
-twoLines = 48 ∷ 32 ∷ 50 ∷ 32 ∷ 52 ∷ 32 ∷ 54 ∷ 10 ∷ 49 ∷ 32 ∷ 51 ∷ 32 ∷ 52 ∷ 32 ∷ 54 ∷ 10 ∷ []
-
-pub example : textOf (6 ∷ 4 ∷ 2 ∷ 2 ∷ 1 ∷ 1 ∷ 3 ∷ 0 ∷ 1 ∷ []) ≡ heading ++ twoLines
-unfolding textOf outText stepsOf judgedSize linesFrom lineThen lineText fieldText decimal digitsOnto chainAt countAt entriesAt entryAt propertyAt irotAt imirAt byteAt readNumber readFrom lastByte onNumber andThen refuse pick sizeAfter swapped odd kindOf
+pub example : textOf (6 ∷ 4 ∷ 2 ∷ 2 ∷ 1 ∷ 1 ∷ 3 ∷ 0 ∷ 1 ∷ []) ≡ ascii "step kind width height\n0 2 4 6\n1 3 4 6\n"
+unfolding ascii characterBytes heading textOf outText stepsOf judgedSize linesFrom lineThen lineText fieldText decimal digitsOnto chainAt countAt entriesAt entryAt propertyAt irotAt imirAt byteAt readNumber readFrom lastByte onNumber andThen refuse pick sizeAfter swapped odd kindOf
 example = refl
