@@ -66,7 +66,7 @@ rows-inside a b c i stride f (suc k) h =
 -- ---- in the middle of samples
 
 -- k items of one length in the place of as many
-span-patch : (f g : ℕ → List ℕ) (m n a k : ℕ) → ((i : ℕ) → length (f i) ≡ m) → ((i : ℕ) → length (g i) ≡ m) → a + k ≤ n
+pub span-patch : (f g : ℕ → List ℕ) (m n a k : ℕ) → ((i : ℕ) → length (f i) ≡ m) → ((i : ℕ) → length (g i) ≡ m) → a + k ≤ n
     → puts (span f 0 n) (a * m) (span g 0 k) ≡ span (λ x. pick (within a k x) (g (x - a)) (f x)) 0 n
 span-patch f g m n a k hf hg l =
     ap (λ (q : List ℕ). puts q (a * m) (span g 0 k)) (three f)

@@ -8,5 +8,6 @@ mod write;
 pub use crate::area::apply_iscl;
 pub use crate::area::resize_area;
 pub use crate::attach::attach_alpha;
+pub use crate::depth::Depths;
 pub use crate::depth::rescale_depth;
 pub use crate::nearest::resize_nearest;

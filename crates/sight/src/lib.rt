@@ -198,7 +198,7 @@ impl Sight {
     }
 
     // After an entry: under the flag a property that is not essential is skipped.
-    fn after_entry(self, entry: PropertyEntry, essential_only: bool) -> SightRead
+    pub fn after_entry(self, entry: PropertyEntry, essential_only: bool) -> SightRead
         requires { ⌜ Bounded (self .area) ⌝ }
         ensures { λ r. ⌜ sightOut r ≡ pick (applies «essential_only» entry) (sightAfter (entry .property) self) (done self) ⌝ }
     {
