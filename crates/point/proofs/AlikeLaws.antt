@@ -32,7 +32,6 @@ use Rattle.overlay.specs.Run.{firstFormat, inputsAt, otherDepth}
 use Rattle.point.specs.Alike.{SameBytes, SameHead, SameNumber, SameParts, SameRecords, SameTray}
 use Rattle.point.specs.Point.{Look, gridLook, gridNames, gridPoint, lookOn, overlayLook, overlayNames, overlayPoint, pointFrom, seeThroughFrame}
 
-
 -- ---- runs step by step, of two that read the same
 
 on-same : {A : Type 0} (o u : NumberRead) (f g : ℕ → ℕ → Out A) → o ≡ u → ((v n : ℕ) → o ≡ Number v n → f v n ≡ g v n) → onNumber o f ≡ onNumber u g
