@@ -66,25 +66,31 @@ use Rattle.point.specs.declared.Spot.{Spot}
 use Rattle.cases.specs.Table.{Holds, table}
 use Rattle.capi.specs.Canvas.{canvasOf, wordsOf}
 
--- ---- demand 3, of a picture run and the point runs, which take a tray and a place; bare are those with the empty chain
+-- ---- demand 3, and document 01's "Point call", of a picture run and the point runs, which take a tray and a place; bare are those with
+-- the empty chain
 
 pub record Demand (covered : Type 0) (drawn : Out Drawn) (scene : ℕ → ℕ → Out (List ℕ)) (tray : List ℕ) (point : List ℕ → ℕ → ℕ → Out Point) (bare : ℕ → ℕ → Out Point)
     (sights : ℕ → ℕ → Out Sight) (carries : ℕ → ℕ → Place → Out Tracked) (reads : Named → Part → ℕ) : Type 0 where
-  -- where picture runs are covered: the same refusals, the same final size, every sample of every plane at every place that it covers
+  -- "given enough room: the point run is refused exactly when the picture run is, with the same refusal, or when its place lies outside the
+  -- final picture; otherwise the two have the same final size. Every sample of every such picture, chroma and alpha included, equals at
+  -- every place it covers what document 01 reads at the input and spot the point run names there, or the canvas fill where it answers
+  -- fill", where the demand covers picture and chain
   pub agrees : covered → (output spare : ℕ) → Room drawn output spare → (x y : ℕ) → Agreement reads x y (scene output spare) (point tray x y)
-  -- point runs alike in all but the sample values of their trays give the same answers
+  -- "Point runs alike in all but the sample values of their trays give the same answers"
   pub blind : (other : List ℕ) → SameTray tray other → (x y : ℕ) → point other x y ≡ point tray x y
-  -- no two places name one spot of one input
+  -- "No two places of one picture name one spot of one input"
   pub once : (x y u v : ℕ) (a b : Point) (k : Spot) → point tray x y ≡ done a → point tray u v ≡ done b → a .named ≡ Named.Spot k → b .named ≡ Named.Spot k
       → (x ≡ u) × (y ≡ v)
   -- a spot that is named lies in its input
   pub there : (x y : ℕ) (a : Point) (k : Spot) → point tray x y ≡ done a → a .named ≡ Named.Spot k → InTray tray k
-  -- the rectangle and the turn of an answer are those of the chain on the canvas
+  -- "it reduces the chain to one rectangle and one of eight turns": an answer's are those of the chain on the canvas
   pub sighted : (x y u v : ℕ) (a b : Point) → point tray x y ≡ done a → bare u v ≡ done b → sights (canvasWidth b) (canvasHeight b) ≡ done (a .sight)
-  -- the entries in turn carry each canvas place to a final place or crop it away; the rectangle is what stays
+  -- "The applied entries in turn carry each canvas place to a final place or crop it away. The rectangle is what stays; its sides, swapped
+  -- at 1 or 3 turns, are the final size", of every chain that is accepted on the canvas
   pub stays : (u v : ℕ) (b : Point) (s : Sight) → bare u v ≡ done b → sights (canvasWidth b) (canvasHeight b) ≡ done s
       → CarriedTo carries (canvasWidth b) (canvasHeight b) (record { x = u; y = v }) s
-  -- a final place names what the canvas place that is carried there names
+  -- "A final place names the tile or topmost input that covers its canvas place, and the spot there, else fill": what the run with the
+  -- empty chain names at the canvas place that is carried there
   pub through : (x y : ℕ) (a : Point) → point tray x y ≡ done a → CarriedFrom carries bare a x y
 
 -- of grids; body and tray are bytes, as what is lent to a call is
