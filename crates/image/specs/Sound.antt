@@ -1,4 +1,4 @@
--- What holds of a record that was taken.
+-- What holds of a form that was taken.
 use Prim.Native.Nat.{_*_, _^_, _≤_}
 use Rattle.image.specs.declared.format.Form.{Form}
 

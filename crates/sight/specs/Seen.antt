@@ -1,4 +1,4 @@
--- What it means that a picture is what another shows to a sight, sample by sample (document 01, "Point call").
+-- Which places of a picture a sample of a plane covers (document 01, "Point call").
 use mathlib.Core.Path.{_≡_}
 use Prim.Native.Nat.{ℕ}
 use Rattle.image.specs.Format.{cover, halfX, halfY}

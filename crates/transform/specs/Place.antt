@@ -1,4 +1,4 @@
--- Which place of the input a place of the output shows, and what it means that a picture shows another so.
+-- A place, and which place of the input a place of a turned picture shows.
 use mathlib.Core.Bool.{Bool, false, true}
 use Prim.Native.Nat.{_-_, ℕ}
 use Rattle.transform.specs.Turn.{Quarter, q0, q1, q2, q3}
