@@ -97,13 +97,15 @@ mod tests {
     fn refusals_are_those_of_the_composer() {
         let laws = in_repository("crates/laws/src/lib.rt");
         let laws = fs::read_to_string(laws).expect("the crate laws is there");
-        let theirs: Vec<&str> = laws
-            .lines()
-            .filter_map(|line| line.trim().strip_prefix("pub const "))
+        let words: Vec<&str> = laws.split_whitespace().collect();
+        let laws = words.join(" ");
+        let declared = laws.split("pub const ").skip(1);
+        let theirs: Vec<&str> = declared
+            .map(|rest| &rest[..=rest.find(';').expect("a constant that ends")])
             .collect();
         let constant = |refusal: &Refusal| {
             let (name, number) = (refusal.name().to_uppercase(), refusal.number());
-            format!("{name}: Refusal = Refusal {{ number: {number} }};")
+            format!("{name}: Refusal = Refusal {{ number: {number}, sort: 0, index: 0, }};")
         };
         let ours: Vec<String> = Refusal::ALL.iter().map(constant).collect();
         assert_eq!(ours, theirs);
