@@ -4,10 +4,8 @@ ghost use lib.ListN.{length};
 ghost use Rattle.laws.specs.Out.{answerOf, written};
 ghost use Rattle.grid.specs.Run.{gridRun};
 ghost use Rattle.overlay.specs.Run.{overlayRun};
-ghost use Rattle.capi.specs.Code.{answerCode};
-ghost use Rattle.capi.specs.Fill.{colourOf};
-use crate::code::answer_code;
-use crate::fills::colour_of;
+ghost use Rattle.words.specs.Code.{answerCode};
+ghost use Rattle.words.specs.Fill.{colourOf};
 
 // The tiles of a tray, each in its cell of a grid. Refusals: 5 tray count unreadable; the body's; 11; the records'; 12; 13 and 14
 // tile by tile; 17.
@@ -16,7 +14,7 @@ pub extern "C" fn compose_grid(body: &[u8], tray: &[u8], out: &mut [u8]) -> u64
     ensures { λ r. ⌜ (r ≡ answerCode (answerOf (gridRun (now (body .entry)) (now (tray .entry)) (length (now (out .entry))))))
         × (now (out .exit) ≡ written (gridRun (now (body .entry)) (now (tray .entry)) (length (now (out .entry)))) (now (out .entry))) ⌝ }
 {
-    answer_code(grid::composite_grid(body, tray, out))
+    words::answer_code(grid::composite_grid(body, tray, out))
 }
 
 // The inputs of a tray laid over a canvas, the last on top; a premultiplied byte of 0 is straight alpha. Refusals: 5 tray count
@@ -34,11 +32,11 @@ pub extern "C" fn compose_overlay(
     ensures { λ r. ⌜ (r ≡ answerCode (answerOf (overlayRun (now (body .entry)) (now (tray .entry)) (now (premultiplied .entry)) (colourOf colour matrix «full_range») (length (now (out .entry))))))
         × (now (out .exit) ≡ written (overlayRun (now (body .entry)) (now (tray .entry)) (now (premultiplied .entry)) (colourOf colour matrix «full_range») (length (now (out .entry)))) (now (out .entry))) ⌝ }
 {
-    answer_code(overlay::composite_overlay(
+    words::answer_code(overlay::composite_overlay(
         body,
         tray,
         premultiplied,
-        colour_of(colour, matrix, full_range),
+        words::colour_of(colour, matrix, full_range),
         out,
     ))
 }

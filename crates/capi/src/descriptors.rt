@@ -1,44 +1,29 @@
 // What descriptor bodies hold.
-ghost use mathlib.Core.List.{[], _∷_};
 ghost use mathlib.Core.Path.{_≡_};
-ghost use Prim.Native.Nat.{_+_, _≤_};
 ghost use lib.ListN.{length};
 ghost use Rattle.laws.specs.Out.{written};
-ghost use Rattle.laws.specs.Puts.{puts};
-ghost use Rattle.capi.specs.Code.{codeOf, noneOf};
-ghost use Rattle.capi.specs.Descriptors.{gridRun, overlayRun, offsetRun};
-use crate::code::refusal_code;
+ghost use Rattle.words.specs.Code.{codeOf, noneOf};
+ghost use Rattle.words.specs.Descriptors.{gridWords, overlayWords, offsetWords};
 use derived::GridDescriptor;
 use derived::GridRead;
 use derived::OverlayDescriptor;
 use derived::OverlayRead;
 use laws::Refusal;
 
-// Two words at `at`, and the place past them.
-fn put_words(answer: &mut [u64], at: usize, a: u64, b: u64) -> usize
-    requires { ⌜ at + 2 ≤ length (now answer) ⌝ }
-    ensures { λ r. ⌜ (r ≡ at + 2) × (now (answer .exit) ≡ puts (now (answer .entry)) at (a ∷ b ∷ [])) ⌝ }
-{
-    let next = at + 1;
-    answer[at] = a;
-    answer[next] = b;
-    next + 1
-}
-
 // What a grid's body says, in 4 words: rows, columns, width, height. Refusals: the body's; 17 an answer below 4 words.
 #[no_mangle]
 pub extern "C" fn compose_grid_descriptor(body: &[u8], answer: &mut [u64]) -> u64
-    ensures { λ r. ⌜ (r ≡ codeOf (noneOf (gridRun (now (body .entry)) (length (now (answer .entry))))))
-        × (now (answer .exit) ≡ written (gridRun (now (body .entry)) (length (now (answer .entry)))) (now (answer .entry))) ⌝ }
+    ensures { λ r. ⌜ (r ≡ codeOf (noneOf (gridWords (now (body .entry)) (length (now (answer .entry))))))
+        × (now (answer .exit) ≡ written (gridWords (now (body .entry)) (length (now (answer .entry)))) (now (answer .entry))) ⌝ }
 {
     match GridDescriptor::parse(body) {
-        GridRead::Refused(e) => refusal_code(e),
+        GridRead::Refused(e) => words::refusal_code(e),
         GridRead::Read(g) => {
             if answer.len() < 4 {
-                return refusal_code(Refusal::ROOM);
+                return words::refusal_code(Refusal::ROOM);
             }
-            let a = put_words(answer, 0, g.rows as u64, g.columns as u64);
-            put_words(answer, a, g.output_width as u64, g.output_height as u64);
+            let a = words::put_words(answer, 0, g.rows as u64, g.columns as u64);
+            words::put_words(answer, a, g.output_width as u64, g.output_height as u64);
             0
         }
     }
@@ -48,19 +33,19 @@ pub extern "C" fn compose_grid_descriptor(body: &[u8], answer: &mut [u64]) -> u6
 // body's; 17 an answer below 6 words.
 #[no_mangle]
 pub extern "C" fn compose_overlay_descriptor(body: &[u8], count: u32, answer: &mut [u64]) -> u64
-    ensures { λ r. ⌜ (r ≡ codeOf (noneOf (overlayRun (now (body .entry)) count (length (now (answer .entry))))))
-        × (now (answer .exit) ≡ written (overlayRun (now (body .entry)) count (length (now (answer .entry)))) (now (answer .entry))) ⌝ }
+    ensures { λ r. ⌜ (r ≡ codeOf (noneOf (overlayWords (now (body .entry)) count (length (now (answer .entry))))))
+        × (now (answer .exit) ≡ written (overlayWords (now (body .entry)) count (length (now (answer .entry)))) (now (answer .entry))) ⌝ }
 {
     match OverlayDescriptor::parse(body, count) {
-        OverlayRead::Refused(e) => refusal_code(e),
+        OverlayRead::Refused(e) => words::refusal_code(e),
         OverlayRead::Read(d) => {
             if answer.len() < 6 {
-                return refusal_code(Refusal::ROOM);
+                return words::refusal_code(Refusal::ROOM);
             }
             let fill = d.canvas_fill;
-            let a = put_words(answer, 0, fill.red as u64, fill.green as u64);
-            let b = put_words(answer, a, fill.blue as u64, fill.alpha as u64);
-            put_words(answer, b, d.output_width as u64, d.output_height as u64);
+            let a = words::put_words(answer, 0, fill.red as u64, fill.green as u64);
+            let b = words::put_words(answer, a, fill.blue as u64, fill.alpha as u64);
+            words::put_words(answer, b, d.output_width as u64, d.output_height as u64);
             0
         }
     }
@@ -75,23 +60,23 @@ pub extern "C" fn compose_overlay_offset(
     index: u32,
     answer: &mut [u64],
 ) -> u64
-    ensures { λ r. ⌜ (r ≡ codeOf (noneOf (offsetRun (now (body .entry)) count index (length (now (answer .entry))))))
-        × (now (answer .exit) ≡ written (offsetRun (now (body .entry)) count index (length (now (answer .entry)))) (now (answer .entry))) ⌝ }
+    ensures { λ r. ⌜ (r ≡ codeOf (noneOf (offsetWords (now (body .entry)) count index (length (now (answer .entry))))))
+        × (now (answer .exit) ≡ written (offsetWords (now (body .entry)) count index (length (now (answer .entry)))) (now (answer .entry))) ⌝ }
 {
     match OverlayDescriptor::parse(body, count) {
-        OverlayRead::Refused(e) => refusal_code(e),
+        OverlayRead::Refused(e) => words::refusal_code(e),
         OverlayRead::Read(d) => {
             if index >= count {
-                return refusal_code(Refusal::COUNT);
+                return words::refusal_code(Refusal::COUNT);
             }
             if answer.len() < 4 {
-                return refusal_code(Refusal::ROOM);
+                return words::refusal_code(Refusal::ROOM);
             }
             let place = d.offset(body, index);
             let h = place.horizontal;
             let v = place.vertical;
-            let a = put_words(answer, 0, h.ahead as u64, h.behind as u64);
-            put_words(answer, a, v.ahead as u64, v.behind as u64);
+            let a = words::put_words(answer, 0, h.ahead as u64, h.behind as u64);
+            words::put_words(answer, a, v.ahead as u64, v.behind as u64);
             0
         }
     }

@@ -3,8 +3,7 @@ ghost use mathlib.Core.Path.{_≡_};
 ghost use lib.ListN.{length};
 ghost use Rattle.laws.specs.Out.{answerOf, written};
 ghost use Rattle.transform.specs.Run.{clapRun, cropRun, imirRun, irotRun};
-ghost use Rattle.capi.specs.Code.{answerCode};
-use crate::code::answer_code;
+ghost use Rattle.words.specs.Code.{answerCode};
 use props::Clap;
 use props::CropRect;
 use props::Imir;
@@ -23,7 +22,7 @@ pub extern "C" fn compose_crop(
     ensures { λ r. ⌜ (r ≡ answerCode (answerOf (cropRun (now («record» .entry)) (record { x = x; y = y; width = width; height = height }) (length (now (out .entry))))))
         × (now (out .exit) ≡ written (cropRun (now («record» .entry)) (record { x = x; y = y; width = width; height = height }) (length (now (out .entry)))) (now (out .entry))) ⌝ }
 {
-    answer_code(transform::crop(
+    words::answer_code(transform::crop(
         record,
         CropRect {
             x,
@@ -52,7 +51,7 @@ pub extern "C" fn compose_clap(
     ensures { λ r. ⌜ (r ≡ answerCode (answerOf (clapRun (now («record» .entry)) (record { «width_n» = «width_n»; «width_d» = «width_d»; «height_n» = «height_n»; «height_d» = «height_d»; «horiz_off_n» = «horiz_off_n»; «horiz_off_d» = «horiz_off_d»; «vert_off_n» = «vert_off_n»; «vert_off_d» = «vert_off_d» }) (length (now (out .entry))))))
         × (now (out .exit) ≡ written (clapRun (now («record» .entry)) (record { «width_n» = «width_n»; «width_d» = «width_d»; «height_n» = «height_n»; «height_d» = «height_d»; «horiz_off_n» = «horiz_off_n»; «horiz_off_d» = «horiz_off_d»; «vert_off_n» = «vert_off_n»; «vert_off_d» = «vert_off_d» }) (length (now (out .entry)))) (now (out .entry))) ⌝ }
 {
-    answer_code(transform::apply_clap(
+    words::answer_code(transform::apply_clap(
         record,
         Clap {
             width_n,
@@ -74,7 +73,7 @@ pub extern "C" fn compose_irot(record: &[u8], angle: u8, out: &mut [u8]) -> u64
     ensures { λ r. ⌜ (r ≡ answerCode (answerOf (irotRun (now («record» .entry)) (record { angle = angle }) (length (now (out .entry))))))
         × (now (out .exit) ≡ written (irotRun (now («record» .entry)) (record { angle = angle }) (length (now (out .entry)))) (now (out .entry))) ⌝ }
 {
-    answer_code(transform::apply_irot(record, Irot { angle }, out))
+    words::answer_code(transform::apply_irot(record, Irot { angle }, out))
 }
 
 // A record mirrored: axis mod 2, 0 top and bottom, 1 left and right. Refusals: the record's, 17.
@@ -83,5 +82,5 @@ pub extern "C" fn compose_imir(record: &[u8], axis: u8, out: &mut [u8]) -> u64
     ensures { λ r. ⌜ (r ≡ answerCode (answerOf (imirRun (now («record» .entry)) (record { axis = axis }) (length (now (out .entry))))))
         × (now (out .exit) ≡ written (imirRun (now («record» .entry)) (record { axis = axis }) (length (now (out .entry)))) (now (out .entry))) ⌝ }
 {
-    answer_code(transform::apply_imir(record, Imir { axis }, out))
+    words::answer_code(transform::apply_imir(record, Imir { axis }, out))
 }

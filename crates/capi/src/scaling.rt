@@ -3,8 +3,7 @@ ghost use mathlib.Core.Path.{_≡_};
 ghost use lib.ListN.{length};
 ghost use Rattle.laws.specs.Out.{answerOf, written};
 ghost use Rattle.resample.specs.Run.{attachRun, depthRun, isclRun, nearestRun};
-ghost use Rattle.capi.specs.Code.{answerCode};
-use crate::code::answer_code;
+ghost use Rattle.words.specs.Code.{answerCode};
 use props::Iscl;
 
 // A record scaled by an iscl property. Refusals: the record's, 7, 10, 4, 17.
@@ -20,7 +19,7 @@ pub extern "C" fn compose_iscl(
     ensures { λ r. ⌜ (r ≡ answerCode (answerOf (isclRun (now («record» .entry)) (record { «width_num» = «width_num»; «width_den» = «width_den»; «height_num» = «height_num»; «height_den» = «height_den» }) (length (now (out .entry))))))
         × (now (out .exit) ≡ written (isclRun (now («record» .entry)) (record { «width_num» = «width_num»; «width_den» = «width_den»; «height_num» = «height_num»; «height_den» = «height_den» }) (length (now (out .entry)))) (now (out .entry))) ⌝ }
 {
-    answer_code(resample::apply_iscl(
+    words::answer_code(resample::apply_iscl(
         record,
         Iscl {
             width_num,
@@ -43,7 +42,7 @@ pub extern "C" fn compose_resize_nearest(
     ensures { λ r. ⌜ (r ≡ answerCode (answerOf (nearestRun (now («record» .entry)) width height (length (now (out .entry))))))
         × (now (out .exit) ≡ written (nearestRun (now («record» .entry)) width height (length (now (out .entry)))) (now (out .entry))) ⌝ }
 {
-    answer_code(resample::resize_nearest(record, width, height, out))
+    words::answer_code(resample::resize_nearest(record, width, height, out))
 }
 
 // A record at another depth. Refusals: the record's, 6, 17.
@@ -52,7 +51,7 @@ pub extern "C" fn compose_rescale_depth(record: &[u8], depth: u32, out: &mut [u8
     ensures { λ r. ⌜ (r ≡ answerCode (answerOf (depthRun (now («record» .entry)) depth (length (now (out .entry))))))
         × (now (out .exit) ≡ written (depthRun (now («record» .entry)) depth (length (now (out .entry)))) (now (out .entry))) ⌝ }
 {
-    answer_code(resample::rescale_depth(record, depth, out))
+    words::answer_code(resample::rescale_depth(record, depth, out))
 }
 
 // The master's record with the luma of another as its alpha plane. Refusals: the master's, the alpha record's, 17.
@@ -61,5 +60,5 @@ pub extern "C" fn compose_attach_alpha(master: &[u8], alpha: &[u8], out: &mut [u
     ensures { λ r. ⌜ (r ≡ answerCode (answerOf (attachRun (now (master .entry)) (now (alpha .entry)) (length (now (out .entry))))))
         × (now (out .exit) ≡ written (attachRun (now (master .entry)) (now (alpha .entry)) (length (now (out .entry)))) (now (out .entry))) ⌝ }
 {
-    answer_code(resample::attach_alpha(master, alpha, out))
+    words::answer_code(resample::attach_alpha(master, alpha, out))
 }

@@ -4,11 +4,9 @@ ghost use mathlib.Core.Path.{_≡_};
 ghost use lib.ListN.{length};
 ghost use Rattle.laws.specs.Out.{answerOf};
 ghost use Rattle.scene.specs.Scene.{gridScene, overlayScene, outputOf, spareOf};
-ghost use Rattle.capi.specs.Code.{answerCode};
-ghost use Rattle.capi.specs.Fill.{colourOf};
-ghost use Rattle.capi.specs.Spots.{flagOf};
-use crate::code::answer_code;
-use crate::fills::colour_of;
+ghost use Rattle.words.specs.Code.{answerCode};
+ghost use Rattle.words.specs.Fill.{colourOf};
+ghost use Rattle.words.specs.Spots.{flagOf};
 
 // A grid, then a chain; an essential_only of 0 applies every entry. Refusals: 5 a tray count that cannot be read; the chain's form;
 // the body's; 11; the records'; 12; 13 and 14; the entries' in turn; 17.
@@ -25,7 +23,7 @@ pub extern "C" fn compose_grid_scene(
         × (now (output .exit) ≡ outputOf (gridScene (now (body .entry)) (now (tray .entry)) (now (chain .entry)) (flagOf «essential_only») (length (now (output .entry))) (length (now (spare .entry)))) (now (output .entry)))
         × (now (spare .exit) ≡ spareOf (gridScene (now (body .entry)) (now (tray .entry)) (now (chain .entry)) (flagOf «essential_only») (length (now (output .entry))) (length (now (spare .entry)))) (now (spare .entry))) ⌝ }
 {
-    answer_code(scene::grid_scene(body, tray, chain, essential_only != 0, output, spare))
+    words::answer_code(scene::grid_scene(body, tray, chain, essential_only != 0, output, spare))
 }
 
 // An overlay, then a chain. Refusals: as a grid's, with 15, 11, the records', 14 and 16 of an overlay.
@@ -46,13 +44,13 @@ pub extern "C" fn compose_overlay_scene(
         × (now (output .exit) ≡ outputOf (overlayScene (now (body .entry)) (now (tray .entry)) (now (chain .entry)) (flagOf «essential_only») (now (premultiplied .entry)) (colourOf colour matrix «full_range») (length (now (output .entry))) (length (now (spare .entry)))) (now (output .entry)))
         × (now (spare .exit) ≡ spareOf (overlayScene (now (body .entry)) (now (tray .entry)) (now (chain .entry)) (flagOf «essential_only») (now (premultiplied .entry)) (colourOf colour matrix «full_range») (length (now (output .entry))) (length (now (spare .entry)))) (now (spare .entry))) ⌝ }
 {
-    answer_code(scene::overlay_scene(
+    words::answer_code(scene::overlay_scene(
         body,
         tray,
         chain,
         essential_only != 0,
         premultiplied,
-        colour_of(colour, matrix, full_range),
+        words::colour_of(colour, matrix, full_range),
         output,
         spare,
     ))

@@ -19,8 +19,8 @@ pub record Case : Type 0 where
   pub answer : Out (List ℕ)
 
 -- every call gives its answer
-abbrev pub Holds : List Case → Type 0
-Holds cases = map (λ c. c .call) cases ≡ map (λ c. c .answer) cases
+abbrev pub AllHold : List Case → Type 0
+AllHold cases = map (λ c. c .call) cases ≡ map (λ c. c .answer) cases
 
 unfoldable pub gives : Out (List ℕ) → Out (List ℕ) → Case
 gives call answer = record { call = call; answer = answer }

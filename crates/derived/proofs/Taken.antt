@@ -4,25 +4,27 @@ use mathlib.Core.Path.{_≡_, ap, refl, sym}
 use Prim.Native.Nat.{_<_, _^_, _≤_, ℕ}
 use native.Mathlib.Omega.{arith}
 use lib.ListN.{getD, length}
-use borrow.Author.Tests.{eqb-false, ltb-false}
-use Rattle.laws.proofs.Order.{positive}
+use borrow.Author.Tests.{ltb-false}
 use Rattle.laws.proofs.Out.{andThen-done, done-same, not-done, refuse-done}
 use Rattle.laws.specs.Out.{Out, done, reason}
+use Rattle.laws.specs.Puts.{Bytes}
 use Rattle.numbers.specs.Field.{onField}
 use Rattle.numbers.specs.declared.Cursor.{Cursor}
 use Rattle.numbers.specs.declared.FieldRead.{FieldRead}
 use Rattle.numbers.specs.declared.FieldRead.the-variants.{Field, Short}
-use Rattle.image.specs.Bytes.{Bytes}
+use Rattle.image.proofs.RecordLaws.{judged-sound}
+use Rattle.image.specs.Format.{sides}
+use Rattle.image.specs.Sound.{SizeSound}
 use Rattle.derived.proofs.FieldLaws.{field-below, field-read}
 use Rattle.derived.specs.Canvas.{canvasAt, fieldBytes, startOf}
 use Rattle.derived.specs.Grid.{gridAt, gridOf}
 use Rattle.derived.specs.Overlay.{fillAt, inputsOf, overlayOf}
-use Rattle.derived.specs.inner.Sound.{CanvasSound, GridSound, OverlaySound}
 use Rattle.derived.specs.declared.canvas.Canvas.{Canvas}
 use Rattle.derived.specs.declared.canvas.Start.{Start}
 use Rattle.derived.specs.declared.grid.GridDescriptor.{GridDescriptor}
 use Rattle.derived.specs.declared.overlay.Fill.{Fill}
 use Rattle.derived.specs.declared.overlay.OverlayDescriptor.{OverlayDescriptor}
+use Rattle.derived.specs.inner.Sound.{GridSound, OverlaySound}
 
 -- a field was read, and what goes on with it answered
 pub onField-done : {A : Type 0} (o : FieldRead) (k : ℕ → ℕ → Out A) (a : A) → onField o k ≡ done a → (v : ℕ) × (c : Cursor) × (o ≡ Field v c) × (k v (c .at) ≡ done a)
@@ -39,23 +41,14 @@ start-bytes s h e =
     let q = ap (λ x. x .bytes) (done-same _ h (d .3)) in
     (omega arith, omega arith)
 
-canvas-as : (w h a b : ℕ) → w ≡ a → h ≡ b → CanvasSound w h → CanvasSound a b
-canvas-as w h a b p q k = rw (p, q) at k
-
-pub canvas-taken : (s : List ℕ) (at n : ℕ) (c : Canvas) → canvasAt s at n ≡ done c → CanvasSound (c .width) (c .height) × (c .next .at ≤ length s)
+pub canvas-taken : (s : List ℕ) (at n : ℕ) (c : Canvas) → canvasAt s at n ≡ done c → SizeSound (sides (c .width) (c .height)) × (c .next .at ≤ length s)
 unfolding canvasAt
 canvas-taken s at n c e =
     let a = onField-done _ _ c e in
     let b = onField-done _ _ c (a .3) in
-    let w = refuse-done _ _ _ c (b .3) in
-    let h = refuse-done _ _ _ c (w .1) in
-    let l = refuse-done _ _ _ c (h .1) in
-    let q = done-same _ c (l .1) in
-    let f = field-read s (a .1 .at) n (b .0) (b .1) (b .2) in (
-      canvas-as (a .0) (b .0) _ _ (ap (λ x. x .width) q) (ap (λ x. x .height) q)
-          (record { wide = positive (a .0) (eqb-false (a .0) 0 (w .0)); tall = positive (b .0) (eqb-false (b .0) 0 (h .0)); area = ltb-false _ _ (l .0) }),
-      omega (arith, ap (λ x. x .next .at) q),
-    )
+    let z = andThen-done _ _ c (b .3) in
+    let f = field-read s (a .1 .at) n (b .0) (b .1) (b .2) in
+    rw (← done-same _ c (z .2)) (judged-sound (a .0) (b .0) (z .0) (z .1), omega arith)
 
 grid-as : (g g′ : GridDescriptor) → g ≡ g′ → GridSound g → GridSound g′
 grid-as g g′ p k = rw p at k
@@ -72,7 +65,7 @@ grid-taken s g k e =
     let x = field-below s _ 1 (a .0) (a .1) k (a .2) in
     let y = field-below s _ 1 (b .0) (b .1) k (b .2) in
     let z = canvas-taken s _ _ (c .0) (c .1) .0 in
-    grid-as _ g q (record { someRows = omega arith; fewRows = omega arith; someColumns = omega arith; fewColumns = omega arith; canvas = z })
+    grid-as _ g q (record { positiveRows = omega arith; boundedRows = omega arith; positiveColumns = omega arith; boundedColumns = omega arith; canvas = z })
 
 overlay-as : (s : List ℕ) (d d′ : OverlayDescriptor) → d ≡ d′ → OverlaySound s d → OverlaySound s d′
 overlay-as s d d′ p k = rw p at k
@@ -89,7 +82,7 @@ overlay-taken s n d e =
     let q = done-same _ d (b .1) in
     let z = canvas-taken s _ _ (c .0) (c .1) .0 in
     let y = start-bytes s (h .0) (h .1) in
-    (overlay-as s _ d q (record { canvas = z; count = ltb-false _ _ (a .0); some = y .0; few = y .1; inside = ltb-false _ _ (b .0) }), sym (ap (λ u. u .count) q))
+    (overlay-as s _ d q (record { canvas = z; count = ltb-false _ _ (a .0); positive = y .0; bounded = y .1; inside = ltb-false _ _ (b .0) }), sym (ap (λ u. u .count) q))
 
 -- the fill's alpha has two bytes
 fill-small : (body : List ℕ) (at : ℕ) (f : _) → Bytes body → fillAt body at ≡ done f → f .fill .alpha ≤ 65535

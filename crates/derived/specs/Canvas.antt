@@ -1,10 +1,11 @@
 -- What both descriptors have (ISO/IEC 23008-12, 6.6.2; document 01, "Refusals in order", Grid: 1, 2, 1, 3, 4).
 use mathlib.Core.Bool.{not}
 use mathlib.Core.List.{List}
-use Prim.Native.Nat.{_%_, _*_, _+_, _^_, ℕ}
-use lib.Dec.{eqb, ltb}
-use Rattle.laws.specs.Out.{Out, done, refuse, refused}
+use Prim.Native.Nat.{_%_, _*_, _+_, ℕ}
+use lib.Dec.{eqb}
+use Rattle.laws.specs.Out.{Out, andThen, done, refuse, refused}
 use Rattle.numbers.specs.Field.{fieldAt, onField}
+use Rattle.image.specs.Format.{judgedSize}
 use Rattle.derived.specs.declared.canvas.Canvas.{Canvas}
 use Rattle.derived.specs.declared.canvas.CanvasRead.{CanvasRead}
 use Rattle.derived.specs.declared.canvas.Start.{Start}
@@ -27,9 +28,8 @@ unfoldable pub canvasAt : List ℕ → ℕ → ℕ → Out Canvas
 canvasAt s at bytes =
     onField (fieldAt s at bytes) (λ width a.
     onField (fieldAt s a bytes) (λ height b.
-    refuse (eqb width 0) 3
-    (refuse (eqb height 0) 3
-    (refuse (ltb (2 ^ 30) (width * height)) 4 (done (record { width = width; height = height; next = record { at = b } }))))))
+    andThen (judgedSize width height) (λ z.
+    done (record { width = z .width; height = z .height; next = record { at = b } }))))
 
 -- what reading them answers
 abbrev pub startOut : StartRead → Out Start

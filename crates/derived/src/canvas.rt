@@ -2,7 +2,8 @@
 ghost use mathlib.Core.Path.{_≡_};
 ghost use Prim.Native.Nat.{_≤_};
 ghost use Rattle.derived.specs.Canvas.{startOf, startOut, canvasAt, canvasOut};
-use image::PixelFormat;
+use image::Size;
+use image::SizeAnswer;
 use laws::Refusal;
 use numbers::Cursor;
 use numbers::FieldRead;
@@ -77,18 +78,12 @@ pub(crate) fn read_canvas(body: &[u8], at: Cursor, bytes: usize) -> CanvasRead
     else {
         return CanvasRead::Refused(Refusal::SHORT);
     };
-    if width == 0 {
-        return CanvasRead::Refused(Refusal::EMPTY);
+    match Size::judge(width, height) {
+        SizeAnswer::Refused(e) => CanvasRead::Refused(e),
+        SizeAnswer::Size(z) => CanvasRead::Read(Canvas {
+            width: z.width,
+            height: z.height,
+            next: b,
+        }),
     }
-    if height == 0 {
-        return CanvasRead::Refused(Refusal::EMPTY);
-    }
-    if width as u64 * height as u64 > PixelFormat::PIXEL_LIMIT {
-        return CanvasRead::Refused(Refusal::LIMIT);
-    }
-    CanvasRead::Read(Canvas {
-        width,
-        height,
-        next: b,
-    })
 }

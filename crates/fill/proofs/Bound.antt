@@ -1,24 +1,25 @@
 -- How far a fill's samples lie from H.273's figures.
-use mathlib.Core.Bool.{Bool, false, true, true≢false}
+use mathlib.Core.Bool.{Bool, false, not, true, true≢false}
 use mathlib.Core.Path.{_≡_, ap, refl, sym}
 use Prim.Native.Nat.{_*_, _+_, _-_, _/_, _<_, _^_, _≤_, min, ℕ}
 use native.Mathlib.Nat.{add-zero, div-mul-le-self, lt-div-mul-add, lt-of-mul-lt-mul-right, mul-le-mul, mul-le-mul-left, mul-le-mul-right, mul-pos, mul-zero, zero-add}
 use native.Mathlib.Omega.{arith}
-use lib.Dec.{eqb, lit<, lit≤, ltb}
+use lib.Dec.{eqb, lit<, lit≤}
 use lib.Ieee.{Float, binary64, div, down, fin, inf, mul, nan, ofInt, sub, up}
 use lib.Ieee.Exact.{HasValue}
 use lib.Ieee.Fits.{down-pos}
 use lib.Ieee.Nearest.{div-same}
 use lib.Pow.{pow-mono}
-use borrow.Author.Tests.{ltb-false}
 use Rattle.laws.proofs.Order.{by-order, pick-both}
 use Rattle.laws.proofs.Out.{Holds, refuse-holds}
 use Rattle.laws.specs.Pick.{pick}
+use Rattle.image.proofs.FormLaws.{top-high}
+use Rattle.image.proofs.RecordLaws.{depth-sound}
+use Rattle.image.specs.Format.{isDepth, topAt}
 use Rattle.fill.proofs.NearLaws.{Close, Near, NearPos, near-add, near-div, near-lit, near-more, near-mul, near-over, near-pos, near-raise, near-sub, near-times, near-times-right, near-whole, signed}
 use Rattle.fill.proofs.Rounding.{E, E-pos, W, W-is, W-pos, less, plus}
-use Rattle.fill.proofs.TopLaws.{top-small}
 use Rattle.fill.specs.Figure.{AllWithin, Fraction, Within, figuresOf, greenOf, identityFigures, lumaN, primary, raised, times, weightedFigures}
-use Rattle.fill.specs.Fill.{blueOf, cbOf, crOf, fillOf, fullChromaOf, fullOf, identityOf, lumaOf, nclxOf, partOf, redOf, studioOf, tableOf, topAt, weightedOf, weightsOf, ycbcrOf}
+use Rattle.fill.specs.Fill.{blueOf, cbOf, crOf, fillOf, fullChromaOf, fullOf, identityOf, lumaOf, nclxOf, partOf, redOf, studioOf, tableOf, weightedOf, weightsOf, ycbcrOf}
 use Rattle.fill.specs.Rounded.{lit, wholeOf}
 use Rattle.fill.specs.declared.Colour.{Colour}
 
@@ -92,7 +93,7 @@ module _ {x : Float} {a b Q : ℕ} (d : ℕ) (lo : 8 ≤ d) (hi : d ≤ 16) (Q0 
   full-within : Within (fullOf x d) (topAt d) (times (topAt d) (fraction a b Q))
   unfolding fullOf ofInt
   full-within =
-      let h = top-small d hi in
+      let h = top-high d hi in
       let e = W-is in
       let p = E-pos in
       let m = mul-le-mul-right E h in
@@ -101,7 +102,7 @@ module _ {x : Float} {a b Q : ℕ} (d : ℕ) (lo : 8 ≤ d) (hi : d ≤ 16) (Q0 
   chroma-within : Within (fullChromaOf x d) (topAt d) (raised (2 ^ (d - 1)) (times (topAt d) (fraction a b Q)))
   unfolding fullChromaOf ofInt
   chroma-within =
-      let h = top-small d hi in
+      let h = top-high d hi in
       let k : 2 ^ (d - 1) ≤ 2 ^ 15 = pow-mono {j = 15} (omega arith) in
       let e = W-is in
       let p = E-pos in
@@ -223,5 +224,6 @@ pub fill-within : (red green blue depth : ℕ) (colour : Colour) → red ≤ 655
 unfolding fillOf ycbcrOf figuresOf Holds
 fill-within R G B d colour hr hg hb =
     let n = nclxOf colour in
-    refuse-holds _ (ltb d 8) 6 _
-    (λ e. refuse-holds _ (ltb 16 d) 6 _ (λ e'. chosen (eqb (n .matrix) 0) (n .matrix) R G B d (n .«full_range») hr hg hb (ltb-false d 8 e) (ltb-false 16 d e')))
+    refuse-holds _ (not (isDepth d)) 6 _ (λ e.
+    let k = depth-sound d e in
+    chosen (eqb (n .matrix) 0) (n .matrix) R G B d (n .«full_range») hr hg hb (k .0) (k .1))

@@ -1,15 +1,15 @@
 -- A fill's samples and its alpha are at most top.
-use mathlib.Core.Bool.{Bool, false, true}
-use Prim.Native.Nat.{_*_, _<_, _^_, _≤_, ℕ}
+use mathlib.Core.Bool.{Bool, false, not, true}
+use Prim.Native.Nat.{_*_, _<_, _≤_, ℕ}
 use native.Mathlib.Nat.{le-refl, mul-le-mul-right}
 use native.Mathlib.Omega.{arith}
-use lib.Dec.{eqb, ltb}
+use lib.Dec.{eqb}
 use lib.Ieee.{Float, fin, inf, nan}
-use lib.Pow.{pow-mono}
 use Rattle.laws.proofs.Order.{mul-below, pick-both}
 use Rattle.laws.proofs.Out.{Holds, refuse-holds}
 use Rattle.laws.specs.Pick.{pick}
-use Rattle.fill.specs.Fill.{fillAlphaOf, fillOf, fullChromaOf, fullOf, identityOf, nclxOf, studioOf, topAt, weightedOf, ycbcrOf}
+use Rattle.image.specs.Format.{isDepth, topAt}
+use Rattle.fill.specs.Fill.{fillAlphaOf, fillOf, fullChromaOf, fullOf, identityOf, nclxOf, studioOf, weightedOf, ycbcrOf}
 use Rattle.fill.specs.Rounded.{wholeOf}
 use Rattle.fill.specs.declared.Colour.{Colour}
 use Rattle.fill.specs.declared.Ycbcr.{Ycbcr}
@@ -18,9 +18,6 @@ use Rattle.fill.specs.declared.weights.Weights.{Weights}
 -- a product of two 16-bit numbers
 pub product-small : (a t : ℕ) → a < 65536 → t < 65536 → a * t ≤ 65535 * 65535
 product-small a t h k = mul-below 65535 65535 a t (omega arith) (omega arith)
-
-pub top-small : (d : ℕ) → d ≤ 16 → topAt d ≤ 65535
-top-small d h = let p : 2 ^ d ≤ 2 ^ 16 = pow-mono h in omega arith
 
 -- the fill's alpha
 pub fill-alpha-top : (a d : ℕ) → a ≤ 65535 → fillAlphaOf a d ≤ topAt d
@@ -54,4 +51,4 @@ weighted-top w r g b d false = record { y = whole-top _ _; cb = whole-top _ _; c
 pub fill-top : (red green blue depth : ℕ) (colour : Colour) → Holds (λ s. AtMost s (topAt depth)) (fillOf red green blue depth colour)
 unfolding fillOf ycbcrOf Holds
 fill-top red green blue depth colour =
-    refuse-holds _ (ltb depth 8) 6 _ (λ e. refuse-holds _ (ltb 16 depth) 6 _ (λ e'. pick-both (λ (s : Ycbcr). AtMost s (topAt depth)) (eqb (nclxOf colour .matrix) 0) _ _ (identity-top _ _ _ depth) (weighted-top _ _ _ _ depth _)))
+    refuse-holds _ (not (isDepth depth)) 6 _ (λ e. pick-both (λ (s : Ycbcr). AtMost s (topAt depth)) (eqb (nclxOf colour .matrix) 0) _ _ (identity-top _ _ _ depth) (weighted-top _ _ _ _ depth _))

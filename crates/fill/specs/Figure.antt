@@ -1,9 +1,10 @@
 -- H.273's figures for a fill, exact, and what it is to lie less than one step from one.
 use mathlib.Core.Bool.{Bool}
-use Prim.Native.Nat.{ℕ, _+_, _-_, _*_, _^_, _<_, min}
+use Prim.Native.Nat.{_*_, _+_, _-_, _<_, _^_, min, ℕ}
 use lib.Dec.{eqb}
 use Rattle.laws.specs.Pick.{pick}
-use Rattle.fill.specs.Fill.{nclxOf, redOf, blueOf, topAt}
+use Rattle.image.specs.Format.{topAt}
+use Rattle.fill.specs.Fill.{blueOf, nclxOf, redOf}
 use Rattle.fill.specs.declared.Colour.{Colour}
 use Rattle.fill.specs.declared.Ycbcr.{Ycbcr}
 

@@ -1,15 +1,16 @@
 -- A fill's samples (document 01, Fill; `fill_to_ycbcr`; H.273), over doubles whose operations round once.
-use mathlib.Core.Bool.{Bool, true}
-use Prim.Native.Nat.{ℕ, _+_, _-_, _*_, _/_, _^_}
-use lib.Dec.{eqb, ltb}
+use mathlib.Core.Bool.{Bool, not, true}
+use Prim.Native.Nat.{_*_, _+_, _-_, _/_, _^_, ℕ}
+use lib.Dec.{eqb}
 use lib.Ieee.{Float}
+use Rattle.laws.specs.Out.{Out, done, refuse, refused}
 use Rattle.laws.specs.Pick.{pick}
-use Rattle.laws.specs.Out.{Out, refused, done, refuse}
-use Rattle.fill.specs.Rounded.{add, sub, mul, div, lit, num, wholeOf}
-use Rattle.fill.specs.declared.Nclx.{Nclx}
+use Rattle.image.specs.Format.{isDepth, middleAt, topAt}
+use Rattle.fill.specs.Rounded.{add, div, lit, mul, num, sub, wholeOf}
 use Rattle.fill.specs.declared.Colour.{Colour}
-use Rattle.fill.specs.declared.Ycbcr.{Ycbcr}
 use Rattle.fill.specs.declared.Filled.{Filled}
+use Rattle.fill.specs.declared.Nclx.{Nclx}
+use Rattle.fill.specs.declared.Ycbcr.{Ycbcr}
 use Rattle.fill.specs.declared.weights.Weights.{Weights}
 
 -- without nclx: matrix 6, full range
@@ -59,15 +60,12 @@ crOf w r y = div (sub r y) (mul (lit 2 1) (sub (lit 1 1) (w .kr)))
 
 -- ---- samples
 
-abbrev pub topAt : ℕ → ℕ
-topAt depth = 2 ^ depth - 1
-
 -- the full range: of top; chroma about the middle
 unfoldable pub fullOf : Float → ℕ → ℕ
 fullOf x depth = wholeOf (mul x (num (topAt depth))) (topAt depth)
 
 unfoldable pub fullChromaOf : Float → ℕ → ℕ
-fullChromaOf x depth = wholeOf (add (mul x (num (topAt depth))) (num (2 ^ (depth - 1)))) (topAt depth)
+fullChromaOf x depth = wholeOf (add (mul x (num (topAt depth))) (num (middleAt depth))) (topAt depth)
 
 -- the studio range: (k x + o) * 2 ^ (depth - 8)
 unfoldable pub studioOf : Float → Float → Float → ℕ → ℕ
@@ -101,8 +99,7 @@ filledOut (Filled.Refused e) = refused e
 -- a fill's red, green and blue of 16 bits ("Refusals in order", fill): 6 a depth outside 8 to 16
 unfoldable pub fillOf : ℕ → ℕ → ℕ → ℕ → Colour → Out Ycbcr
 fillOf red green blue depth colour =
-    refuse (ltb depth 8) 6
-    (refuse (ltb 16 depth) 6 (done (ycbcrOf (partOf red) (partOf green) (partOf blue) depth (nclxOf colour))))
+    refuse (not (isDepth depth)) 6 (done (ycbcrOf (partOf red) (partOf green) (partOf blue) depth (nclxOf colour)))
 
 -- a fill's alpha of 16 bits (document 01, Overlay)
 unfoldable pub fillAlphaOf : ℕ → ℕ → ℕ

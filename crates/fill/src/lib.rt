@@ -9,8 +9,8 @@ mod weights;
 use crate::samples::full;
 use crate::samples::full_chroma;
 use crate::samples::studio;
-use crate::samples::top;
 use crate::weights::Weights;
+use image::PixelFormat;
 use laws::Refusal;
 
 // An nclx colour description: H.273's matrix number, and whether samples have the full range.
@@ -57,10 +57,7 @@ impl Colour {
 pub fn fill_to_ycbcr(red: u16, green: u16, blue: u16, depth: u32, colour: Colour) -> Filled
     ensures { λ f. ⌜ filledOut f ≡ fillOf red green blue depth colour ⌝ }
 {
-    if depth < 8 {
-        return Filled::Refused(Refusal::DEPTH);
-    }
-    if depth > 16 {
+    if !PixelFormat::is_depth(depth) {
         return Filled::Refused(Refusal::DEPTH);
     }
     let n = colour.nclx();
@@ -81,7 +78,7 @@ pub fn fill_alpha(alpha: u16, depth: u32) -> u16
     requires { ⌜ depth ≤ 16 ⌝ }
     ensures { λ r. ⌜ r ≡ fillAlphaOf alpha depth ⌝ }
 {
-    let top = top(depth) as u64;
+    let top = PixelFormat::top_at(depth) as u64;
     ((alpha as u64 * top + 32767) / 65535) as u16
 }
 

@@ -2,7 +2,8 @@
 ghost use mathlib.Core.Path.{_≡_};
 ghost use Prim.Native.Nat.{_≤_, _<_, _^_};
 ghost use Rattle.fill.specs.Rounded.{wholeOf};
-ghost use Rattle.fill.specs.Fill.{topAt, fullOf, fullChromaOf, studioOf};
+ghost use Rattle.fill.specs.Fill.{fullOf, fullChromaOf, studioOf};
+use image::PixelFormat;
 
 // 2 ^ n
 fn power(n: u32) -> u32
@@ -10,14 +11,6 @@ fn power(n: u32) -> u32
     ensures { λ r. ⌜ r ≡ 2 ^ n ⌝ }
 {
     1u32 << n
-}
-
-// The largest sample.
-pub fn top(depth: u32) -> u16
-    requires { ⌜ depth ≤ 16 ⌝ }
-    ensures { λ r. ⌜ r ≡ topAt depth ⌝ }
-{
-    (power(depth) - 1) as u16
 }
 
 // x to a whole number, a half away from zero, held to 0 and top. Between them x has a whole part t, and t + 1/2 is an f64
@@ -44,7 +37,7 @@ pub fn full(x: f64, depth: u32) -> u16
     requires { ⌜ depth ≤ 16 ⌝ }
     ensures { λ s. ⌜ s ≡ fullOf x depth ⌝ }
 {
-    let top = top(depth);
+    let top = PixelFormat::top_at(depth);
     whole(x * top as f64, top)
 }
 
@@ -53,8 +46,8 @@ pub fn full_chroma(x: f64, depth: u32) -> u16
     requires { ⌜ (8 ≤ depth) × (depth ≤ 16) ⌝ }
     ensures { λ s. ⌜ s ≡ fullChromaOf x depth ⌝ }
 {
-    let top = top(depth);
-    let middle = power(depth - 1) as f64;
+    let top = PixelFormat::top_at(depth);
+    let middle = PixelFormat::middle_at(depth) as f64;
     whole(x * top as f64 + middle, top)
 }
 
@@ -63,7 +56,7 @@ pub fn studio(k: f64, o: f64, x: f64, depth: u32) -> u16
     requires { ⌜ (8 ≤ depth) × (depth ≤ 16) ⌝ }
     ensures { λ s. ⌜ s ≡ studioOf k o x depth ⌝ }
 {
-    let top = top(depth);
+    let top = PixelFormat::top_at(depth);
     let step = power(depth - 8) as f64;
     whole((k * x + o) * step, top)
 }

@@ -10,7 +10,7 @@ use lib.Pow.{high}
 use borrow.Author.Tests.{eq-eqb, ne-eqb}
 use Rattle.laws.proofs.Order.{by-equal, item-within, pick-false, pick-true, positive}
 use Rattle.image.proofs.FormLaws.{row-le, size-le}
-use Rattle.image.specs.Bytes.{planeHead, planeSize, sizeOf, tightAt}
+use Rattle.planes.specs.Bytes.{planeHead, planeSize, sizeOf, tightAt}
 use Rattle.image.specs.Format.{bytesOf, columnsOf, hasPart, rowSize, rowsOf}
 use Rattle.image.specs.Record.{planeOf}
 use Rattle.image.specs.Sound.{FormSound}
@@ -19,7 +19,7 @@ use Rattle.image.specs.declared.format.Part.{Part}
 use Rattle.image.specs.declared.format.Part.the-variants.{Alpha, Cb, Cr, Luma}
 use Rattle.image.specs.declared.record.Plane.{Plane}
 use Rattle.grid.proofs.CellLaws.{visible-within}
-use Rattle.grid.proofs.LaidLaws.{beginOf, tight-part}
+use Rattle.paste.proofs.HeadedLaws.{beginOf, tight-part}
 use Rattle.grid.specs.Cell.{cellOf, noCell, visibleOf}
 use Rattle.grid.specs.declared.cell.Cell.{Cell}
 

@@ -16,11 +16,11 @@ use Rattle.laws.specs.Out.{done, reason, refused}
 use Rattle.laws.specs.Pick.{pick}
 use Rattle.laws.specs.Puts.{puts}
 use Rattle.image.proofs.FormLaws.{columns-some, rows-some}
-use Rattle.image.proofs.PictureLaws.{needs-colour}
-use Rattle.image.proofs.RoundTrip.{encode-agree, length-encode}
-use Rattle.image.specs.Bytes.{decode, encode, headBytes, sizeOf}
-use Rattle.image.specs.Format.{bytesOf, columnsOf, halved, halvesX, halvesY, hasPart, isMono, rowsOf, sideOf, topOf}
-use Rattle.image.specs.Picture.{Agree, Pic, as444, needs444, odd, sized}
+use Rattle.planes.proofs.PictureLaws.{needs-colour}
+use Rattle.planes.proofs.RoundTrip.{encode-agree, length-encode}
+use Rattle.planes.specs.Bytes.{decode, encode, headBytes, sizeOf, pictureIn}
+use Rattle.image.specs.Format.{bytesOf, columnsOf, halved, halvesX, halvesY, hasPart, isMono, rowsOf, sideOf, topOf, as444, needs444, odd, sized, withAlpha}
+use Rattle.planes.specs.Picture.{Agree, Pic}
 use Rattle.image.specs.declared.format.Form.{Form}
 use Rattle.image.specs.declared.format.Part.{Part}
 use Rattle.image.specs.declared.format.Part.the-variants.{Alpha, Cb, Cr, Luma}
@@ -33,12 +33,14 @@ use Rattle.grid.proofs.PaintLaws.{head-alpha, length-canvas}
 use Rattle.grid.proofs.PasteLaws.{Meets}
 use Rattle.grid.proofs.Suited.{suits-bytes, suits-canvas, tile-parts, tile-sound, tilePic-form}
 use Rattle.grid.specs.Cell.{storeTile, tileForm, tilePic}
-use Rattle.grid.specs.inner.Rows.{Suits}
-use Rattle.grid.specs.Mosaic.{canvasBytes, gridPic, laid, mosaicAt, opaqueAt, plainAt, plainPic, tileIndex}
+use Rattle.grid.specs.inner.Rows.{FitsCanvas}
+use Rattle.grid.specs.Mosaic.{canvasBytes, gridPic, mosaicAt, opaqueAt, plainAt, plainPic, tileIndex}
+use Rattle.paste.specs.Stored.{headed}
 use Rattle.grid.specs.inner.Stored.{storeTiles}
 use Rattle.grid.specs.inner.Ready.{TilesTaken}
-use Rattle.grid.specs.Run.{framesIn, gridOn, gridRun, noFrame, tileIn}
-use Rattle.grid.specs.Tiles.{canvasForm, countOf, promotesOf, tilesOf, withAlpha}
+use Rattle.grid.specs.Run.{framesIn, gridOn, gridRun}
+use Rattle.image.specs.Tray.{noFrame}
+use Rattle.grid.specs.Tiles.{canvasForm, countOf, promotesOf, tilesOf}
 use Rattle.grid.specs.declared.tiles.Tiles.{Tiles}
 
 -- ---- a tile that was taken suits the canvas
@@ -173,8 +175,8 @@ alpha-again : (g : GridDescriptor) (t : Form) (a : ℕ) → withAlpha (canvasFor
 unfolding canvasForm withAlpha
 alpha-again g t a = refl
 
-encode-laid : (P : Pic) → encode P ≡ laid (headBytes (P .form)) P
-unfolding encode laid
+encode-laid : (P : Pic) → encode P ≡ headed (headBytes (P .form)) P
+unfolding encode headed
 encode-laid P = refl
 
 module _ (tray : List ℕ) (t : Tiles) (ok : TilesTaken tray t) where
@@ -187,7 +189,7 @@ module _ (tray : List ℕ) (t : Tiles) (ok : TilesTaken tray t) where
   abbrev frame : ℕ → Frame
   frame i = getD (framesIn tray t) i noFrame
 
-  pub suits-of : (i n : ℕ) → i < countOf (t .desc) → sizeOf canvas ≤ n → Suits tray (frame i) canvas b n
+  pub suits-of : (i n : ℕ) → i < countOf (t .desc) → sizeOf canvas ≤ n → FitsCanvas tray (frame i) canvas b n
   suits-of i n l r =
       let k = ok .alike i l in
       record {
@@ -202,10 +204,10 @@ module _ (tray : List ℕ) (t : Tiles) (ok : TilesTaken tray t) where
 
   -- the tile as a picture
   abbrev T : ℕ → Pic
-  T i = tilePic b (tileIn tray (framesIn tray t) i)
+  T i = tilePic b (pictureIn tray (framesIn tray t) i)
 
   pub T-form : (i : ℕ) → T i .form ≡ tileForm b (frame i .form)
-  unfolding tileIn decode
+  unfolding pictureIn decode
   T-form i = tilePic-form b (decode tray (frame i))
 
   pub meets-of : (i : ℕ) → i < countOf (t .desc) → Meets (T i .form) canvas
@@ -287,14 +289,14 @@ module _ (tray : List ℕ) (t : Tiles) (ok : TilesTaken tray t) where
       ∙ tiles-pasted T (t .desc .columns) canvas (plainPic canvas) (headBytes (withAlpha canvas (t .alpha))) (drop (length (canvasBytes canvas (t .alpha))) d) (countOf (t .desc)) (plain-form canvas) (λ i k. meets-of i k) (head-alpha canvas (t .alpha) one (ok .canvas .alpha))
       ∙ ap₂ (λ (a b : List ℕ). a ++ b) (as-encoded ∙ encode-agree _ _ grid-agree) (ap (λ (k : ℕ). drop k d) (n ∙ sym m)) ∙ sym (puts-start d (encode (gridOn tray t)) (omega arith))
     where
-      as-encoded : laid (headBytes (withAlpha canvas (t .alpha))) (pastes T (t .desc .columns) (downFrom (countOf (t .desc))) (plainPic canvas)) ≡ encode (pastes T (t .desc .columns) (downFrom (countOf (t .desc))) (plainPic canvas))
+      as-encoded : headed (headBytes (withAlpha canvas (t .alpha))) (pastes T (t .desc .columns) (downFrom (countOf (t .desc))) (plainPic canvas)) ≡ encode (pastes T (t .desc .columns) (downFrom (countOf (t .desc))) (plainPic canvas))
       as-encoded =
-          ap (λ (m : Form). laid (headBytes m) (pastes T (t .desc .columns) (downFrom (countOf (t .desc))) (plainPic canvas)))
+          ap (λ (m : Form). headed (headBytes m) (pastes T (t .desc .columns) (downFrom (countOf (t .desc))) (plainPic canvas)))
           (alpha-again (t .desc) (t .tile) (t .alpha) ∙ sym (plain-form canvas) ∙ sym (pastes-form T (t .desc .columns) (downFrom (countOf (t .desc))) (plainPic canvas)))
           ∙ sym (encode-laid (pastes T (t .desc .columns) (downFrom (countOf (t .desc))) (plainPic canvas)))
 
   -- in the words of the loop that stores them
-  pub suits-at : (i n : ℕ) (f : Frame) (c : Form) (q : Bool) → i < countOf (t .desc) → frame i ≡ f → c ≡ canvas → q ≡ b → sizeOf canvas ≤ n → Suits tray f c q n
+  pub suits-at : (i n : ℕ) (f : Frame) (c : Form) (q : Bool) → i < countOf (t .desc) → frame i ≡ f → c ≡ canvas → q ≡ b → sizeOf canvas ≤ n → FitsCanvas tray f c q n
   suits-at i n f c q l e ec eq r = rw (ec, eq) (rw e at (suits-of i n l r))
 
 -- the frame that a loop is at
@@ -320,7 +322,7 @@ pub tiles-more : (c : Form) (T : ℕ → Pic) (columns n : ℕ) (d : List ℕ) �
 unfolding storeTiles
 tiles-more c T columns n d = let e : n + 1 ≡ suc n = omega arith in ap (λ (k : ℕ). storeTiles c T columns k d) (sym e)
 
-length-storeTile : (c : Form) (T : Pic) (column row : ℕ) (d : List ℕ) → length (storeTile c T column row d) ≡ length d
+pub length-storeTile : (c : Form) (T : Pic) (column row : ℕ) (d : List ℕ) → length (storeTile c T column row d) ≡ length d
 unfolding storeTile
 length-storeTile c T column row d = length-storePart c T column row _ _ ∙ length-storePart c T column row Cr _ ∙ length-storePart c T column row Cb _ ∙ length-storePart c T column row Luma d
 

@@ -13,27 +13,26 @@ use Rattle.laws.proofs.Order.{and-true, by-equal, by-test, pick-false, pick-le,
 use Rattle.laws.proofs.Out.{andThen-done, done-same, not-done, refuse-done}
 use Rattle.laws.specs.Out.{done}
 use Rattle.laws.specs.Pick.{pick}
+use Rattle.laws.specs.Puts.{Bytes}
 use Rattle.numbers.specs.Number.{readNumber}
 use Rattle.image.proofs.RecordLaws.{on-number, record-sound}
 use Rattle.image.proofs.TrayLaws.{frames-length}
-use Rattle.image.specs.Bytes.{Bytes}
-use Rattle.image.specs.Format.{hasAlpha}
-use Rattle.image.specs.Picture.{sized}
+use Rattle.image.specs.Format.{hasAlpha, hasSize, sized, withAlpha}
 use Rattle.image.specs.Sound.{FormSound}
-use Rattle.image.specs.inner.Placed.{Sound}
-use Rattle.image.specs.Tray.{framesAt}
+use Rattle.image.specs.Tray.{framesAt, noFrame, takenOf}
 use Rattle.image.specs.declared.format.Form.{Form}
 use Rattle.image.specs.declared.format.PixelFormat.{PixelFormat}
 use Rattle.image.specs.declared.record.Frame.{Frame}
+use Rattle.image.specs.inner.Placed.{Sound}
 use Rattle.derived.proofs.Taken.{grid-taken}
 use Rattle.derived.specs.Grid.{gridOf}
-use Rattle.derived.specs.inner.Sound.{GridSound}
 use Rattle.derived.specs.declared.grid.GridDescriptor.{GridDescriptor}
+use Rattle.derived.specs.inner.Sound.{GridSound}
 use Rattle.grid.proofs.Suited.{tile-sound}
-use Rattle.grid.specs.inner.Ready.{Alike, TilesTaken}
-use Rattle.grid.specs.Run.{framesIn, noFrame, takenOf}
-use Rattle.grid.specs.Tiles.{alikeFrom, canvasForm, countOf, coversOf, judgeOf, promotesOf, sameLayout, sameSize, tilesAt, tilesOf, withAlpha}
+use Rattle.grid.specs.Run.{framesIn}
+use Rattle.grid.specs.Tiles.{alikeFrom, canvasForm, countOf, spansCanvas, judgeOf, promotesOf, sameLayout, tilesAt, tilesOf}
 use Rattle.grid.specs.declared.tiles.Tiles.{Tiles}
+use Rattle.grid.specs.inner.Ready.{Alike, TilesTaken}
 
 -- ---- what was judged
 
@@ -44,8 +43,8 @@ pub record AllAlike (t : Form) (a b : ℕ) (frs : List Frame) : Type 0 where
   pub alike : (i : ℕ) → i < length frs → Alike t (getD frs i noFrame .form)
   pub alpha : (i : ℕ) → i < length frs → getD frs i noFrame .form .format .alpha ≤ 1 → getD frs i noFrame .form .format .alpha ≤ b
 
-same-alike : (t m : Form) → not (sameSize t m) ≡ false → not (sameLayout t m) ≡ false → Alike t m
-unfolding sameSize sameLayout
+same-alike : (t m : Form) → not (hasSize m (t .width) (t .height)) ≡ false → not (sameLayout t m) ≡ false → Alike t m
+unfolding hasSize sameLayout
 same-alike t m p q =
     let a = and-true _ _ (not-false _ p) in
     let b = and-true _ _ (not-false _ q) in
@@ -105,7 +104,7 @@ canvas-sound g t a ok m l =
     record { chroma = k .chroma; low = k .low; high = k .high; alpha = l; wide = k .wide; tall = k .tall; area = k .area }
 
 tiles-shape : (g : GridDescriptor) (at : ℕ) (frs : List Frame) (t : Tiles) → judgeOf g at frs ≡ done t
-    → (fr : Frame) × (rest : List Frame) × (a : ℕ) × (frs ≡ fr ∷ rest) × (not (coversOf g (fr .form)) ≡ false) × (alikeFrom (fr .form) 0 frs ≡ done a) × (record { desc = g; tile = fr .form; alpha = a; first = at } ≡ t)
+    → (fr : Frame) × (rest : List Frame) × (a : ℕ) × (frs ≡ fr ∷ rest) × (not (spansCanvas g (fr .form)) ≡ false) × (alikeFrom (fr .form) 0 frs ≡ done a) × (record { desc = g; tile = fr .form; alpha = a; first = at } ≡ t)
 unfolding judgeOf
 tiles-shape g at [] t e = not-done _ t e
 tiles-shape g at (fr ∷ rest) t e =
@@ -113,9 +112,9 @@ tiles-shape g at (fr ∷ rest) t e =
     let v = andThen-done _ _ t (u .1) in
     (fr, rest, v .0, refl, u .0, v .1, done-same _ t (v .2))
 
-built : (tray : List ℕ) (g : GridDescriptor) (at : ℕ) (frs : List Frame) (fr : Frame) (a : ℕ) → GridSound g → framesAt (countOf g) tray at ≡ done frs → not (coversOf g (fr .form)) ≡ false → alikeFrom (fr .form) 0 frs ≡ done a
+built : (tray : List ℕ) (g : GridDescriptor) (at : ℕ) (frs : List Frame) (fr : Frame) (a : ℕ) → GridSound g → framesAt (countOf g) tray at ≡ done frs → not (spansCanvas g (fr .form)) ≡ false → alikeFrom (fr .form) 0 frs ≡ done a
     → (0 < length frs) × (getD frs 0 noFrame ≡ fr) → TilesTaken tray (record { desc = g; tile = fr .form; alpha = a; first = at })
-unfolding framesIn takenOf coversOf
+unfolding framesIn takenOf spansCanvas
 built tray g at frs fr a ok taken covers alike first =
     let n : length frs ≡ countOf g = frames-length (countOf g) tray at frs taken in
     let q : framesIn tray (record { desc = g; tile = fr .form; alpha = a; first = at }) ≡ frs = ap takenOf taken in
@@ -125,8 +124,8 @@ built tray g at frs fr a ok taken covers alike first =
     let m : FormSound (fr .form) = ap-sound (first .1) (s 0 (first .0) .form) in
     record {
       taken = taken ∙ ap done (sym q);
-      rows = (ok .someRows, ok .fewRows);
-      columns = (ok .someColumns, ok .fewColumns);
+      rows = (ok .positiveRows, ok .boundedRows);
+      columns = (ok .positiveColumns, ok .boundedColumns);
       canvas = canvas-sound g (fr .form) a ok m (k .most (omega arith));
       tile = m;
       coverX = leb-true _ _ (c .0);

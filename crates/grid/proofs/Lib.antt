@@ -1,7 +1,5 @@
 pub mod CellLaws
 pub mod TilesLaws
-pub mod StoreLaws
-pub mod LaidLaws
 pub mod CellFits
 pub mod Suited
 pub mod PaintLaws

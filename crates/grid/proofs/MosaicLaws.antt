@@ -11,17 +11,18 @@ use lib.ListN.{length}
 use borrow.Author.Tests.{eq-eqb, ne-eqb}
 use Rattle.laws.proofs.Order.{and-no, and-true, apart, by-equal, by-test, pick-both, pick-false, pick-true, true-and, within, within-true, within-yes}
 use Rattle.laws.specs.Pick.{pick}
-use Rattle.image.specs.Bytes.{headBytes}
+use Rattle.planes.specs.Bytes.{headBytes}
 use Rattle.image.specs.Format.{columnsOf, hasPart, rowsOf}
-use Rattle.image.specs.Picture.{Pic}
+use Rattle.planes.specs.Picture.{Pic}
 use Rattle.image.specs.declared.format.Form.{Form}
 use Rattle.image.specs.declared.format.Part.{Part}
 use Rattle.image.specs.declared.format.Part.the-variants.{Alpha, Cb, Cr, Luma}
 use Rattle.grid.proofs.CellLaws.{visible-shows, visible-tile}
-use Rattle.grid.proofs.LaidLaws.{onPart-here, onPart-other, partNumber, samePart}
+use Rattle.paste.proofs.HeadedLaws.{onPart-here, onPart-other, partNumber, samePart}
 use Rattle.grid.proofs.PasteLaws.{Meets, paste-form, pasteAt, pastePart, pasteTile, shows, tile-pasted}
 use Rattle.grid.specs.Cell.{storeTile, visibleOf}
-use Rattle.grid.specs.Mosaic.{among, laid, tileIndex}
+use Rattle.grid.specs.Mosaic.{among, tileIndex}
+use Rattle.paste.specs.Stored.{headed}
 use Rattle.grid.specs.inner.Stored.{storeTiles}
 
 -- ---- a tile's samples, part by part
@@ -172,7 +173,13 @@ module _ (c : Form) (T : ℕ → Pic) (columns : ℕ) (p : Part) (w h x y : ℕ)
       other-step : (j ≡ tileIndex columns w h x y → ⊥) → pick (hasPart (T j .form .format) p) (pasteAt (T j) (j % columns) (j / columns) p (pastes T columns js P) x y) (pastes T columns js P .at p x y) ≡ pastes T columns js P .at p x y
       other-step d = pick-both (λ (v : ℕ). v ≡ pastes T columns js P .at p x y) _ _ _ (paste-hidden (T j) (j % columns) (j / columns) p (pastes T columns js P) x y (ap (λ (m : Form). shows m (T j .form) (j % columns) (j / columns) p x y) form ∙ other-shows j (mine .0) (mine .1) d)) refl
 
-      own-step : pastes T columns js P .at p x y ≡ pick (among (tileIndex columns w h x y) js && hasPart (T (tileIndex columns w h x y) .form .format) p) (T (tileIndex columns w h x y) .at p (x % w) (y % h)) (P .at p x y) → (q : j ≡ tileIndex columns w h x y) → pick (hasPart (T j .form .format) p) (pasteAt (T j) (j % columns) (j / columns) p (pastes T columns js P) x y) (pastes T columns js P .at p x y)
+      own-step :
+          pastes T columns js P .at p x y
+          ≡ pick (among (tileIndex columns w h x y) js && hasPart (T (tileIndex columns w h x y) .form .format) p)
+          (T (tileIndex columns w h x y) .at p (x % w) (y % h)) (P .at p x y)
+          → (q : j ≡ tileIndex columns w h x y)
+          → pick (hasPart (T j .form .format) p) (pasteAt (T j) (j % columns) (j / columns) p (pastes T columns js P) x y)
+          (pastes T columns js P .at p x y)
           ≡ pick (true && hasPart (T (tileIndex columns w h x y) .form .format) p) (T (tileIndex columns w h x y) .at p (x % w) (y % h)) (P .at p x y)
       own-step before q =
           by-test (hasPart (T j .form .format) p)
@@ -212,7 +219,7 @@ down-among i (suc n) e = by-equal n i (λ q. omega arith) (λ d. le-step (down-a
 
 -- stored in turn, they are pasted in turn
 pub tiles-pasted : (T : ℕ → Pic) (columns : ℕ) (c : Form) (P : Pic) (h rest : List ℕ) (n : ℕ) → P .form ≡ c → ((i : ℕ) → i < n → Meets (T i .form) c) → length h ≡ length (headBytes c)
-    → storeTiles c T columns n (laid h P ++ rest) ≡ laid h (pastes T columns (downFrom n) P) ++ rest
+    → storeTiles c T columns n (headed h P ++ rest) ≡ headed h (pastes T columns (downFrom n) P) ++ rest
 unfolding storeTiles pastes downFrom
 tiles-pasted T columns c P h rest zero e m l = refl
 tiles-pasted T columns c P h rest (suc n) e m l =

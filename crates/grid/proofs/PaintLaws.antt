@@ -12,16 +12,16 @@ use Rattle.laws.specs.Span.{span}
 use Rattle.numbers.proofs.Number.{bytes-last}
 use Rattle.numbers.specs.Number.{numberBytes}
 use Rattle.image.proofs.FormLaws.{columns-le, rows-le}
-use Rattle.image.proofs.RoundTrip.{length-planeBytes, plane-none, plane-some}
-use Rattle.image.specs.Bytes.{headBytes, planeBytes, planeHead, planeSize, rowBytes, rowsBytes, sampleBytes, samplesOf, sizeOf}
-use Rattle.image.specs.Format.{bytesOf, columnsOf, hasPart, rowsOf, topOf}
+use Rattle.planes.proofs.RoundTrip.{length-planeBytes, plane-none, plane-some}
+use Rattle.planes.specs.Bytes.{headBytes, planeBytes, planeHead, planeSize, rowBytes, rowsBytes, sampleBytes, samplesOf, sizeOf}
+use Rattle.image.specs.Format.{bytesOf, columnsOf, hasPart, rowsOf, topOf, withAlpha}
 use Rattle.image.specs.Sound.{FormSound}
 use Rattle.image.specs.declared.format.Form.{Form}
 use Rattle.image.specs.declared.format.Part.{Part}
 use Rattle.image.specs.declared.format.Part.the-variants.{Alpha, Cb, Cr, Luma}
-use Rattle.grid.specs.Mosaic.{canvasBytes, laid, plainAt, plainPic}
+use Rattle.grid.specs.Mosaic.{canvasBytes, plainAt, plainPic}
+use Rattle.paste.specs.Stored.{headed}
 use Rattle.grid.specs.inner.Stored.{evenPic}
-use Rattle.grid.specs.Tiles.{withAlpha}
 
 -- rows of one sample are one run of it
 spans-even : (b : List ℕ) (n m : ℕ) → span (λ y. span (λ x. b) 0 n) 0 m ≡ span (λ x. b) 0 (m * n)
@@ -51,7 +51,7 @@ length-even-plane m v p = length-planeBytes (evenPic m v) p
 -- the whole
 pub canvas-planes : (c : Form) (a : ℕ) → canvasBytes c a
     ≡ headBytes (withAlpha c a) ++ (planeBytes (evenPic c 0) Luma ++ (planeBytes (evenPic c 0) Cb ++ (planeBytes (evenPic c 0) Cr ++ planeBytes (evenPic c (topOf (c .format))) Alpha)))
-unfolding canvasBytes laid plainPic evenPic plainAt planeBytes rowsBytes rowBytes
+unfolding canvasBytes headed plainPic evenPic plainAt planeBytes rowsBytes rowBytes
 canvas-planes c a = refl
 
 pub head-alpha : (c : Form) (a : ℕ) → a ≤ 1 → c .format .alpha ≤ 1 → length (headBytes (withAlpha c a)) ≡ length (headBytes c)

@@ -1,33 +1,29 @@
 -- Laws of tiles stored in a canvas's record: its picture with the tiles pasted in.
-use mathlib.Core.Bool.{Bool, _&&_, false, true}
+use mathlib.Core.Bool.{Bool, _&&_, true}
 use mathlib.Core.List.{List, _++_}
 use mathlib.Core.Path.{_∙_, _≡_, ap, ap₂, refl, sym}
-use Prim.Native.Nat.{_*_, _+_, _-_, _<_, _≤_, ℕ}
+use Prim.Native.Nat.{_*_, _+_, _-_, ℕ}
 use native.Mathlib.Nat.{mul-assoc}
 use native.Mathlib.Omega.{arith}
 use lib.Dec.{T}
 use lib.ListN.{length}
 use Rattle.laws.proofs.Order.{and-no, by-equal, by-test, pick-both, pick-false, pick-true, within, within-no}
-use Rattle.laws.proofs.Span.{span-cong}
 use Rattle.laws.specs.Pick.{pick}
-use Rattle.laws.specs.Puts.{puts}
-use Rattle.laws.specs.Span.{span}
-use Rattle.image.proofs.ByteLaws.{length-samplesOf, samples-same}
-use Rattle.image.proofs.FormLaws.{bytes-few}
-use Rattle.image.proofs.RoundTrip.{length-rowBytes, length-rowsBytes}
-use Rattle.image.specs.Bytes.{headBytes, rowBytes, rowsBytes, sampleBytes, samplesOf}
 use Rattle.image.specs.Format.{bytesOf, columnsOf, hasPart, rowSize, rowsOf}
-use Rattle.image.specs.Picture.{Pic}
+use Rattle.image.specs.Record.{planeOf}
 use Rattle.image.specs.Sound.{FormSound}
 use Rattle.image.specs.declared.format.Form.{Form}
 use Rattle.image.specs.declared.format.Part.{Part}
 use Rattle.image.specs.declared.format.Part.the-variants.{Alpha, Cb, Cr, Luma}
-use Rattle.grid.proofs.CellFits.{above-le, before-le, cell-is, cell-low, cell-narrow, to-start}
-use Rattle.grid.proofs.CellLaws.{rows-none, visible-within}
-use Rattle.grid.proofs.LaidLaws.{afterPart, beforePart, laid-split, length-before, onPart, onPart-here, onPart-split}
-use Rattle.grid.proofs.StoreLaws.{rows-inside, rows-patch, samples-patch}
-use Rattle.grid.specs.Cell.{cellOf, noCell, storeCell, storePart, storeRows, storeTile, visibleOf}
-use Rattle.grid.specs.Mosaic.{laid}
+use Rattle.planes.specs.Bytes.{headBytes, samplesOf, tightAt}
+use Rattle.planes.specs.Picture.{Pic}
+use Rattle.paste.proofs.HeadedLaws.{afterPart, beforePart, headed-split, onPart, onPart-split}
+use Rattle.paste.proofs.RectLaws.{no-and, rect-pasted, rectAt, rows-same}
+use Rattle.paste.proofs.RowLaws.{rows-none}
+use Rattle.paste.specs.Stored.{headed, storeRows}
+use Rattle.grid.proofs.CellFits.{cell-is, cell-low, cell-narrow}
+use Rattle.grid.proofs.CellLaws.{visible-within}
+use Rattle.grid.specs.Cell.{cellOf, noCell, storeCell, storePart, storeTile, visibleOf}
 use Rattle.grid.specs.declared.cell.Cell.{Cell}
 
 -- ---- one part of one tile
@@ -49,27 +45,6 @@ pub paste-form : (T : Pic) (column row : ℕ) (p : Part) (P : Pic) → pastePart
 unfolding pastePart onPart
 paste-form T column row p P = pick-both (λ (Q : Pic). Q .form ≡ P .form) _ _ _ refl refl
 
--- the rows of a part that was changed
-onPart-rows : (P : Pic) (p : Part) (f : ℕ → ℕ → ℕ) → rowsBytes (onPart P p f) p ≡ span (λ y. samplesOf (bytesOf (P .form .format)) (λ x. f x y) (columnsOf (P .form) p)) 0 (rowsOf (P .form) p)
-unfolding rowsBytes rowBytes samplesOf onPart
-onPart-rows P p f = span-cong _ _ 0 (rowsOf (P .form) p) (λ y a b. span-cong _ _ 0 (columnsOf (P .form) p) (λ x c d. ap (sampleBytes (bytesOf (P .form .format))) (onPart-here P p f x y)))
-
-rows-same : (P : Pic) (p : Part) (f : ℕ → ℕ → ℕ) → ((x y : ℕ) → f x y ≡ P .at p x y) → rowsBytes (onPart P p f) p ≡ rowsBytes P p
-unfolding rowsBytes rowBytes samplesOf
-rows-same P p f e = onPart-rows P p f ∙ span-cong _ _ 0 (rowsOf (P .form) p) (λ y a b. span-cong _ _ 0 (columnsOf (P .form) p) (λ x c d. ap (sampleBytes (bytesOf (P .form .format))) (e x y)))
-
-no-and : {a : Bool} (b : Bool) → a ≡ false → (a && b) ≡ false
-no-and b e = rw e
-
-yes-and : {a : Bool} (b : Bool) → a ≡ true → (a && b) ≡ b
-yes-and b e = rw e
-
-rows-in-span : (P : Pic) (p : Part) (a c : ℕ) (g : ℕ → List ℕ) (k : ℕ) → ((i : ℕ) → c + length (g i) ≤ rowSize (P .form) p) → a + k ≤ rowsOf (P .form) p
-    → storeRows (rowsBytes P p) (a * rowSize (P .form) p + c) (rowSize (P .form) p) g k
-    ≡ span (λ y. pick (within a k y) (puts (rowBytes P p y) c (g (y - a))) (rowBytes P p y)) 0 (rowsOf (P .form) p)
-unfolding rowsBytes
-rows-in-span P p a c g k h l = rows-patch (rowBytes P p) (rowSize (P .form) p) (rowsOf (P .form) p) a c g k (length-rowBytes P p) h l
-
 module _ (T P : Pic) (column row : ℕ) (p : Part) (ok : FormSound (P .form)) (has : hasPart (P .form .format) p ≡ true) (same : bytesOf (T .form .format) ≡ bytesOf (P .form .format)) where
   abbrev c : Form
   c = P .form
@@ -88,11 +63,11 @@ module _ (T P : Pic) (column row : ℕ) (p : Part) (ok : FormSound (P .form)) (h
 
   -- nothing shows
   hidden : ((x y : ℕ) → pasteAt T column row p P x y ≡ P .at p x y) → cellOf c t column row p ≡ noCell
-      → (h rest : List ℕ) → storeCell (cellOf c t column row p) T p (laid h P ++ rest) ≡ laid h (onPart P p (pasteAt T column row p P)) ++ rest
+      → (h rest : List ℕ) → storeCell (cellOf c t column row p) T p (headed h P ++ rest) ≡ headed h (onPart P p (pasteAt T column row p P)) ++ rest
   unfolding storeCell noCell
   hidden e k h rest =
-      ap (λ (k : Cell). storeRows (laid h P ++ rest) (k .at) (k .stride) (λ y. samplesOf (bytesOf (t .format)) (λ x. T .at p x y) (k .across)) (k .down)) k
-      ∙ rows-none _ _ _ _ 0 refl ∙ laid-split h P p rest has
+      ap (λ (k : Cell). storeRows (headed h P ++ rest) (k .at) (k .stride) (λ y. samplesOf (bytesOf (t .format)) (λ x. T .at p x y) (k .across)) (k .down)) k
+      ∙ rows-none _ _ _ _ 0 refl ∙ headed-split h P p rest has
       ∙ ap (λ (r : List ℕ). beforePart h P p ++ (r ++ (afterPart P p ++ rest))) (sym (rows-same P p _ e))
       ∙ sym (onPart-split h P p _ rest has)
 
@@ -104,64 +79,23 @@ module _ (T P : Pic) (column row : ℕ) (p : Part) (ok : FormSound (P .form)) (h
   unfolding pasteAt shows
   low-at e x y = pick-false _ _ _ (no-and (within (column * columnsOf t p) visX x) (within-no (row * rowsOf t p) visY y (λ a b. omega arith)))
 
-  -- a row of it
+  -- the columns before it
   row-place : column * rowSize t p ≡ column * columnsOf t p * bytes
   unfolding rowSize
   row-place = ap (λ (k : ℕ). column * (columnsOf t p * k)) same ∙ sym (mul-assoc column (columnsOf t p) bytes)
 
-  row-in : (y : ℕ) → within (row * rowsOf t p) visY y ≡ true → (x : ℕ)
-      → pasteAt T column row p P x y ≡ pick (within (column * columnsOf t p) visX x) (T .at p (x - column * columnsOf t p) (y - row * rowsOf t p)) (P .at p x y)
-  unfolding pasteAt shows
-  row-in y q x = ap (λ (b : Bool). pick b (T .at p (x - column * columnsOf t p) (y - row * rowsOf t p)) (P .at p x y)) (yes-and _ q)
-
-  row-out : (y : ℕ) → within (row * rowsOf t p) visY y ≡ false → (x : ℕ) → pasteAt T column row p P x y ≡ P .at p x y
-  unfolding pasteAt shows
-  row-out y q x = pick-false _ _ _ (no-and _ q)
-
-  row-pasted : column * columnsOf t p + visX ≤ columnsOf c p → (y : ℕ)
-      → pick (within (row * rowsOf t p) visY y) (puts (rowBytes P p y) (column * rowSize t p) (samplesOf (bytesOf (t .format)) (λ x. T .at p x (y - row * rowsOf t p)) visX)) (rowBytes P p y)
-      ≡ samplesOf bytes (λ x. pasteAt T column row p P x y) (columnsOf c p)
-  unfolding rowBytes
-  row-pasted l y =
-      by-test (within (row * rowsOf t p) visY y)
-      (λ q.
-      pick-true _ _ _ q
-      ∙ ap₂ (λ (i b : ℕ). puts (samplesOf bytes (λ x. P .at p x y) (columnsOf c p)) i (samplesOf b (λ x. T .at p x (y - row * rowsOf t p)) visX)) row-place same
-      ∙ samples-patch bytes (λ x. P .at p x y) (λ x. T .at p x (y - row * rowsOf t p)) (columnsOf c p) (column * columnsOf t p) visX (bytes-few (P .form .format) .0) (bytes-few (P .form .format) .1) l
-      ∙ samples-same bytes _ _ (columnsOf c p) (λ x l. sym (row-in y q x)))
-      (λ q. pick-false _ _ _ q ∙ samples-same bytes _ _ (columnsOf c p) (λ x l. sym (row-out y q x)))
-
   -- it shows
   shown : (visX ≡ 0 → ⊥) → (visY ≡ 0 → ⊥) → (h rest : List ℕ) → length h ≡ length (headBytes c)
-      → storeCell (cellOf c t column row p) T p (laid h P ++ rest) ≡ laid h (onPart P p (pasteAt T column row p P)) ++ rest
-  unfolding storeCell
+      → storeCell (cellOf c t column row p) T p (headed h P ++ rest) ≡ headed h (onPart P p (pasteAt T column row p P)) ++ rest
+  unfolding storeCell pasteAt shows rectAt
   shown nx ny h rest e =
-      ap (λ (k : Cell). storeRows (laid h P ++ rest) (k .at) (k .stride) (λ y. samplesOf (bytesOf (t .format)) (λ x. T .at p x y) (k .across)) (k .down)) (cell-is c t ok p has same column row nx ny)
-      ∙ ap₂ (λ (d : List ℕ) (i : ℕ). storeRows d (i + (row * rowsOf t p * rowSize c p + column * rowSize t p)) (rowSize c p) rows visY) (laid-split h P p rest has) (to-start c t ok p has same column row ∙ sym (length-before h P p e))
-      ∙ rows-inside (beforePart h P p) (rowsBytes P p) (afterPart P p ++ rest) (row * rowsOf t p * rowSize c p + column * rowSize t p) (rowSize c p) rows visY inside
-      ∙ ap (λ (r : List ℕ). beforePart h P p ++ (r ++ (afterPart P p ++ rest))) pasted
-      ∙ sym (onPart-split h P p _ rest has)
-    where
-      rows : ℕ → List ℕ
-      rows y = samplesOf (bytesOf (t .format)) (λ x. T .at p x y) visX
-
-      few : (1 ≤ bytesOf (t .format)) × (bytesOf (t .format) ≤ 2)
-      few = bytes-few (t .format)
-
-      long : (y : ℕ) → length (rows y) ≡ visX * bytes
-      long y = length-samplesOf (bytesOf (t .format)) (λ x. T .at p x y) visX (few .0) (few .1) ∙ ap (λ (k : ℕ). visX * k) same
-
-      inside : (y : ℕ) → y < visY → row * rowsOf t p * rowSize c p + column * rowSize t p + y * rowSize c p + length (rows y) ≤ length (rowsBytes P p)
-      inside y l = omega (arith, above-le c t ok p has same column row nx ny y l, before-le c t ok p has same column row nx ny, long y, length-rowsBytes P p)
-
-      pasted : storeRows (rowsBytes P p) (row * rowsOf t p * rowSize c p + column * rowSize t p) (rowSize c p) rows visY ≡ rowsBytes (onPart P p (pasteAt T column row p P)) p
-      pasted =
-          rows-in-span P p (row * rowsOf t p) (column * rowSize t p) rows visY (λ y. omega (arith, before-le c t ok p has same column row nx ny, long y)) (visible-within (rowsOf c p) (rowsOf t p) row ny)
-          ∙ span-cong _ _ 0 (rowsOf c p) (λ y a b. row-pasted (visible-within (columnsOf c p) (columnsOf t p) column nx) y) ∙ sym (onPart-rows P p (pasteAt T column row p P))
+      ap (λ (k : Cell). storeRows (headed h P ++ rest) (k .at) (k .stride) (λ y. samplesOf (bytesOf (t .format)) (λ x. T .at p x y) (k .across)) (k .down)) (cell-is c t ok p has same column row nx ny)
+      ∙ ap₂ (λ (i b : ℕ). storeRows (headed h P ++ rest) (planeOf (tightAt c 0) p .start + (row * rowsOf t p * rowSize c p + i)) (rowSize c p) (λ y. samplesOf b (λ x. T .at p x y) visX) visY) row-place same
+      ∙ rect-pasted P p has (column * columnsOf t p) visX (row * rowsOf t p) visY (T .at p) (visible-within (columnsOf c p) (columnsOf t p) column nx) (visible-within (rowsOf c p) (rowsOf t p) row ny) h rest e
 
 -- STORED IN ITS CELL, A PART IS PASTED IN
 pub part-pasted : (T P : Pic) (column row : ℕ) (p : Part) (h rest : List ℕ) → FormSound (P .form) → (hasPart (T .form .format) p ≡ true → hasPart (P .form .format) p ≡ true) → bytesOf (T .form .format) ≡ bytesOf (P .form .format)
-    → length h ≡ length (headBytes (P .form)) → storePart (P .form) T column row p (laid h P ++ rest) ≡ laid h (pastePart T column row p P) ++ rest
+    → length h ≡ length (headBytes (P .form)) → storePart (P .form) T column row p (headed h P ++ rest) ≡ headed h (pastePart T column row p P) ++ rest
 unfolding storePart pastePart
 part-pasted T P column row p h rest ok has same e =
     by-test (hasPart (T .form .format) p)
@@ -173,8 +107,8 @@ part-pasted T P column row p h rest ok has same e =
     by-equal (visibleOf (rowsOf (P .form) p) (rowsOf (T .form) p) row) 0
     (λ z. hidden T P column row p ok (has q) same (low-at T P column row p ok (has q) same z) (cell-low (P .form) (T .form) column row p z) h rest)
     (λ ny. shown T P column row p ok (has q) same nx ny h rest e))
-    ∙ ap (λ (Q : Pic). laid h Q ++ rest) (sym (pick-true _ _ _ q)))
-    (λ q. pick-false _ _ _ q ∙ ap (λ (Q : Pic). laid h Q ++ rest) (sym (pick-false _ _ _ q)))
+    ∙ ap (λ (Q : Pic). headed h Q ++ rest) (sym (pick-true _ _ _ q)))
+    (λ q. pick-false _ _ _ q ∙ ap (λ (Q : Pic). headed h Q ++ rest) (sym (pick-false _ _ _ q)))
 
 -- ---- a tile
 
@@ -188,13 +122,13 @@ pub record Meets (t c : Form) : Type 0 where
   pub bytes : bytesOf (t .format) ≡ bytesOf (c .format)
 
 part-step : (T P : Pic) (c : Form) (column row : ℕ) (p : Part) (h rest : List ℕ) → P .form ≡ c → Meets (T .form) c → length h ≡ length (headBytes c)
-    → (storePart c T column row p (laid h P ++ rest) ≡ laid h (pastePart T column row p P) ++ rest) × (pastePart T column row p P .form ≡ c)
+    → (storePart c T column row p (headed h P ++ rest) ≡ headed h (pastePart T column row p P) ++ rest) × (pastePart T column row p P .form ≡ c)
 part-step T P c column row p h rest e m l =
     let k : Meets (T .form) (P .form) = rw e m in
-    (ap (λ (q : Form). storePart q T column row p (laid h P ++ rest)) (sym e) ∙ part-pasted T P column row p h rest (k .sound) (k .parts p) (k .bytes) (rw e l), paste-form T column row p P ∙ e)
+    (ap (λ (q : Form). storePart q T column row p (headed h P ++ rest)) (sym e) ∙ part-pasted T P column row p h rest (k .sound) (k .parts p) (k .bytes) (rw e l), paste-form T column row p P ∙ e)
 
 pub tile-pasted : (T P : Pic) (c : Form) (column row : ℕ) (h rest : List ℕ) → P .form ≡ c → Meets (T .form) c → length h ≡ length (headBytes c)
-    → (storeTile c T column row (laid h P ++ rest) ≡ laid h (pasteTile T column row P) ++ rest) × (pasteTile T column row P .form ≡ c)
+    → (storeTile c T column row (headed h P ++ rest) ≡ headed h (pasteTile T column row P) ++ rest) × (pasteTile T column row P .form ≡ c)
 unfolding storeTile pasteTile
 tile-pasted T P c column row h rest e m l =
     let s1 = part-step T P c column row Luma h rest e m l in

@@ -8,27 +8,30 @@ use lib.Dec.{leb}
 use lib.ListN.{length}
 use borrow.Author.Tests.{eqb-false, ne-eqb, not-true}
 use Rattle.laws.proofs.Order.{pick-both, pick-false, pick-true, positive}
-use Rattle.laws.proofs.Span.{span-cong}
 use Rattle.laws.specs.Pick.{pick}
-use Rattle.image.proofs.FormLaws.{bytes-few, columns-le, cover-in, width-le}
-use Rattle.image.proofs.PictureLaws.{parts-444}
+use Rattle.image.proofs.FormLaws.{bytes-few, columns-le, cover-in, height-le, rows-le, width-le}
 use Rattle.image.proofs.RecordLaws.{sample-inside}
-use Rattle.image.specs.Bytes.{dataOf, decode, sampleAt, sampleBytes, sampleIn, samplesOf, tightAt}
-use Rattle.image.specs.Format.{bytesOf, columnsOf, cover, halfX, halfY, halved, halvesX, halvesY, hasAlpha, hasPart, isMono, rowSize, rowsOf, sideOf}
-use Rattle.image.specs.inner.Line.{lineBytes}
-use Rattle.image.specs.Picture.{Pic, as444, full, pixel, promote}
-use Rattle.image.specs.Record.{planeOf}
+use Rattle.image.specs.Format.{as444, bytesOf, columnsOf, cover, halfX, halfY, halved, halvesX, halvesY, hasAlpha, hasPart, isMono, rowSize, rowsOf, sideOf}
+use Rattle.image.specs.Record.{dataOf, planeOf}
 use Rattle.image.specs.Sound.{FormSound}
 use Rattle.image.specs.declared.format.Form.{Form}
 use Rattle.image.specs.declared.format.Part.{Part}
 use Rattle.image.specs.declared.format.Part.the-variants.{Alpha, Cb, Cr, Luma}
 use Rattle.image.specs.declared.format.PixelFormat.{PixelFormat}
 use Rattle.image.specs.declared.record.Frame.{Frame}
+use Rattle.planes.proofs.ByteLaws.{samples-same}
+use Rattle.planes.proofs.PictureLaws.{parts-444}
+use Rattle.planes.specs.Bytes.{decode, sampleAt, sampleIn, samplesOf, tightAt}
+use Rattle.planes.specs.Picture.{Pic, full, pixel, promote}
+use Rattle.paste.proofs.RowLaws.{rows-cong, rows-none}
+use Rattle.paste.specs.Stored.{storeRows}
+use Rattle.paste.specs.declared.rows.Source.{Source}
+use Rattle.paste.specs.inner.Source.{RowsFit, sourceAt, sourceRow}
 use Rattle.grid.proofs.CellFits.{cell-cases, cell-is, writes-le}
-use Rattle.grid.proofs.CellLaws.{line-place, rows-cong, rows-none, visible-tile}
-use Rattle.grid.specs.Cell.{cellOf, noCell, storeCell, storePart, storeRows, tileForm, tilePic, visibleOf}
-use Rattle.grid.specs.inner.Rows.{RowsFit, Suits, tileLine}
+use Rattle.grid.proofs.CellLaws.{visible-tile}
+use Rattle.grid.specs.Cell.{cellOf, noCell, storeCell, storePart, tileForm, tilePic, visibleOf}
 use Rattle.grid.specs.declared.cell.Cell.{Cell}
+use Rattle.grid.specs.inner.Rows.{FitsCanvas}
 
 -- ---- the tile's form
 
@@ -94,6 +97,20 @@ module _ (b : Bool) (m : Form) (p : Part) where
 
 -- ---- a tile and its canvas
 
+-- where the samples of a part of it are read
+abbrev pub tileSource : Frame → Bool → Part → Source
+tileSource fr b p = record {
+  bytes = bytesOf (fr .form .format);
+  stride = planeOf fr p .stride;
+  «half_across» = b && halfX (fr .form .format) p;
+  «half_down» = b && halfY (fr .form .format) p;
+  x = 0;
+  y = 0;
+}
+
+from-start : (i : ℕ) → 0 + i ≡ i
+from-start i = omega arith
+
 pub canvas-has : (f g : PixelFormat) (p : Part) → g .chroma ≡ f .chroma → f .alpha ≤ g .alpha → hasPart f p ≡ true → hasPart g p ≡ true
 unfolding hasPart isMono hasAlpha
 canvas-has f g Luma e l h = refl
@@ -107,7 +124,7 @@ canvas-has f g Alpha e l h = ap not (ne-eqb (g .alpha) 0 (λ z. none z))
     none : g .alpha ≡ 0 → ⊥
     none z = omega (arith, some)
 
-module _ (s : List ℕ) (fr : Frame) (c : Form) (b : Bool) (n : ℕ) (ok : Suits s fr c b n) (p : Part) where
+module _ (s : List ℕ) (fr : Frame) (c : Form) (b : Bool) (n : ℕ) (ok : FitsCanvas s fr c b n) (p : Part) where
   pub suits-canvas : hasPart (fr .form .format) p ≡ true → hasPart (c .format) p ≡ true
   suits-canvas h =
       canvas-has (tileForm b (fr .form) .format) (c .format) p (ok .chroma) (rw (tile-alpha b (fr .form)) (ok .alpha)) (tile-parts b (fr .form) (ok .colour) p ∙ h)
@@ -117,12 +134,12 @@ module _ (s : List ℕ) (fr : Frame) (c : Form) (b : Bool) (n : ℕ) (ok : Suits
 
   -- its rows are read and written inside
   pub suits-rows : hasPart (fr .form .format) p ≡ true → (column row : ℕ) (k : Cell) → k ≡ cellOf c (tileForm b (fr .form)) column row p → (k .down ≡ 0 → ⊥)
-      → RowsFit n (length (dataOf s (planeOf fr p))) (k .at) (k .stride) (bytesOf (fr .form .format)) (planeOf fr p .stride) (b && halfX (fr .form .format) p) (b && halfY (fr .form .format) p) (k .across) (k .down)
+      → RowsFit n (length (dataOf s (planeOf fr p))) (k .at) (k .stride) (k .across) (k .down) (tileSource fr b p)
   unfolding noCell
   suits-rows h column row k e =
       rw e
       (cell-cases c t column row p
-      (λ (k : Cell). (k .down ≡ 0 → ⊥) → RowsFit n (length (dataOf s (planeOf fr p))) (k .at) (k .stride) (bytesOf (fr .form .format)) (planeOf fr p .stride) (b && halfX (fr .form .format) p) (b && halfY (fr .form .format) p) (k .across) (k .down))
+      (λ (k : Cell). (k .down ≡ 0 → ⊥) → RowsFit n (length (dataOf s (planeOf fr p))) (k .at) (k .stride) (k .across) (k .down) (tileSource fr b p))
       (λ z. absurd (z refl))
       (λ x y z. rw (cell-is c t (ok .canvas) p (suits-canvas h) suits-bytes column row x y) (fit x y)))
     where
@@ -139,18 +156,20 @@ module _ (s : List ℕ) (fr : Frame) (c : Form) (b : Bool) (n : ℕ) (ok : Suits
       okt = tile-sound b (fr .form) (ok .sound .form)
 
       fit : (visibleOf (columnsOf c p) (columnsOf t p) column ≡ 0 → ⊥) → (visibleOf (rowsOf c p) (rowsOf t p) row ≡ 0 → ⊥)
-          → RowsFit n (length (dataOf s (planeOf fr p))) (planeOf (tightAt c 0) p .start + (row * rowsOf t p * rowSize c p + column * rowSize t p)) (rowSize c p) (bytesOf (fr .form .format)) (planeOf fr p .stride)
-          (b && halfX (fr .form .format) p) (b && halfY (fr .form .format) p) (visibleOf (columnsOf c p) (columnsOf t p) column) (visibleOf (rowsOf c p) (rowsOf t p) row)
+          → RowsFit n (length (dataOf s (planeOf fr p))) (planeOf (tightAt c 0) p .start + (row * rowsOf t p * rowSize c p + column * rowSize t p)) (rowSize c p)
+          (visibleOf (columnsOf c p) (columnsOf t p) column) (visibleOf (rowsOf c p) (rowsOf t p) row) (tileSource fr b p)
       fit x y =
           record {
-            some = few .0;
-            few = few .1;
+            positive = few .0;
+            bounded = few .1;
             any = positive _ x;
             wide = omega (arith, visible-tile (columnsOf c p) (columnsOf t p) column, columns-le t okt p, width-le t okt);
+            tall = omega (arith, visible-tile (rowsOf c p) (rowsOf t p) row, rows-le t okt p, height-le t okt);
             reads = λ i j l m.
-                sample-inside s (fr .form) p (planeOf fr p) (ok .sound .planes p h) (cover (b && halfX (fr .form .format) p) i) (cover (b && halfY (fr .form .format) p) j)
+                rw (from-start i, from-start j)
+                (sample-inside s (fr .form) p (planeOf fr p) (ok .sound .planes p h) (cover (b && halfX (fr .form .format) p) i) (cover (b && halfY (fr .form .format) p) j)
                 (covered-column b (fr .form) p i (omega (arith, visible-tile (columnsOf c p) (columnsOf t p) column)))
-                (covered-row b (fr .form) p j (omega (arith, visible-tile (rowsOf c p) (rowsOf t p) row)));
+                (covered-row b (fr .form) p j (omega (arith, visible-tile (rowsOf c p) (rowsOf t p) row))));
             writes = λ j m. rw same (omega (arith, writes-le c t (ok .canvas) p (suits-canvas h) suits-bytes column row x y j m, ok .room));
           }
 
@@ -171,25 +190,19 @@ unfolding tilePic pick promote full pixel cover
 tile-sample true P p h x y = pick-true _ _ _ h
 tile-sample false P p h x y = refl
 
-module _ (s : List ℕ) (fr : Frame) (b : Bool) (p : Part) (h : hasPart (fr .form .format) p ≡ true) where
-  line-row : (n y : ℕ) → lineBytes (dataOf s (planeOf fr p)) (bytesOf (fr .form .format)) (tileLine (bytesOf (fr .form .format)) (planeOf fr p .stride) (b && halfX (fr .form .format) p) (b && halfY (fr .form .format) p) y) n
-      ≡ samplesOf (bytesOf (fr .form .format)) (λ x. tilePic b (decode s fr) .at p x y) n
-  unfolding lineBytes samplesOf
-  line-row n y =
-      span-cong _ _ 0 n
-      (λ x l m.
-      ap (sampleBytes (bytesOf (fr .form .format)))
-      (ap (sampleAt (dataOf s (planeOf fr p)) (bytesOf (fr .form .format))) (line-place _ _ (b && halfX (fr .form .format) p) (b && halfY (fr .form .format) p) x y) ∙ sym (seen x y)))
-    where
-      seen : (x y : ℕ) → tilePic b (decode s fr) .at p x y ≡ sampleAt (dataOf s (planeOf fr p)) (bytesOf (fr .form .format)) (cover (b && halfY (fr .form .format) p) y * planeOf fr p .stride + cover (b && halfX (fr .form .format) p) x * bytesOf (fr .form .format))
-      seen x y = tile-sample b (decode s fr) p (rw (decode-form s fr) h) x y ∙ decode-at s fr p x y b
+source-row : (s : List ℕ) (fr : Frame) (b : Bool) (p : Part) → hasPart (fr .form .format) p ≡ true → (n y : ℕ)
+    → sourceRow (dataOf s (planeOf fr p)) (tileSource fr b p) n y ≡ samplesOf (bytesOf (fr .form .format)) (λ x. tilePic b (decode s fr) .at p x y) n
+unfolding sourceRow sourceAt sampleIn
+source-row s fr b p h n y =
+    samples-same (bytesOf (fr .form .format)) _ _ n
+    (λ x l. rw (from-start x, from-start y) (sym (tile-sample b (decode s fr) p (rw (decode-form s fr) h) x y ∙ decode-at s fr p x y b)))
 
 pub part-stored : (s : List ℕ) (fr : Frame) (c : Form) (b : Bool) (p : Part) (d : List ℕ) (column row : ℕ) (k : Cell) → (b ≡ true → isMono (fr .form .format) ≡ false) → hasPart (fr .form .format) p ≡ true → k ≡ cellOf c (tileForm b (fr .form)) column row p
-    → storeRows d (k .at) (k .stride) (λ y. lineBytes (dataOf s (planeOf fr p)) (bytesOf (fr .form .format)) (tileLine (bytesOf (fr .form .format)) (planeOf fr p .stride) (b && halfX (fr .form .format) p) (b && halfY (fr .form .format) p) y) (k .across)) (k .down)
+    → storeRows d (k .at) (k .stride) (sourceRow (dataOf s (planeOf fr p)) (tileSource fr b p) (k .across)) (k .down)
     ≡ storePart c (tilePic b (decode s fr)) column row p d
 unfolding storePart storeCell
 part-stored s fr c b p d column row k colour h e =
-    rows-cong d (k .at) (k .stride) _ _ (k .down) (λ y l. line-row s fr b p h (k .across) y)
+    rows-cong d (k .at) (k .stride) _ _ (k .down) (λ y l. source-row s fr b p h (k .across) y)
     ∙ ap₂ (λ (q : Cell) (n : ℕ). storeRows d (q .at) (q .stride) (λ y. samplesOf n (λ x. tilePic b (decode s fr) .at p x y) (q .across)) (q .down)) (e ∙ ap (λ (t : Form). cellOf c t column row p) (sym form)) bytes
     ∙ sym (pick-true _ _ _ (ap (λ (t : Form). hasPart (t .format) p) form ∙ tile-parts b (fr .form) colour p ∙ h))
   where

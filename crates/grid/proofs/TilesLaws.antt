@@ -15,16 +15,16 @@ use Rattle.laws.specs.Pick.{pick}
 use Rattle.laws.specs.declared.Refusal.{Refusal}
 use Rattle.numbers.specs.Number.{onNumber, readNumber}
 use Rattle.numbers.specs.declared.NumberRead.the-variants.{Malformed, Number}
-use Rattle.image.specs.Format.{hasAlpha}
+use Rattle.image.specs.Format.{hasAlpha, hasSize}
 use Rattle.image.specs.Record.{recordAt}
 use Rattle.image.specs.Tray.{framesAt, trayCount}
 use Rattle.image.specs.declared.format.Form.{Form}
 use Rattle.image.specs.declared.record.Frame.{Frame}
 use Rattle.derived.specs.Grid.{gridOf}
 use Rattle.derived.specs.declared.grid.GridDescriptor.{GridDescriptor}
-use Rattle.grid.specs.Tiles.{alikeFrom, countOf, coversOf, judgeOf, sameLayout, sameSize, tilesAt, tilesOf}
-use Rattle.grid.specs.inner.Taken.{FramesTaken}
+use Rattle.grid.specs.Tiles.{alikeFrom, countOf, judgeOf, sameLayout, spansCanvas, tilesAt, tilesOf}
 use Rattle.grid.specs.declared.tiles.Tiles.{Tiles}
+use Rattle.grid.specs.inner.Taken.{FramesTaken}
 
 -- records that stand there: the first of them, and the rest
 pub record First (n : ℕ) (s : List ℕ) (at : ℕ) (frs : List Frame) : Type 0 where
@@ -62,32 +62,32 @@ unfoldable pub judged : GridDescriptor → ℕ → Form → Out ℕ → Out Tile
 judged g at t o = andThen o (λ a. done (record { desc = g; tile = t; alpha = a; first = at }))
 
 module _ (g : GridDescriptor) (s : List ℕ) (at count : ℕ) (fr : Frame) (l : 0 < count) (here : recordAt s at ≡ done fr) (taken : FramesTaken count s at) where
-  pub judge-start : not (coversOf g (fr .form)) ≡ false
+  pub judge-start : not (spansCanvas g (fr .form)) ≡ false
       → (frs : List Frame) × (framesAt count s at ≡ done frs) × (andThen (framesAt count s at) (judgeOf g at) ≡ judged g at (fr .form) (alikeFrom (fr .form) 0 frs))
   unfolding judgeOf FramesTaken judged
   judge-start h =
       let k = first-read count s at (taken .0) fr l (taken .1) here in
       (taken .0, taken .1, then-done _ (taken .1) ∙ ap (judgeOf g at) (k .2) ∙ refuse-no _ _ h ∙ ap (λ (q : List Frame). judged g at (fr .form) (alikeFrom (fr .form) 0 q)) (sym (k .2)))
 
-  pub judge-uncovered : not (coversOf g (fr .form)) ≡ true → andThen (framesAt count s at) (judgeOf g at) ≡ refused (reason 12)
+  pub judge-uncovered : not (spansCanvas g (fr .form)) ≡ true → andThen (framesAt count s at) (judgeOf g at) ≡ refused (reason 12)
   unfolding judgeOf FramesTaken
   judge-uncovered h =
       let k = first-read count s at (taken .0) fr l (taken .1) here in
       then-done _ (taken .1) ∙ ap (judgeOf g at) (k .2) ∙ refuse-yes _ _ h
 
 module _ (t : Form) (a : ℕ) (s : List ℕ) (next left : ℕ) (frs : List Frame) (fr : Frame) (l : 0 < left) (here : recordAt s next ≡ done fr) (taken : framesAt left s next ≡ done frs) where
-  pub alike-next : not (sameSize t (fr .form)) ≡ false → not (sameLayout t (fr .form)) ≡ false
+  pub alike-next : not (hasSize (fr .form) (t .width) (t .height)) ≡ false → not (sameLayout t (fr .form)) ≡ false
       → (rest : List Frame) × (framesAt (left - 1) s (fr .end) ≡ done rest) × (alikeFrom t a frs ≡ alikeFrom t (pick (hasAlpha (fr .form .format)) 1 a) rest)
   unfolding alikeFrom
   alike-next p q =
       let k = first-read left s next frs fr l taken here in
       (k .0, k .1, ap (alikeFrom t a) (k .2) ∙ refuse-no _ _ p ∙ refuse-no _ _ q)
 
-  pub alike-size : not (sameSize t (fr .form)) ≡ true → alikeFrom t a frs ≡ refused (reason 13)
+  pub alike-size : not (hasSize (fr .form) (t .width) (t .height)) ≡ true → alikeFrom t a frs ≡ refused (reason 13)
   unfolding alikeFrom
   alike-size p = let k = first-read left s next frs fr l taken here in ap (alikeFrom t a) (k .2) ∙ refuse-yes _ _ p
 
-  pub alike-layout : not (sameSize t (fr .form)) ≡ false → not (sameLayout t (fr .form)) ≡ true → alikeFrom t a frs ≡ refused (reason 14)
+  pub alike-layout : not (hasSize (fr .form) (t .width) (t .height)) ≡ false → not (sameLayout t (fr .form)) ≡ true → alikeFrom t a frs ≡ refused (reason 14)
   unfolding alikeFrom
   alike-layout p q = let k = first-read left s next frs fr l taken here in ap (alikeFrom t a) (k .2) ∙ refuse-no _ _ p ∙ refuse-yes _ _ q
 

@@ -1,17 +1,17 @@
 -- A tile in its cell of a canvas's bytes ("Grid": tile i covers its cell; what lies beyond the canvas is cut).
 use mathlib.Core.Bool.{Bool, _||_}
 use mathlib.Core.List.{List}
-use Prim.Native.Nat.{_*_, _+_, _-_, suc, zero, ℕ}
+use Prim.Native.Nat.{_*_, _+_, _-_, ℕ}
 use lib.Dec.{eqb, leb}
 use Rattle.laws.specs.Pick.{pick}
-use Rattle.laws.specs.Puts.{puts}
-use Rattle.image.specs.Bytes.{samplesOf, tightAt}
-use Rattle.image.specs.Format.{bytesOf, columnsOf, hasPart, rowSize, rowsOf}
-use Rattle.image.specs.Picture.{Pic, as444, promote}
+use Rattle.image.specs.Format.{as444, bytesOf, columnsOf, hasPart, rowSize, rowsOf}
 use Rattle.image.specs.Record.{planeOf}
 use Rattle.image.specs.declared.format.Form.{Form}
 use Rattle.image.specs.declared.format.Part.{Part}
 use Rattle.image.specs.declared.format.Part.the-variants.{Alpha, Cb, Cr, Luma}
+use Rattle.planes.specs.Bytes.{samplesOf, tightAt}
+use Rattle.planes.specs.Picture.{Pic, promote}
+use Rattle.paste.specs.Stored.{storeRows}
 use Rattle.grid.specs.declared.cell.Cell.{Cell}
 
 -- ---- the tile
@@ -28,11 +28,6 @@ tilePic b P = pick b (promote P) P
 -- along one axis: how many samples of a tile show in the cell of an index
 unfoldable pub visibleOf : ℕ → ℕ → ℕ → ℕ
 visibleOf canvas tile i = pick (leb tile (canvas - i * tile)) tile (canvas - i * tile)
-
--- rows stored one below the other
-unfoldable pub storeRows : List ℕ → ℕ → ℕ → (ℕ → List ℕ) → ℕ → List ℕ
-storeRows d at stride f zero = d
-storeRows d at stride f (suc k) = puts (storeRows d at stride f k) (at + k * stride) (f k)
 
 -- where a part of a tile goes in the canvas's record: the rows above its cell, then the columns before it; a cell that lies beyond
 -- the canvas has nothing

@@ -1,18 +1,19 @@
 -- The composed picture of a grid ("Grid"), and the canvas that its tiles are stored in.
 use mathlib.Core.Bool.{Bool, false, true}
-use mathlib.Core.List.{List, [], _++_, _∷_}
+use mathlib.Core.List.{List, [], _∷_}
 use Prim.Native.Nat.{_%_, _*_, _+_, _/_, ℕ}
 use lib.Dec.{eqb}
 use Rattle.laws.specs.Pick.{pick}
-use Rattle.image.specs.Bytes.{headBytes, planeBytes}
-use Rattle.image.specs.Format.{columnsOf, hasPart, rowsOf, topOf}
-use Rattle.image.specs.Picture.{Pic}
+use Rattle.image.specs.Format.{columnsOf, hasPart, rowsOf, topOf, withAlpha}
 use Rattle.image.specs.declared.format.Form.{Form}
 use Rattle.image.specs.declared.format.Part.{Part}
 use Rattle.image.specs.declared.format.Part.the-variants.{Alpha, Cb, Cr, Luma}
 use Rattle.image.specs.declared.format.PixelFormat.{PixelFormat}
+use Rattle.planes.specs.Bytes.{headBytes}
+use Rattle.planes.specs.Picture.{Pic}
+use Rattle.paste.specs.Stored.{headed}
 use Rattle.grid.specs.Cell.{tileForm, tilePic}
-use Rattle.grid.specs.Tiles.{canvasForm, promotesOf, withAlpha}
+use Rattle.grid.specs.Tiles.{canvasForm, promotesOf}
 use Rattle.grid.specs.declared.tiles.Tiles.{Tiles}
 
 -- ---- the picture
@@ -49,13 +50,9 @@ plainAt f Alpha = topOf f
 unfoldable pub plainPic : Form → Pic
 plainPic m = record { form = m; at = λ p x y. plainAt (m .format) p }
 
--- a record's planes behind another header of the same length
-unfoldable pub laid : List ℕ → Pic → List ℕ
-laid h P = h ++ (planeBytes P Luma ++ (planeBytes P Cb ++ (planeBytes P Cr ++ planeBytes P Alpha)))
-
 -- the canvas whose header says that alpha number
 unfoldable pub canvasBytes : Form → ℕ → List ℕ
-canvasBytes c a = laid (headBytes (withAlpha c a)) (plainPic c)
+canvasBytes c a = headed (headBytes (withAlpha c a)) (plainPic c)
 
 -- whether a cell is in a list of cells
 unfoldable pub among : ℕ → List ℕ → Bool

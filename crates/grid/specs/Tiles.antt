@@ -6,8 +6,7 @@ use lib.Dec.{eqb, leb}
 use Rattle.laws.specs.Out.{Out, andThen, done, reason, refuse, refused}
 use Rattle.laws.specs.Pick.{pick}
 use Rattle.numbers.specs.Number.{onNumber, readNumber}
-use Rattle.image.specs.Format.{hasAlpha}
-use Rattle.image.specs.Picture.{needs444, odd, sized}
+use Rattle.image.specs.Format.{hasAlpha, hasSize, needs444, odd, sized, withAlpha}
 use Rattle.image.specs.Tray.{framesAt}
 use Rattle.image.specs.declared.format.Form.{Form}
 use Rattle.image.specs.declared.record.Frame.{Frame}
@@ -25,21 +24,15 @@ promotesOf g t =
     needs444 (t .format) (odd (t .width)) (odd (t .height))
     || needs444 (t .format) (odd (g .«output_width»)) (odd (g .«output_height»))
 
-unfoldable pub withAlpha : Form → ℕ → Form
-withAlpha m a = record { width = m .width; height = m .height; format = record { chroma = m .format .chroma; depth = m .format .depth; alpha = a } }
-
 -- the canvas: the descriptor's size, the first tile's format, promoted or as it is, with that alpha number
 unfoldable pub canvasForm : GridDescriptor → Form → ℕ → Form
 canvasForm g t a = withAlpha (tileForm (promotesOf g t) (sized t (g .«output_width») (g .«output_height»))) a
 
 -- 12: tiles that do not cover the canvas
-unfoldable pub coversOf : GridDescriptor → Form → Bool
-coversOf g t = leb (g .«output_width») (t .width * g .columns) && leb (g .«output_height») (t .height * g .rows)
+unfoldable pub spansCanvas : GridDescriptor → Form → Bool
+spansCanvas g t = leb (g .«output_width») (t .width * g .columns) && leb (g .«output_height») (t .height * g .rows)
 
 -- ---- tile by tile: 13 another size, 14 another chroma or depth; whether one of them has alpha
-
-unfoldable pub sameSize : Form → Form → Bool
-sameSize t m = eqb (m .width) (t .width) && eqb (m .height) (t .height)
 
 unfoldable pub sameLayout : Form → Form → Bool
 sameLayout t m = eqb (m .format .chroma) (t .format .chroma) && eqb (m .format .depth) (t .format .depth)
@@ -47,13 +40,13 @@ sameLayout t m = eqb (m .format .chroma) (t .format .chroma) && eqb (m .format .
 unfoldable pub alikeFrom : Form → ℕ → List Frame → Out ℕ
 alikeFrom t a [] = done a
 alikeFrom t a (fr ∷ frs) =
-    refuse (not (sameSize t (fr .form))) 13
+    refuse (not (hasSize (fr .form) (t .width) (t .height))) 13
     (refuse (not (sameLayout t (fr .form))) 14 (alikeFrom t (pick (hasAlpha (fr .form .format)) 1 a) frs))
 
 unfoldable pub judgeOf : GridDescriptor → ℕ → List Frame → Out Tiles
 judgeOf g at [] = refused (reason 11)
 judgeOf g at (fr ∷ frs) =
-    refuse (not (coversOf g (fr .form))) 12
+    refuse (not (spansCanvas g (fr .form))) 12
     (andThen (alikeFrom (fr .form) 0 (fr ∷ frs)) (λ a. done (record { desc = g; tile = fr .form; alpha = a; first = at })))
 
 -- ---- the whole

@@ -1,10 +1,10 @@
 // composite_grid: the tiles of a tray joined to one record.
 ghost use mathlib.Core.Path.{_≡_};
-ghost use Prim.Native.Nat.{_≤_, _<_};
+ghost use Prim.Native.Nat.{_≤_};
 ghost use lib.ListN.{length};
 ghost use Rattle.laws.specs.Out.{answerOf, written};
 ghost use Rattle.laws.specs.Puts.{puts};
-ghost use Rattle.image.specs.Bytes.{encode, sizeOf};
+ghost use Rattle.planes.specs.Bytes.{encode, sizeOf};
 ghost use Rattle.grid.specs.Tiles.{canvasForm};
 ghost use Rattle.grid.specs.inner.Ready.{TilesTaken};
 ghost use Rattle.grid.specs.Run.{gridOn, gridRun};
@@ -29,6 +29,7 @@ pub fn draw_grid(out: &mut [u8], tray: &[u8], t: Tiles)
     let promoted = promotes(g, t.tile);
     let columns = g.columns;
     let count = g.rows * columns;
+    let to = planes::tight(canvas);
     paint_canvas(out, canvas, t.alpha);
     let mut next = t.first;
     let mut i: u32 = 0;
@@ -38,7 +39,7 @@ pub fn draw_grid(out: &mut [u8], tray: &[u8], t: Tiles)
                 return;
             }
             FrameRead::Read(f) => {
-                draw_tile(out, canvas, tray, f, promoted, i % columns, i / columns);
+                draw_tile(out, to, tray, f, promoted, i % columns, i / columns);
                 next = f.end;
             }
         }
@@ -54,7 +55,7 @@ pub fn composite_grid(body: &[u8], tray: &[u8], out: &mut [u8]) -> Answer
     match read_tiles(body, tray) {
         TilesRead::Refused(e) => Answer::Refused(e),
         TilesRead::Read(t) => {
-            let size = image::record_size(canvas_form(t.desc, t.tile, t.alpha));
+            let size = planes::record_size(canvas_form(t.desc, t.tile, t.alpha));
             if out.len() < size {
                 return Answer::Refused(Refusal::ROOM);
             }

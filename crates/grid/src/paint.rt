@@ -3,11 +3,10 @@ ghost use mathlib.Core.Path.{_≡_};
 ghost use Prim.Native.Nat.{_+_, _≤_};
 ghost use lib.ListN.{length};
 ghost use Rattle.laws.specs.Puts.{puts};
-ghost use Rattle.image.specs.Bytes.{planeBytes, planeSize, sizeOf};
+ghost use Rattle.planes.specs.Bytes.{planeBytes, planeSize, sizeOf};
 ghost use Rattle.image.specs.Sound.{FormSound};
 ghost use Rattle.grid.specs.Mosaic.{canvasBytes};
 ghost use Rattle.grid.specs.inner.Stored.{evenPic};
-use crate::tiles::with_alpha;
 use image::Form;
 use image::Part;
 
@@ -18,9 +17,9 @@ fn paint_plane(out: &mut [u8], at: usize, form: Form, part: Part, v: u16) -> usi
 {
     let f = form.format;
     if f.has(part) {
-        let a = image::write_plane_head(out, at, form, part);
+        let a = planes::write_plane_head(out, at, form, part);
         let n = f.columns(form.width, part) * f.rows(form.height, part);
-        return image::fill_row(out, a, f.bytes_per_sample(), v, n);
+        return planes::fill_row(out, a, f.bytes_per_sample(), v, n);
     }
     at
 }
@@ -31,7 +30,7 @@ pub fn paint_canvas(out: &mut [u8], canvas: Form, shown: u32)
     ensures { λ r. ⌜ now (out .exit) ≡ puts (now (out .entry)) 0 (canvasBytes canvas shown) ⌝ }
 {
     let f = canvas.format;
-    let a = image::write_head(out, 0, with_alpha(canvas, shown));
+    let a = planes::write_head(out, 0, canvas.with_alpha(shown));
     let b = paint_plane(out, a, canvas, Part::Luma, 0);
     let c = paint_plane(out, b, canvas, Part::Cb, 0);
     let d = paint_plane(out, c, canvas, Part::Cr, 0);

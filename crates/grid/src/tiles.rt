@@ -5,14 +5,13 @@ ghost use Rattle.laws.specs.Out.{andThen};
 ghost use Rattle.laws.specs.Pick.{pick};
 ghost use Rattle.image.specs.Format.{hasAlpha};
 ghost use Rattle.image.specs.Tray.{framesAt};
-ghost use Rattle.grid.specs.Tiles.{promotesOf, withAlpha, canvasForm, coversOf, sameSize, sameLayout, judgeOf, tilesOf, tilesOut};
+ghost use Rattle.grid.specs.Tiles.{promotesOf, canvasForm, spansCanvas, sameLayout, judgeOf, tilesOf, tilesOut};
 ghost use Rattle.grid.specs.inner.Taken.{FramesTaken};
 use crate::cell::tile_form;
 use derived::GridDescriptor;
 use derived::GridRead;
 use image::Form;
 use image::FrameRead;
-use image::PixelFormat;
 use image::TrayRead;
 use laws::Refusal;
 use numbers::NumberRead;
@@ -44,43 +43,22 @@ pub fn promotes(g: GridDescriptor, t: Form) -> bool
     )
 }
 
-pub fn with_alpha(m: Form, alpha: u32) -> Form
-    ensures { λ r. ⌜ r ≡ withAlpha m alpha ⌝ }
-{
-    let f = m.format;
-    Form {
-        width: m.width,
-        height: m.height,
-        format: PixelFormat {
-            chroma: f.chroma,
-            depth: f.depth,
-            alpha,
-        },
-    }
-}
-
 // The canvas's form, with that alpha number.
 pub fn canvas_form(g: GridDescriptor, t: Form, alpha: u32) -> Form
     ensures { λ r. ⌜ r ≡ canvasForm g t alpha ⌝ }
 {
     let m = t.sized(g.output_width, g.output_height);
-    with_alpha(tile_form(promotes(g, t), m), alpha)
+    tile_form(promotes(g, t), m).with_alpha(alpha)
 }
 
 // Whether tiles of that size cover the canvas.
-pub fn covers(g: GridDescriptor, t: Form) -> bool
-    ensures { λ r. ⌜ r ≡ coversOf g t ⌝ }
+pub fn spans_canvas(g: GridDescriptor, t: Form) -> bool
+    ensures { λ r. ⌜ r ≡ spansCanvas g t ⌝ }
 {
     image::both(
         g.output_width as u64 <= t.width as u64 * g.columns as u64,
         g.output_height as u64 <= t.height as u64 * g.rows as u64,
     )
-}
-
-pub fn same_size(t: Form, m: Form) -> bool
-    ensures { λ r. ⌜ r ≡ sameSize t m ⌝ }
-{
-    image::both(m.width == t.width, m.height == t.height)
 }
 
 pub fn same_layout(t: Form, m: Form) -> bool
@@ -111,7 +89,7 @@ fn judge_tiles(tray: &[u8], g: GridDescriptor, at: usize, count: u32) -> TilesRe
         FrameRead::Refused(e) => TilesRead::Refused(e),
         FrameRead::Read(first) => {
             let tile = first.form;
-            if !covers(g, tile) {
+            if !spans_canvas(g, tile) {
                 return TilesRead::Refused(Refusal::COVER);
             }
             let mut alpha: u32 = 0;
@@ -124,7 +102,7 @@ fn judge_tiles(tray: &[u8], g: GridDescriptor, at: usize, count: u32) -> TilesRe
                     }
                     FrameRead::Read(f) => {
                         let m = f.form;
-                        if !same_size(tile, m) {
+                        if !m.has_size(tile.width, tile.height) {
                             return TilesRead::Refused(Refusal::TILE);
                         }
                         if !same_layout(tile, m) {

@@ -8,7 +8,7 @@ use lib.Dec.{eqb, leb}
 use lib.Pow.{pow-mono, pow-pos}
 use Rattle.laws.proofs.Order.{by-test, mul-below}
 use Rattle.laws.specs.Pick.{pick}
-use Rattle.image.specs.Format.{bytesOf, columnsOf, cover, halfX, halfY, halved, halvesX, halvesY, rowSize, rowsOf, sideOf, topOf}
+use Rattle.image.specs.Format.{bytesOf, columnsOf, cover, halfX, halfY, halved, halvesX, halvesY, rowSize, rowsOf, sideOf, topAt, topOf}
 use Rattle.image.specs.Sound.{FormSound}
 use Rattle.image.specs.declared.format.Form.{Form}
 use Rattle.image.specs.declared.format.Part.{Part}
@@ -21,9 +21,16 @@ shift-small n d h l =
     let b : 2 ^ d ≤ 2 ^ 16 = pow-mono (le-trans h l) in
     (a, pow-mono h, omega arith)
 
-pub top-small : (f : PixelFormat) → f .depth ≤ 16 → topOf f < 2 ^ 16
+-- the bounds of a top
+pub top-high : (depth : ℕ) → depth ≤ 16 → topAt depth < 2 ^ 16
+top-high depth h = omega (arith, shift-small 16 depth h (omega arith))
+
+pub top-low : (depth : ℕ) → 8 ≤ depth → 255 ≤ topAt depth
+top-low depth h = let k : 2 ^ 8 ≤ 2 ^ depth = pow-mono h in omega arith
+
+pub top-some : (f : PixelFormat) → 8 ≤ f .depth → 1 ≤ topOf f
 unfolding topOf
-top-small f h = omega (arith, shift-small 16 (f .depth) h (omega arith))
+top-some f h = omega (arith, top-low (f .depth) h)
 
 pub bytes-cases {ℓ} : {X : Type ℓ} (f : PixelFormat) → (bytesOf f ≡ 1 → X) → (bytesOf f ≡ 2 → X) → X
 unfolding bytesOf pick

@@ -1,26 +1,26 @@
 -- What holds of a record that was taken.
-use mathlib.Core.Bool.{false, true}
+use mathlib.Core.Bool.{Bool, false, not, true}
 use mathlib.Core.List.{List}
-use mathlib.Core.Path.{_∙_, _≡_, ap, refl, sym}
+use mathlib.Core.Path.{_∙_, _≡_, ap, ap₂, refl, sym}
 use Prim.Native.Nat.{_*_, _+_, _-_, _<_, _^_, _≤_, ℕ}
 use native.Mathlib.Nat.{mul-comm, mul-le-mul-right}
 use native.Mathlib.Omega.{arith}
 use lib.Dec.{eqb, ltb}
 use lib.ListN.{drop, length, length-drop}
 use lib.Seq.{length-take-le}
-use borrow.Author.Tests.{eqb-false, le-ltb, ltb-false, ne-eqb}
-use Rattle.laws.proofs.Order.{by-test, item-within, pick-false, pick-true}
-use Rattle.laws.proofs.Out.{andThen-done, done-same, not-done, refuse-done, refuse-no}
+use borrow.Author.Tests.{eqb-false, le-leb, le-ltb, leb-true, ltb-false, ne-eqb, not-false}
+use Rattle.laws.proofs.Order.{and-true, by-test, item-within, pick-false, pick-true, positive, true-and}
+use Rattle.laws.proofs.Out.{andThen-done, done-same, not-done, refuse-done, refuse-no, then-done}
 use Rattle.laws.specs.Out.{Out, done}
+use Rattle.laws.specs.Pick.{pick}
 use Rattle.numbers.proofs.Number.{read-bounds}
 use Rattle.numbers.specs.Number.{onNumber}
 use Rattle.numbers.specs.declared.NumberRead.{NumberRead}
 use Rattle.numbers.specs.declared.NumberRead.the-variants.{Malformed, Number}
-use Rattle.image.specs.Bytes.{dataOf}
-use Rattle.image.specs.Format.{bytesOf, columnsOf, formOf, formatOf, hasPart, rowSize, rowsOf}
-use Rattle.image.specs.Record.{headAt, headOf, partAt, past, planeAt, planeOf, planesAt, recordAt, recordOf}
-use Rattle.image.specs.Sound.{FormSound}
-use Rattle.image.specs.inner.Placed.{PlaneSound, Sound}
+use Rattle.image.proofs.FormLaws.{height-le, row-le, rows-le, rows-some}
+use Rattle.image.specs.Format.{bytesOf, columnsOf, formOf, formatOf, halved, hasPart, isDepth, judgedSize, rowSize, rowsOf, sideOf, sides}
+use Rattle.image.specs.Record.{dataOf, headAt, headOf, partAt, past, planeAt, planeOf, planesAt, recordAt, recordOf}
+use Rattle.image.specs.Sound.{FormSound, SizeSound}
 use Rattle.image.specs.declared.format.Form.{Form}
 use Rattle.image.specs.declared.format.Part.{Part}
 use Rattle.image.specs.declared.format.Part.the-variants.{Alpha, Cb, Cr, Luma}
@@ -28,6 +28,8 @@ use Rattle.image.specs.declared.format.PixelFormat.{PixelFormat}
 use Rattle.image.specs.declared.record.Frame.{Frame}
 use Rattle.image.specs.declared.record.Head.{Head}
 use Rattle.image.specs.declared.record.Plane.{Plane}
+use Rattle.image.specs.declared.size.Size.{Size}
+use Rattle.image.specs.inner.Placed.{PlaneSound, Sound}
 
 -- a number that was read, and what went on with it
 pub on-number : {A : Type 0} (r : NumberRead) (k : ℕ → ℕ → Out A) (a : A) → onNumber r k ≡ done a → (v : ℕ) × (n : ℕ) × (r ≡ Number v n) × (k v n ≡ done a)
@@ -37,26 +39,58 @@ on-number Malformed k a e = not-done _ a e
 
 -- ---- the header
 
+pub depth-sound : (d : ℕ) → not (isDepth d) ≡ false → (8 ≤ d) × (d ≤ 16)
+unfolding isDepth
+depth-sound d e = let k = and-true _ _ (not-false _ e) in (leb-true 8 d (k .0), leb-true d 16 (k .1))
+
+pub depth-taken : (d : ℕ) → 8 ≤ d → d ≤ 16 → not (isDepth d) ≡ false
+unfolding isDepth
+depth-taken d l h = ap not (true-and _ _ (le-leb 8 d l) (le-leb d 16 h))
+
 pub format-sound : (chroma depth alpha : ℕ) (f : PixelFormat) → formatOf chroma depth alpha ≡ done f → (f .chroma ≤ 3) × (8 ≤ f .depth) × (f .depth ≤ 16) × (f .alpha ≤ 1)
 unfolding formatOf
 format-sound chroma depth alpha f e =
     let a = refuse-done (ltb 3 chroma) 5 _ f e in
     let b = refuse-done (ltb 1 alpha) 5 _ f (a .1) in
-    let c = refuse-done (ltb depth 8) 6 _ f (b .1) in
-    let d = refuse-done (ltb 16 depth) 6 _ f (c .1) in
-    rw (← done-same _ f (d .1)) (ltb-false _ _ (a .0), ltb-false _ _ (c .0), ltb-false _ _ (d .0), ltb-false _ _ (b .0))
+    let c = refuse-done (not (isDepth depth)) 6 _ f (b .1) in
+    let d = depth-sound depth (c .0) in
+    rw (← done-same _ f (c .1)) (ltb-false _ _ (a .0), d .0, d .1, ltb-false _ _ (b .0))
 
-some : (n : ℕ) → eqb n 0 ≡ false → 1 ≤ n
-some n e = omega (arith, eqb-false n 0 e)
+pub judged-sound : (width height : ℕ) (z : Size) → judgedSize width height ≡ done z → SizeSound z
+unfolding judgedSize
+judged-sound width height z e =
+    let a = refuse-done (eqb width 0) 3 _ z e in
+    let b = refuse-done (eqb height 0) 3 _ z (a .1) in
+    let c = refuse-done (ltb (2 ^ 30) (width * height)) 4 _ z (b .1) in
+    rw (← done-same _ z (c .1)) (record { wide = positive width (eqb-false width 0 (a .0)); tall = positive height (eqb-false height 0 (b .0)); area = ltb-false _ _ (c .0) })
 
-pub form-sound : (chroma depth alpha width height : ℕ) (f : PixelFormat) (m : Form) → formatOf chroma depth alpha ≡ done f → formOf width height f ≡ done m → FormSound m
+pub judged-same : (width height : ℕ) (z : Size) → judgedSize width height ≡ done z → z ≡ sides width height
+unfolding judgedSize
+judged-same width height z e =
+    let a = refuse-done (eqb width 0) 3 _ z e in
+    let b = refuse-done (eqb height 0) 3 _ z (a .1) in
+    let c = refuse-done (ltb (2 ^ 30) (width * height)) 4 _ z (b .1) in
+    sym (done-same _ z (c .1))
+
+pub form-sound : (width height chroma depth alpha : ℕ) (m : Form) → formOf width height chroma depth alpha ≡ done m → FormSound m
 unfolding formOf
-form-sound chroma depth alpha width height f m g e =
-    let s = format-sound chroma depth alpha f g in
-    let a = refuse-done (eqb width 0) 3 _ m e in
-    let b = refuse-done (eqb height 0) 3 _ m (a .1) in
-    let c = refuse-done (ltb (2 ^ 30) (width * height)) 4 _ m (b .1) in
-    rw (← done-same _ m (c .1)) (record { chroma = s .0; low = s .1; high = s .2; alpha = s .3; wide = some width (a .0); tall = some height (b .0); area = ltb-false _ _ (c .0) })
+form-sound width height chroma depth alpha m e =
+    let a = andThen-done _ _ m e in
+    let b = andThen-done _ _ m (a .2) in
+    let s = format-sound chroma depth alpha (a .0) (a .1) in
+    let z = judged-sound width height (b .0) (b .1) in
+    rw (← done-same _ m (b .2)) (record { chroma = s .0; low = s .1; high = s .2; alpha = s .3; wide = z .wide; tall = z .tall; area = z .area })
+
+pub form-same : (m n : Form) → formOf (m .width) (m .height) (m .format .chroma) (m .format .depth) (m .format .alpha) ≡ done n → n ≡ m
+unfolding formOf formatOf
+form-same m n e =
+    let a = andThen-done _ _ n e in
+    let b = andThen-done _ _ n (a .2) in
+    let u = refuse-done (ltb 3 (m .format .chroma)) 5 _ (a .0) (a .1) in
+    let v = refuse-done (ltb 1 (m .format .alpha)) 5 _ (a .0) (u .1) in
+    let w = refuse-done (not (isDepth (m .format .depth))) 6 _ (a .0) (v .1) in
+    sym (done-same _ n (b .2))
+    ∙ ap₂ (λ (z : Size) (f : PixelFormat). record { width = z .width; height = z .height; format = f }) (judged-same _ _ (b .0) (b .1)) (sym (done-same _ (a .0) (w .1)))
 
 pub head-sound : (s : List ℕ) (at : ℕ) (h : Head) → headAt s at ≡ done h → FormSound (h .form) × (h .next ≤ length s)
 unfolding headAt headOf
@@ -67,22 +101,26 @@ head-sound s at h e =
     let d = on-number _ _ h (c .3) in
     let f = on-number _ _ h (d .3) in
     let g = andThen-done _ _ h (f .3) in
-    let i = andThen-done _ _ h (g .2) in
-    rw (← done-same _ h (i .2)) (form-sound _ _ _ _ _ _ _ (g .1) (i .1), read-bounds s _ _ _ (f .2) .1)
+    rw (← done-same _ h (g .2)) (form-sound _ _ _ _ _ _ (g .1), read-bounds s _ _ _ (f .2) .1)
 
--- a sound form is taken
-pub format-taken : (m : Form) → FormSound m → formatOf (m .format .chroma) (m .format .depth) (m .format .alpha) ≡ done (m .format)
-unfolding formatOf
-format-taken m ok =
-    refuse-no _ _ (le-ltb 3 _ (ok .chroma)) ∙ refuse-no _ _ (le-ltb 1 _ (ok .alpha)) ∙ refuse-no _ _ (le-ltb _ 8 (ok .low)) ∙ refuse-no _ _ (le-ltb 16 _ (ok .high))
-
-pub form-taken : (m : Form) → FormSound m → formOf (m .width) (m .height) (m .format) ≡ done m
-unfolding formOf
-form-taken m ok =
-    refuse-no _ _ (ne-eqb (m .width) 0 (none _ (ok .wide))) ∙ refuse-no _ _ (ne-eqb (m .height) 0 (none _ (ok .tall))) ∙ refuse-no _ _ (le-ltb (2 ^ 30) _ (ok .area))
+-- a sound size and a sound form are taken
+pub size-taken : (z : Size) → SizeSound z → judgedSize (z .width) (z .height) ≡ done z
+unfolding judgedSize
+size-taken z ok =
+    refuse-no _ _ (ne-eqb (z .width) 0 (none _ (ok .wide))) ∙ refuse-no _ _ (ne-eqb (z .height) 0 (none _ (ok .tall))) ∙ refuse-no _ _ (le-ltb (2 ^ 30) _ (ok .area))
   where
     none : (n : ℕ) → 1 ≤ n → n ≡ 0 → ⊥
     none n h e = omega arith
+
+pub format-taken : (m : Form) → FormSound m → formatOf (m .format .chroma) (m .format .depth) (m .format .alpha) ≡ done (m .format)
+unfolding formatOf
+format-taken m ok =
+    refuse-no _ _ (le-ltb 3 _ (ok .chroma)) ∙ refuse-no _ _ (le-ltb 1 _ (ok .alpha)) ∙ refuse-no _ _ (depth-taken _ (ok .low) (ok .high))
+
+pub form-taken : (m : Form) → FormSound m → formOf (m .width) (m .height) (m .format .chroma) (m .format .depth) (m .format .alpha) ≡ done m
+unfolding formOf
+form-taken m ok =
+    then-done _ (format-taken m ok) ∙ then-done _ (size-taken (sides (m .width) (m .height)) (record { wide = ok .wide; tall = ok .tall; area = ok .area }))
 
 -- ---- a plane
 
@@ -117,6 +155,29 @@ plane-len s at rows row q e =
     let d = refuse-done (ltb (b .0) (a .0 * (rows - 1) + row)) 5 _ q (c .1) in
     let f = refuse-done (ltb (length s - b .1) (b .0)) 5 _ q (d .1) in
     rw (← done-same _ q (f .1)) (read-bounds s _ _ _ (b .2) .0)
+
+-- a part's plane, by numbers that are the part's
+pub part-as : (s : List ℕ) (at : ℕ) (m : Form) (p : Part) (has : Bool) (rows row : ℕ) → has ≡ hasPart (m .format) p → rows ≡ rowsOf m p → row ≡ rowSize m p
+    → pick has (planeAt s at rows row) (done (record { start = at; len = 0; stride = 0 })) ≡ partAt s at m p
+unfolding partAt
+part-as s at m p has rows row e f g = rw (e, f, g)
+
+pub form-rows : (m : Form) → FormSound m → (p : Part) → (0 < rowsOf m p) × (rowsOf m p < 2 ^ 32) × (rowSize m p < 2 ^ 33)
+form-rows m ok p = (rows-some m ok p, omega (arith, rows-le m ok p, height-le m ok), omega (arith, row-le m ok p))
+
+-- every picture has luma
+pub has-luma : (f : PixelFormat) → true ≡ hasPart f Luma
+unfolding hasPart
+has-luma f = refl
+
+-- luma and alpha are alike, and so are the chroma planes
+pub whole-rows : (m : Form) → (m .height ≡ rowsOf m Luma) × (m .height ≡ rowsOf m Alpha) × (rowSize m Luma ≡ rowSize m Alpha)
+unfolding rowsOf rowSize columnsOf halved sideOf
+whole-rows m = (refl, refl, refl)
+
+pub chroma-rows : (m : Form) → (hasPart (m .format) Cb ≡ hasPart (m .format) Cr) × (rowsOf m Cb ≡ rowsOf m Cr) × (rowSize m Cb ≡ rowSize m Cr)
+unfolding hasPart rowsOf rowSize columnsOf halved
+chroma-rows m = (refl, refl, refl)
 
 part-len : (s : List ℕ) (at : ℕ) (m : Form) (p : Part) (q : Plane) → partAt s at m p ≡ done q → q .len < 2 ^ 32
 unfolding partAt

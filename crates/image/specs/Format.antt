@@ -1,22 +1,36 @@
 -- Pixel formats: what a chroma number, a depth and an alpha number say of a picture's planes (document 01, "What is handed in").
-use mathlib.Core.Bool.{Bool, true, false, not, _||_}
-use Prim.Native.Nat.{ℕ, _+_, _-_, _*_, _/_, _^_}
+use mathlib.Core.Bool.{Bool, true, false, not, _&&_, _||_}
+use mathlib.Core.Path.{_≡_}
+use Prim.Native.Nat.{ℕ, _+_, _-_, _*_, _/_, _%_, _^_}
 use lib.Dec.{eqb, ltb, leb}
 use Rattle.laws.specs.Pick.{pick}
-use Rattle.laws.specs.Out.{Out, refused, done, refuse}
+use Rattle.laws.specs.Out.{Out, andThen, refused, done, refuse}
+use Rattle.image.specs.declared.format.FormRead.{FormRead}
+use Rattle.image.specs.declared.size.Size.{Size}
+use Rattle.image.specs.declared.size.SizeAnswer.{SizeAnswer}
 use Rattle.image.specs.declared.format.PixelFormat.{PixelFormat}
 use Rattle.image.specs.declared.format.FormatRead.{FormatRead}
 use Rattle.image.specs.declared.format.Form.{Form}
 use Rattle.image.specs.declared.format.Part.{Part}
 use Rattle.image.specs.declared.format.Part.the-variants.{Luma, Cb, Cr, Alpha}
 
--- the largest sample
-unfoldable pub topOf : PixelFormat → ℕ
-topOf f = 2 ^ f .depth - 1
+-- the depths that a record may have
+unfoldable pub isDepth : ℕ → Bool
+isDepth depth = leb 8 depth && leb depth 16
 
--- the sample of no colour
+-- the largest sample
+abbrev pub topAt : ℕ → ℕ
+topAt depth = 2 ^ depth - 1
+
+unfoldable pub topOf : PixelFormat → ℕ
+topOf f = topAt (f .depth)
+
+-- the chroma sample of no colour
+abbrev pub middleAt : ℕ → ℕ
+middleAt depth = 2 ^ (depth - 1)
+
 unfoldable pub middleOf : PixelFormat → ℕ
-middleOf f = 2 ^ (f .depth - 1)
+middleOf f = middleAt (f .depth)
 
 unfoldable pub bytesOf : PixelFormat → ℕ
 bytesOf f = pick (leb (f .depth) 8) 1 2
@@ -76,22 +90,71 @@ rowsOf m p = sideOf (halfY (m .format) p) (m .height)
 unfoldable pub rowSize : Form → Part → ℕ
 rowSize m p = columnsOf m p * bytesOf (m .format)
 
--- what reading a format answers
-abbrev pub formatOut : FormatRead → Out PixelFormat
-formatOut (FormatRead.Read f) = done f
-formatOut (FormatRead.Refused e) = refused e
+-- the sample (cx, cy) of a plane covers the place (x, y) of a picture
+pub record Covers (f : PixelFormat) (p : Part) (cx cy x y : ℕ) : Type 0 where
+  pub across : cover (halfX f p) x ≡ cx
+  pub down : cover (halfY f p) y ≡ cy
 
--- the refusals of a format, and of a picture's form ("Refusals in order", Record): 5 chroma above 3 or alpha above 1; 6 a depth
--- outside 8 to 16; 3 a side 0; 4 above 2 ^ 30 pixels
+-- ---- forms
+
+-- the form with another size
+unfoldable pub sized : Form → ℕ → ℕ → Form
+sized m w h = record { width = w; height = h; format = m .format }
+
+-- the form with that alpha number
+unfoldable pub withAlpha : Form → ℕ → Form
+withAlpha m a = record { width = m .width; height = m .height; format = record { chroma = m .format .chroma; depth = m .format .depth; alpha = a } }
+
+-- whether a picture has that size
+unfoldable pub hasSize : Form → ℕ → ℕ → Bool
+hasSize m w h = eqb (m .width) w && eqb (m .height) h
+
+-- the form at 4:4:4
+unfoldable pub as444 : Form → Form
+as444 m = record { width = m .width; height = m .height; format = record { chroma = 3; depth = m .format .depth; alpha = m .format .alpha } }
+
+unfoldable pub odd : ℕ → Bool
+odd n = eqb (n % 2) 1
+
+-- whether an odd column or row needs a chroma sample that is not there
+unfoldable pub needs444 : PixelFormat → Bool → Bool → Bool
+needs444 f oddX oddY = halvesX f && oddX || halvesY f && oddY
+
+-- ---- the refusals of a size, a format and a form ("Refusals in order", Record)
+
+abbrev pub sides : ℕ → ℕ → Size
+sides width height = record { width = width; height = height }
+
+-- 3 a side 0; 4 above 2 ^ 30 pixels
+unfoldable pub judgedSize : ℕ → ℕ → Out Size
+judgedSize width height =
+    refuse (eqb width 0) 3
+    (refuse (eqb height 0) 3
+    (refuse (ltb (2 ^ 30) (width * height)) 4 (done (sides width height))))
+
+-- 5 chroma above 3 or alpha above 1; 6 a depth outside 8 to 16
 unfoldable pub formatOf : ℕ → ℕ → ℕ → Out PixelFormat
 formatOf chroma depth alpha =
     refuse (ltb 3 chroma) 5
     (refuse (ltb 1 alpha) 5
-    (refuse (ltb depth 8) 6
-    (refuse (ltb 16 depth) 6 (done (record { chroma = chroma; depth = depth; alpha = alpha })))))
+    (refuse (not (isDepth depth)) 6 (done (record { chroma = chroma; depth = depth; alpha = alpha }))))
 
-unfoldable pub formOf : ℕ → ℕ → PixelFormat → Out Form
-formOf width height f =
-    refuse (eqb width 0) 3
-    (refuse (eqb height 0) 3
-    (refuse (ltb (2 ^ 30) (width * height)) 4 (done (record { width = width; height = height; format = f }))))
+-- the format's, then the size's
+unfoldable pub formOf : ℕ → ℕ → ℕ → ℕ → ℕ → Out Form
+formOf width height chroma depth alpha =
+    andThen (formatOf chroma depth alpha) (λ f.
+    andThen (judgedSize width height) (λ z.
+    done (record { width = z .width; height = z .height; format = f })))
+
+-- what the code answers
+abbrev pub sizeOut : SizeAnswer → Out Size
+sizeOut (SizeAnswer.Size z) = done z
+sizeOut (SizeAnswer.Refused e) = refused e
+
+abbrev pub formatOut : FormatRead → Out PixelFormat
+formatOut (FormatRead.Read f) = done f
+formatOut (FormatRead.Refused e) = refused e
+
+abbrev pub formOut : FormRead → Out Form
+formOut (FormRead.Form m) = done m
+formOut (FormRead.Refused e) = refused e

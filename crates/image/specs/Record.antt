@@ -2,11 +2,11 @@
 use mathlib.Core.List.{List}
 use Prim.Native.Nat.{ℕ, _+_, _-_, _*_}
 use lib.Dec.{ltb}
-use lib.ListN.{length}
+use lib.ListN.{drop, length, take}
 use Rattle.laws.specs.Pick.{pick}
 use Rattle.laws.specs.Out.{Out, refused, done, andThen, refuse}
 use Rattle.numbers.specs.Number.{readNumber, onNumber}
-use Rattle.image.specs.Format.{hasPart, rowsOf, rowSize, formatOf, formOf}
+use Rattle.image.specs.Format.{hasPart, rowsOf, rowSize, formOf}
 use Rattle.image.specs.declared.format.Part.{Part}
 use Rattle.image.specs.declared.format.Part.the-variants.{Luma, Cb, Cr, Alpha}
 use Rattle.image.specs.declared.format.Form.{Form}
@@ -33,8 +33,7 @@ frameOut (FrameRead.Refused e) = refused e
 -- a header's numbers, judged, and the place past it
 unfoldable pub headOf : ℕ → ℕ → ℕ → ℕ → ℕ → ℕ → Out Head
 headOf width height chroma depth alpha next =
-    andThen (formatOf chroma depth alpha) (λ f.
-    andThen (formOf width height f) (λ m. done (record { form = m; next = next })))
+    andThen (formOf width height chroma depth alpha) (λ m. done (record { form = m; next = next }))
 
 -- the five numbers of a header are read before any is judged
 unfoldable pub headAt : List ℕ → ℕ → Out Head
@@ -86,3 +85,7 @@ planeOf fr Luma = fr .luma
 planeOf fr Cb = fr .cb
 planeOf fr Cr = fr .cr
 planeOf fr Alpha = fr .alpha
+
+-- a plane's own bytes
+unfoldable pub dataOf : List ℕ → Plane → List ℕ
+dataOf s p = take (p .len) (drop (p .start) s)

@@ -6,7 +6,9 @@ use lib.ListN.{length}
 use Rattle.laws.specs.Out.{Out, refused, done, andThen, refuse}
 use Rattle.numbers.specs.Number.{readNumber, onNumber}
 use Rattle.image.specs.Record.{recordAt}
+use Rattle.image.specs.declared.format.Form.{Form}
 use Rattle.image.specs.declared.record.Frame.{Frame}
+use Rattle.image.specs.declared.record.Plane.{Plane}
 use Rattle.image.specs.declared.record.TrayRead.{TrayRead}
 
 -- so many records in turn from a place on, and 5 where bytes are left over after the last
@@ -16,6 +18,24 @@ framesAt (suc n) s at = andThen (recordAt s at) (λ fr. andThen (framesAt n s (f
 
 unfoldable pub trayOf : List ℕ → Out (List Frame)
 trayOf s = onNumber (readNumber s 0) (λ n a. framesAt n s a)
+
+-- its records, none where it is refused
+unfoldable pub takenOf : Out (List Frame) → List Frame
+takenOf (refused r) = []
+takenOf (done frs) = frs
+
+unfoldable pub recordsIn : List ℕ → List Frame
+recordsIn tray = takenOf (trayOf tray)
+
+-- no record
+unfoldable pub noPlane : Plane
+noPlane = record { start = 0; len = 0; stride = 0 }
+
+unfoldable pub noForm : Form
+noForm = record { width = 0; height = 0; format = record { chroma = 0; depth = 0; alpha = 0 } }
+
+unfoldable pub noFrame : Frame
+noFrame = record { form = noForm; luma = noPlane; cb = noPlane; cr = noPlane; alpha = noPlane; end = 0 }
 
 -- how many records it has, and what reading it answers
 unfoldable pub trayCount : Out (List Frame) → Out ℕ

@@ -1,5 +1,3 @@
 -- What only proofs and the contracts of inner functions cite: no public promise does.
-pub mod Line
 pub mod Placed
-pub mod Promoted
-pub mod Even
+pub mod Frames

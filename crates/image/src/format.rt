@@ -2,9 +2,10 @@
 ghost use mathlib.Core.Path.{_≡_};
 ghost use mathlib.Core.Bool.{_&&_, _||_};
 ghost use Prim.Native.Nat.{_*_, _≤_};
-ghost use Rattle.image.specs.Format.{topOf, middleOf, bytesOf, hasPart, planeCount, halvesX, halvesY, halfX, halfY, sideOf, rowsOf, rowSize, formatOf, formatOut};
-ghost use Rattle.image.specs.Picture.{needs444, as444, odd, sized};
+ghost use Rattle.image.specs.Format.{isDepth, topAt, topOf, middleAt, middleOf, bytesOf, hasPart, planeCount, halvesX, halvesY, halfX, halfY, sideOf, rowsOf, rowSize, hasSize, needs444, as444, odd, sized, withAlpha, formatOf, formatOut, formOf, formOut};
 ghost use Rattle.image.specs.Sound.{FormSound};
+use crate::size::Size;
+use crate::size::SizeAnswer;
 use laws::Refusal;
 
 // A plane by its part: where the picture is promoted, a mono picture's alpha keeps its part and not its number.
@@ -34,6 +35,11 @@ pub struct Form {
     pub format: PixelFormat,
 }
 
+pub enum FormRead {
+    Form(Form),
+    Refused(Refusal),
+}
+
 impl PixelFormat {
     pub const MONO: u32 = 0;
 
@@ -48,16 +54,13 @@ impl PixelFormat {
     pub fn new(chroma: u32, depth: u32, alpha: u32) -> FormatRead
         ensures { λ r. ⌜ formatOut r ≡ formatOf chroma depth alpha ⌝ }
     {
-        if chroma > 3 {
+        if chroma > PixelFormat::YUV444 {
             return FormatRead::Refused(Refusal::MALFORMED);
         }
         if alpha > 1 {
             return FormatRead::Refused(Refusal::MALFORMED);
         }
-        if depth < 8 {
-            return FormatRead::Refused(Refusal::DEPTH);
-        }
-        if depth > 16 {
+        if !PixelFormat::is_depth(depth) {
             return FormatRead::Refused(Refusal::DEPTH);
         }
         FormatRead::Read(PixelFormat {
@@ -67,20 +70,44 @@ impl PixelFormat {
         })
     }
 
-    // The largest sample.
+    // Whether a record may have the depth.
+    pub fn is_depth(depth: u32) -> bool
+        ensures { λ r. ⌜ r ≡ isDepth depth ⌝ }
+    {
+        if depth < 8 {
+            return false;
+        }
+        depth <= 16
+    }
+
+    // The largest sample of a depth.
+    pub fn top_at(depth: u32) -> u16
+        requires { ⌜ depth ≤ 16 ⌝ }
+        ensures { λ r. ⌜ r ≡ topAt depth ⌝ }
+    {
+        ((1u32 << depth) - 1) as u16
+    }
+
     pub fn top(self) -> u16
         requires { ⌜ self .depth ≤ 16 ⌝ }
         ensures { λ r. ⌜ r ≡ topOf self ⌝ }
     {
-        ((1u32 << self.depth) - 1) as u16
+        PixelFormat::top_at(self.depth)
     }
 
-    // The chroma sample of no colour.
+    // The chroma sample of no colour, of a depth.
+    pub fn middle_at(depth: u32) -> u16
+        requires { ⌜ (1 ≤ depth) × (depth ≤ 16) ⌝ }
+        ensures { λ r. ⌜ r ≡ middleAt depth ⌝ }
+    {
+        (1u32 << (depth - 1)) as u16
+    }
+
     pub fn middle(self) -> u16
         requires { ⌜ (1 ≤ self .depth) × (self .depth ≤ 16) ⌝ }
         ensures { λ r. ⌜ r ≡ middleOf self ⌝ }
     {
-        (1u32 << (self.depth - 1)) as u16
+        PixelFormat::middle_at(self.depth)
     }
 
     pub fn bytes_per_sample(self) -> usize
@@ -98,8 +125,8 @@ impl PixelFormat {
     {
         match part {
             Part::Luma => true,
-            Part::Cb => self.chroma != 0,
-            Part::Cr => self.chroma != 0,
+            Part::Cb => self.chroma != PixelFormat::MONO,
+            Part::Cr => self.chroma != PixelFormat::MONO,
             Part::Alpha => self.alpha != 0,
         }
     }
@@ -107,7 +134,7 @@ impl PixelFormat {
     pub fn plane_count(self) -> usize
         ensures { λ r. ⌜ r ≡ planeCount self ⌝ }
     {
-        if self.chroma == 0 {
+        if self.chroma == PixelFormat::MONO {
             if self.alpha == 0 {
                 return 1;
             }
@@ -123,17 +150,17 @@ impl PixelFormat {
     pub fn halves_width(self) -> bool
         ensures { λ r. ⌜ r ≡ halvesX self ⌝ }
     {
-        if self.chroma == 1 {
+        if self.chroma == PixelFormat::YUV420 {
             return true;
         }
-        self.chroma == 2
+        self.chroma == PixelFormat::YUV422
     }
 
     // Whether chroma is halved along the height.
     pub fn halves_height(self) -> bool
         ensures { λ r. ⌜ r ≡ halvesY self ⌝ }
     {
-        self.chroma == 1
+        self.chroma == PixelFormat::YUV420
     }
 
     // Whether an odd column or row needs a chroma sample that is not there.
@@ -186,6 +213,24 @@ impl PixelFormat {
 }
 
 impl Form {
+    // The form of those numbers. Refusals: 5 chroma above 3 or alpha above 1, 6 a depth outside 8 to 16, 3 a side 0, 4 above 2^30
+    // pixels.
+    pub fn judge(width: u32, height: u32, chroma: u32, depth: u32, alpha: u32) -> FormRead
+        ensures { λ r. ⌜ formOut r ≡ formOf width height chroma depth alpha ⌝ }
+    {
+        match PixelFormat::new(chroma, depth, alpha) {
+            FormatRead::Refused(e) => FormRead::Refused(e),
+            FormatRead::Read(format) => match Size::judge(width, height) {
+                SizeAnswer::Refused(e) => FormRead::Refused(e),
+                SizeAnswer::Size(z) => FormRead::Form(Form {
+                    width: z.width,
+                    height: z.height,
+                    format,
+                }),
+            },
+        }
+    }
+
     // The form promoted to 4:4:4.
     pub fn as_444(self) -> Form
         ensures { λ r. ⌜ r ≡ as444 self ⌝ }
@@ -212,6 +257,32 @@ impl Form {
             height,
             format,
         }
+    }
+
+    // The form with that alpha number.
+    pub fn with_alpha(self, alpha: u32) -> Form
+        ensures { λ r. ⌜ r ≡ withAlpha self alpha ⌝ }
+    {
+        let f = self.format;
+        Form {
+            width: self.width,
+            height: self.height,
+            format: PixelFormat {
+                chroma: f.chroma,
+                depth: f.depth,
+                alpha,
+            },
+        }
+    }
+
+    // Whether the picture has that size.
+    pub fn has_size(self, width: u32, height: u32) -> bool
+        ensures { λ r. ⌜ r ≡ hasSize self width height ⌝ }
+    {
+        if self.width == width {
+            return self.height == height;
+        }
+        false
     }
 
     // The bytes of a row of a plane.

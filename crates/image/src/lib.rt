@@ -1,10 +1,10 @@
-// Frame records: the pixel format, the record's planes, samples and rows, and the writer of tight records.
+// Frame records and trays of them: the pixel format, a picture's form, and where a record's planes stand.
 mod format;
 mod record;
-mod samples;
-mod write;
+mod size;
 
 pub use crate::format::Form;
+pub use crate::format::FormRead;
 pub use crate::format::FormatRead;
 pub use crate::format::Part;
 pub use crate::format::PixelFormat;
@@ -19,19 +19,5 @@ pub use crate::record::check_records;
 pub use crate::record::check_tray;
 pub use crate::record::parse_record;
 pub use crate::record::read_record;
-pub use crate::samples::Line;
-pub use crate::samples::copy_row;
-pub use crate::samples::covering;
-pub use crate::samples::fill_row;
-pub use crate::samples::plane_data;
-pub use crate::samples::promoted;
-pub use crate::samples::put_sample;
-pub use crate::samples::sample;
-pub use crate::samples::write_line;
-pub use crate::write::hand_back;
-pub use crate::write::head_size;
-pub use crate::write::plane_size;
-pub use crate::write::record_size;
-pub use crate::write::tight;
-pub use crate::write::write_head;
-pub use crate::write::write_plane_head;
+pub use crate::size::Size;
+pub use crate::size::SizeAnswer;

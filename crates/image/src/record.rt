@@ -2,11 +2,13 @@
 ghost use mathlib.Core.Path.{_≡_};
 ghost use Prim.Native.Nat.{_≤_, _<_, _^_};
 ghost use lib.ListN.{length};
-ghost use Rattle.image.specs.Record.{headOf, headAt, planeAt, partAt, planesAt, recordAt, recordOf, planeOf, headOut, planeOut, frameOut};
+ghost use Rattle.laws.specs.Out.{done};
+ghost use Rattle.laws.specs.Pick.{pick};
+ghost use Rattle.image.specs.Record.{headOf, headAt, planeAt, planesAt, recordAt, recordOf, planeOf, headOut, planeOut, frameOut};
 ghost use Rattle.image.specs.Tray.{framesAt, trayOf, trayOut, trayCount};
 ghost use Rattle.image.specs.Sound.{FormSound};
 use crate::format::Form;
-use crate::format::FormatRead;
+use crate::format::FormRead;
 use crate::format::Part;
 use crate::format::PixelFormat;
 use laws::Refusal;
@@ -56,30 +58,24 @@ pub enum TrayRead {
     Refused(Refusal),
 }
 
-// The form of a size and a format, and the place past the header.
+// The form of a header's numbers, and the place past it.
 fn judge_head(width: u32, height: u32, chroma: u32, depth: u32, alpha: u32, next: usize) -> HeadRead
     ensures { λ r. ⌜ headOut r ≡ headOf width height chroma depth alpha next ⌝ }
 {
-    match PixelFormat::new(chroma, depth, alpha) {
-        FormatRead::Refused(e) => HeadRead::Refused(e),
-        FormatRead::Read(format) => {
-            if width == 0 {
-                return HeadRead::Refused(Refusal::EMPTY);
-            }
-            if height == 0 {
-                return HeadRead::Refused(Refusal::EMPTY);
-            }
-            if width as u64 * height as u64 > PixelFormat::PIXEL_LIMIT {
-                return HeadRead::Refused(Refusal::LIMIT);
-            }
-            HeadRead::Read(Head {
-                form: Form {
-                    width,
-                    height,
-                    format,
-                },
-                next,
-            })
+    match Form::judge(width, height, chroma, depth, alpha) {
+        FormRead::Refused(e) => HeadRead::Refused(e),
+        FormRead::Form(judged) => {
+            let format = PixelFormat {
+                chroma,
+                depth,
+                alpha,
+            };
+            let form = Form {
+                width,
+                height,
+                format,
+            };
+            HeadRead::Read(Head { form, next })
         }
     }
 }
@@ -163,15 +159,13 @@ fn read_plane(s: &[u8], at: usize, rows: usize, row: usize) -> PlaneRead
     })
 }
 
-// The plane of a part at a place, if the picture has it.
-fn read_part(s: &[u8], at: usize, form: Form, part: Part) -> PlaneRead
-    requires { ⌜ FormSound form × (at ≤ length (now s)) ⌝ }
-    ensures { λ r. ⌜ planeOut r ≡ partAt (now (s .entry)) at form part ⌝ }
+// The plane at a place, if the picture has it.
+fn read_part(s: &[u8], at: usize, has: bool, rows: usize, row: usize) -> PlaneRead
+    requires { ⌜ (0 < rows) × (rows < 2 ^ 32) × (row < 2 ^ 33) ⌝ }
+    ensures { λ r. ⌜ planeOut r ≡ pick has (planeAt (now (s .entry)) at rows row) (done (record { start = at; len = 0; stride = 0 })) ⌝ }
 {
-    let format = form.format;
-    if format.has(part) {
-        let rows = format.rows(form.height, part);
-        return read_plane(s, at, rows, form.row_size(part) as usize);
+    if has {
+        return read_plane(s, at, rows, row);
     }
     PlaneRead::Read(Plane {
         start: at,
@@ -185,13 +179,37 @@ fn read_planes(s: &[u8], at: usize, form: Form) -> FrameRead
     requires { ⌜ FormSound form × (at ≤ length (now s)) ⌝ }
     ensures { λ r. ⌜ frameOut r ≡ planesAt (now (s .entry)) at form ⌝ }
 {
-    match read_part(s, at, form, Part::Luma) {
+    let f = form.format;
+    let rows = form.height as usize;
+    let row = form.row_size(Part::Luma) as usize;
+    let colour = f.has(Part::Cb);
+    let chroma_rows = f.rows(form.height, Part::Cb);
+    let chroma_row = form.row_size(Part::Cb) as usize;
+    match read_part(s, at, true, rows, row) {
         PlaneRead::Refused(e) => FrameRead::Refused(e),
-        PlaneRead::Read(luma) => match read_part(s, luma.start + luma.len, form, Part::Cb) {
+        PlaneRead::Read(luma) => match read_part(
+            s,
+            luma.start + luma.len,
+            colour,
+            chroma_rows,
+            chroma_row,
+        ) {
             PlaneRead::Refused(e) => FrameRead::Refused(e),
-            PlaneRead::Read(cb) => match read_part(s, cb.start + cb.len, form, Part::Cr) {
+            PlaneRead::Read(cb) => match read_part(
+                s,
+                cb.start + cb.len,
+                colour,
+                chroma_rows,
+                chroma_row,
+            ) {
                 PlaneRead::Refused(e) => FrameRead::Refused(e),
-                PlaneRead::Read(cr) => match read_part(s, cr.start + cr.len, form, Part::Alpha) {
+                PlaneRead::Read(cr) => match read_part(
+                    s,
+                    cr.start + cr.len,
+                    f.has(Part::Alpha),
+                    rows,
+                    row,
+                ) {
                     PlaneRead::Refused(e) => FrameRead::Refused(e),
                     PlaneRead::Read(alpha) => FrameRead::Read(Frame {
                         form,

@@ -1,18 +1,18 @@
 -- Laws of answers and refusals.
-use mathlib.Core.Path.{_≡_, refl, sym, ap, _∙_}
-use mathlib.Core.Bool.{Bool, true, false}
+use mathlib.Core.Bool.{Bool, false, true}
 use mathlib.Core.List.{List}
-use Prim.Native.Nat.{ℕ, _≤_, _<_}
+use mathlib.Core.Path.{_∙_, _≡_, ap, refl, sym}
+use Prim.Native.Nat.{_<_, _≤_, ℕ}
 use lib.ListN.{length}
-use borrow.Author.Tests.{lt-ltb, le-ltb}
-use Rattle.laws.specs.Pick.{pick}
-use Rattle.laws.specs.Puts.{puts}
-use Rattle.laws.specs.Out.{reason, Out, refused, done, andThen, refuse, answerOf, written, fitted}
-use Rattle.laws.specs.declared.Refusal.{Refusal}
-use Rattle.laws.specs.declared.Answer.{Answer}
-use Rattle.laws.specs.declared.Answer.the-variants.{Wrote, Refused}
+use borrow.Author.Tests.{le-ltb, lt-ltb}
 use Rattle.laws.proofs.Order.{apart}
 use Rattle.laws.proofs.Puts.{puts-start}
+use Rattle.laws.specs.Out.{Out, andThen, answerOf, done, fitted, isDone, reason, refuse, refused, written}
+use Rattle.laws.specs.Pick.{pick}
+use Rattle.laws.specs.Puts.{puts}
+use Rattle.laws.specs.declared.Answer.{Answer}
+use Rattle.laws.specs.declared.Answer.the-variants.{Refused, Wrote}
+use Rattle.laws.specs.declared.Refusal.{Refusal}
 
 -- what holds of an answer, where there is one
 unfoldable pub Holds {ℓ} : {A : Type 0} → (A → Type ℓ) → Out A → Type ℓ
@@ -148,3 +148,13 @@ done-answers o bs d d′ n e h l p = rw e (ap Wrote l, p ∙ puts-start d bs h)
 -- the same of a run that comes to the same
 pub answers-as : (o u : Out (List ℕ)) (r : Answer) (d d′ : List ℕ) → u ≡ o → (r ≡ answerOf o) × (d′ ≡ written o d) → (r ≡ answerOf u) × (d′ ≡ written u d)
 answers-as o u r d d′ e h = rw e h
+
+-- whether there is an answer
+pub done-yes : {A : Type 0} (o : Out A) (a : A) → o ≡ done a → isDone o ≡ true
+unfolding isDone
+done-yes o a e = rw e
+
+pub yes-done : {A : Type 0} (o : Out A) → isDone o ≡ true → (a : A) × (o ≡ done a)
+unfolding isDone
+yes-done (refused r) e = apart (cc)
+yes-done (done a) e = (a, refl)

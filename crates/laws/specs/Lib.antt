@@ -1,4 +1,5 @@
 pub mod Pick
+pub mod Any
 pub mod Ascii
 pub mod Out
 pub mod Span

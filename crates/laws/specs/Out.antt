@@ -1,12 +1,12 @@
 -- What a call comes to: an answer, or why it refuses.
-use mathlib.Core.Bool.{Bool, true, false}
+use mathlib.Core.Bool.{Bool, false, true}
 use mathlib.Core.List.{List, _++_}
 use Prim.Native.Nat.{ℕ}
 use lib.Dec.{ltb}
-use lib.ListN.{length, drop}
-use Rattle.laws.specs.declared.Refusal.{Refusal}
+use lib.ListN.{drop, length}
 use Rattle.laws.specs.declared.Answer.{Answer}
-use Rattle.laws.specs.declared.Answer.the-variants.{Wrote, Refused}
+use Rattle.laws.specs.declared.Answer.the-variants.{Refused, Wrote}
+use Rattle.laws.specs.declared.Refusal.{Refusal}
 
 -- the refusal of document 01's number, of no item
 abbrev pub reason : ℕ → Refusal
@@ -15,6 +15,11 @@ reason n = record { number = n; sort = 0; index = 0 }
 pub data Out (A : Type 0) : Type 0 where
   refused : Refusal → Out A
   done : A → Out A
+
+-- whether there is an answer
+unfoldable pub isDone : {A : Type 0} → Out A → Bool
+isDone (refused r) = false
+isDone (done a) = true
 
 -- the first answer handed on; the first refusal is the refusal
 unfoldable pub andThen : {A B : Type 0} → Out A → (A → Out B) → Out B

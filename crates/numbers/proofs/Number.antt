@@ -1,20 +1,20 @@
 -- Laws of house numbers: a step of the writer, a step of the reader; what was written is read back, and what is read is the shortest
 -- form.
-use mathlib.Core.Path.{_≡_, refl, sym, ap, ap₂, _∙_}
-use mathlib.Core.List.{List, [], _∷_, _++_}
-use Prim.Native.Nat.{ℕ, zero, suc, _+_, _-_, _*_, _/_, _%_, _^_, _≤_, _<_}
-use native.Mathlib.Nat.{pow-suc, div-lt-iff-lt-mul, pow-le-pow-right, not-suc-le-zero, add-zero, add-assoc, mul-comm, mul-assoc, add-mul, mod-add-div'}
+use mathlib.Core.List.{List, [], _++_, _∷_}
+use mathlib.Core.Path.{_∙_, _≡_, ap, ap₂, refl, sym}
+use Prim.Native.Nat.{_%_, _*_, _+_, _-_, _/_, _<_, _^_, _≤_, suc, zero, ℕ}
+use native.Mathlib.Nat.{add-assoc, add-mul, add-zero, div-lt-iff-lt-mul, mod-add-div', mul-assoc, mul-comm, not-suc-le-zero, pow-le-pow-right, pow-suc}
 use native.Mathlib.Numerals.{add-one}
 use native.Mathlib.Omega.{arith}
-use lib.Dec.{ltb, leb, lit<}
-use lib.ListN.{length, getD, drop, take, length-drop, length-append}
-use lib.Seq.{getD-drop, drop-cons, drop-drop, drop-append-seam, take-at}
-use borrow.Author.Tests.{lt-ltb, le-ltb, le-leb, lt-leb}
+use lib.Dec.{leb, lit<, ltb}
+use lib.ListN.{drop, getD, length, length-append, length-drop, take}
+use lib.Seq.{drop-append-seam, drop-cons, drop-drop, getD-drop, take-at}
+use borrow.Author.Tests.{le-leb, le-ltb, lt-leb, lt-ltb}
+use Rattle.laws.proofs.Order.{apart, by-order}
 use Rattle.laws.specs.Pick.{pick}
-use Rattle.laws.proofs.Order.{by-order, apart}
-use Rattle.numbers.specs.Number.{readFrom, readNumber, lastByte, groups, numberBytes}
+use Rattle.numbers.specs.Number.{groups, lastByte, numberBytes, readFrom, readNumber}
 use Rattle.numbers.specs.declared.NumberRead.{NumberRead}
-use Rattle.numbers.specs.declared.NumberRead.the-variants.{Number, Malformed}
+use Rattle.numbers.specs.declared.NumberRead.the-variants.{Malformed, Number}
 
 -- one group more than is needed changes nothing
 groups-fuel : (k n : ℕ) → n < 128 ^ suc k → groups k n ≡ groups (suc k) n
@@ -85,6 +85,13 @@ module _ (k : ℕ) (s : List ℕ) (i least w v : ℕ) (some-left : 0 < k) where
       → readFrom k s i least w v ≡ readFrom (k - 1) s (i + 1) 1 (w * 128) (v + (getD s i 0 - 128) * w)
   unfolding pick lastByte
   read-more h g = read-step ∙ simp (lt-leb (length s) i h, le-ltb (getD s i 0) 128 g)
+
+-- a number of one group
+pub read-one : (s : List ℕ) (i : ℕ) → i < length s → getD s i 0 < 128 → readNumber s i ≡ Number (getD s i 0) (i + 1)
+unfolding readNumber
+read-one s i h l =
+    let e : 0 + getD s i 0 * 1 ≡ getD s i 0 = omega arith in
+    read-last 5 s i 0 1 0 (lit< tt) h l (omega arith) (omega arith) ∙ ap (λ (n : ℕ). Number n (i + 1)) e
 
 pub read-none : (s : List ℕ) (i least w v : ℕ) → readFrom 0 s i least w v ≡ Malformed
 unfolding readFrom
@@ -209,14 +216,14 @@ head-drop s i h = drop-cons s i 0 h ∙ ap (λ (j : ℕ). getD s i 0 ∷ drop j 
 record Came (k : ℕ) (s : List ℕ) (i least w v x next : ℕ) : Type 0 where
   n : ℕ
   value : x ≡ v + n * w
-  some : least ≤ n
+  positive : least ≤ n
   bytes : drop i s ≡ groups k n ++ drop next s
 
 came-last : (k : ℕ) (s : List ℕ) (i least w v x next : ℕ) → i < length s → getD s i 0 < 128 → least ≤ getD s i 0 → v + getD s i 0 * w ≡ x → i + 1 ≡ next → Came k s i least w v x next
 came-last k s i least w v x next h l t e f = record {
   n = getD s i 0;
   value = sym e;
-  some = t;
+  positive = t;
   bytes = head-drop s i h ∙ rw (groups-last k (getD s i 0) l, f) refl;
 }
 
@@ -230,7 +237,7 @@ came-more : (k : ℕ) (s : List ℕ) (i least w v x next : ℕ) → i < length s
 came-more k s i least w v x next h g small few c =
     let b = getD s i 0 in
     let n = b - 128 + c .n * 128 in
-    let o = group-on b (c .n) g small (c .some) in
+    let o = group-on b (c .n) g small (c .positive) in
     let value : v + (b - 128) * w + c .n * (w * 128) ≡ v + n * w =
     ap₂ (λ (r m : ℕ). v + (r - 128) * w + m * (w * 128)) (sym (o .1)) (sym (o .2)) ∙ regroup n w v in
     let bytes : b ∷ (groups k (c .n) ++ drop next s) ≡ groups (suc k) n ++ drop next s =
@@ -238,7 +245,7 @@ came-more k s i least w v x next h g small few c =
     record {
       n = n;
       value = c .value ∙ value;
-      some = omega (arith, o .0);
+      positive = omega (arith, o .0);
       bytes = head-drop s i h ∙ ap (λ (r : List ℕ). b ∷ r) (c .bytes) ∙ bytes;
     }
 

@@ -1,6 +1,6 @@
 // Numbers as bytes: house numbers, big-endian fields, decimal text.
 ghost use mathlib.Core.Path.{_≡_};
-ghost use Prim.Native.Nat.{_+_, _<_, _≤_, _^_};
+ghost use Prim.Native.Nat.{_+_, _-_, _<_, _≤_, _^_, max, min};
 ghost use lib.ListN.{length};
 ghost use Rattle.laws.specs.Puts.{puts};
 ghost use Rattle.numbers.specs.Number.{readNumber, numberBytes};
@@ -14,8 +14,8 @@ pub enum NumberRead {
     Malformed,
 }
 
-// The number at `at`, and the place past it.
-pub fn read_number(s: &[u8], at: usize) -> NumberRead
+// The number at `at`, group by group, and the place past it.
+fn read_groups(s: &[u8], at: usize) -> NumberRead
     ensures { λ r. ⌜ r ≡ readNumber (now (s .entry)) at ⌝ }
 {
     let mut i = at;
@@ -48,6 +48,22 @@ pub fn read_number(s: &[u8], at: usize) -> NumberRead
         left = left - 1;
     }
     NumberRead::Malformed
+}
+
+// The number at `at`, and the place past it. Most have one group.
+pub fn read_number(s: &[u8], at: usize) -> NumberRead
+    ensures { λ r. ⌜ r ≡ readNumber (now (s .entry)) at ⌝ }
+{
+    if at < s.len() {
+        let b = s[at];
+        if b < 128 {
+            return NumberRead::Number {
+                value: b as u32,
+                next: at + 1,
+            };
+        }
+    }
+    read_groups(s, at)
 }
 
 // How many bytes the shortest form of n takes.
@@ -169,4 +185,34 @@ pub fn write_decimal(out: &mut [u8], at: usize, n: u32) -> usize
     i -= 1;
     out[i] = (48 + rest) as u8;
     end
+}
+
+// The lesser of two numbers.
+pub fn min(a: usize, b: usize) -> usize
+    ensures { λ r. ⌜ r ≡ min a b ⌝ }
+{
+    if a < b {
+        return a;
+    }
+    b
+}
+
+// The greater of two numbers.
+pub fn max(a: usize, b: usize) -> usize
+    ensures { λ r. ⌜ r ≡ max a b ⌝ }
+{
+    if a < b {
+        return b;
+    }
+    a
+}
+
+// a - b, or 0 where b is larger.
+pub fn saturating_sub(a: usize, b: usize) -> usize
+    ensures { λ r. ⌜ r ≡ a - b ⌝ }
+{
+    if a < b {
+        return 0;
+    }
+    a - b
 }

@@ -9,10 +9,10 @@ use borrow.Author.Tests.{eqb-true, not-false}
 use Rattle.laws.proofs.Order.{bool-same, by-test, or-left, or-right, pick-false, pick-true}
 use Rattle.laws.specs.Pick.{pick}
 use Rattle.numbers.specs.declared.Offset.{Offset}
-use Rattle.image.proofs.PictureLaws.{evenly-if, needs-X, needs-Y, odd-false}
-use Rattle.image.specs.Format.{cover, halfX, halfY, halved, halvesX, halvesY, hasAlpha, hasPart, isMono, middleOf, topOf}
-use Rattle.image.specs.Picture.{full, odd, pixel}
-use Rattle.image.specs.inner.Even.{Evenly}
+use Rattle.planes.proofs.PictureLaws.{evenly-if, needs-X, needs-Y, odd-false}
+use Rattle.image.specs.Format.{cover, halfX, halfY, halved, halvesX, halvesY, hasAlpha, hasPart, isMono, middleOf, topOf, odd}
+use Rattle.planes.specs.Picture.{full, pixel}
+use Rattle.planes.specs.inner.Even.{Evenly}
 use Rattle.image.specs.declared.format.Form.{Form}
 use Rattle.image.specs.declared.format.Part.{Part}
 use Rattle.image.specs.declared.format.Part.the-variants.{Alpha, Cb, Cr, Luma}
@@ -20,7 +20,9 @@ use Rattle.image.specs.declared.format.PixelFormat.{PixelFormat}
 use Rattle.image.proofs.FormLaws.{like-halved}
 use Rattle.overlay.proofs.CoveredLaws.{whole-pixel}
 use Rattle.overlay.proofs.ReachLaws.{covers-facts, facts-covers}
-use Rattle.overlay.specs.Overlay.{Layer, allLaid, alphaOf, base, covers, coversAt, ground, laid, laidAt, oddAcross, oddDown, oddOffset, otherChroma, overlayForm, overlayPic, placeAt, promotes, sampleOf, seeThrough, settled, some, spotAt}
+use Rattle.inputs.specs.Layers.{Layer, oddAcross, oddDown, oddOffset, otherChroma, overlayForm, promotes, seeThrough}
+use Rattle.overlay.specs.Overlay.{overAll, alphaOf, base, covers, coversAt, backdrop, over, overAt, overlayPic, placeAt, sampleOf, finalSample, spotAt}
+use Rattle.laws.specs.Any.{any}
 
 -- ---- along one axis: the first place of a sample, and any other that it covers
 
@@ -79,25 +81,25 @@ module _ (hX hY : Bool) (p : Part) (top x y : ℕ) where
       ap₂ (λ (a b : ℕ). pick (hasPart (l .pic .form .format) p) (l .pic .at p a b) (middleOf (l .pic .form .format)))
       (cover-alike (halfX (l .pic .form .format) p) hX (l .placement .horizontal) (l .pic .form .width) x (k .likeX) (k .across)) (cover-alike (halfY (l .pic .form .format) p) hY (l .placement .vertical) (l .pic .form .height) y (k .likeY) (k .down))
 
-  one-alike : (l : Layer) (v : ℕ) → LayerEven hX hY p l → laidAt top p X Y l v ≡ laidAt top p x y l v
-  unfolding laidAt
+  one-alike : (l : Layer) (v : ℕ) → LayerEven hX hY p l → overAt top p X Y l v ≡ overAt top p x y l v
+  unfolding overAt
   one-alike l v k = rw (covers-alike l k, sample-alike l k, k .alpha top x y)
 
-  veil-alike : (l : Layer) (v : ℕ) → LayerEven hX hY p l → laidAt top Alpha X Y l v ≡ laidAt top Alpha x y l v
-  unfolding laidAt laid
-  veil-alike l v k = rw (covers-alike l k, k .alpha top x y)
+  over-alpha-alike : (l : Layer) (v : ℕ) → LayerEven hX hY p l → overAt top Alpha X Y l v ≡ overAt top Alpha x y l v
+  unfolding overAt over
+  over-alpha-alike l v k = rw (covers-alike l k, k .alpha top x y)
 
-  all-alike : (ls : List Layer) (v : ℕ) → AllEven hX hY p ls → (allLaid top p X Y ls v ≡ allLaid top p x y ls v) × (allLaid top Alpha X Y ls v ≡ allLaid top Alpha x y ls v)
-  unfolding allLaid AllEven
+  all-alike : (ls : List Layer) (v : ℕ) → AllEven hX hY p ls → (overAll top p X Y ls v ≡ overAll top p x y ls v) × (overAll top Alpha X Y ls v ≡ overAll top Alpha x y ls v)
+  unfolding overAll AllEven
   all-alike [] v k = (refl, refl)
   all-alike (l ∷ ls) v k = (
-    ap (allLaid top p X Y ls) (one-alike l v (k .0)) ∙ all-alike ls (laidAt top p x y l v) (k .1) .0,
-    ap (allLaid top Alpha X Y ls) (veil-alike l v (k .0)) ∙ all-alike ls (laidAt top Alpha x y l v) (k .1) .1,
+    ap (overAll top p X Y ls) (one-alike l v (k .0)) ∙ all-alike ls (overAt top p x y l v) (k .1) .0,
+    ap (overAll top Alpha X Y ls) (over-alpha-alike l v (k .0)) ∙ all-alike ls (overAt top Alpha x y l v) (k .1) .1,
   )
 
   pub place-alike : (fill : Part → ℕ) (ls : List Layer) → AllEven hX hY p ls → placeAt top fill ls p X Y ≡ placeAt top fill ls p x y
   unfolding placeAt
-  place-alike fill ls k = ap₂ (λ (a b : ℕ). settled top p (fill p) a b) (all-alike ls (ground fill p) k .0) (all-alike ls (ground fill Alpha) k .1)
+  place-alike fill ls k = ap₂ (λ (a b : ℕ). finalSample top p (fill p) a b) (all-alike ls (backdrop fill p) k .0) (all-alike ls (backdrop fill Alpha) k .1)
 
 -- ---- the picture
 
@@ -155,8 +157,8 @@ module _ (f : PixelFormat) (p : Part) where
         alpha = λ top x y. by-test (isMono f) (λ e. alpha-alike _ _ l top x y (mono-whole f p e)) (λ e. alpha-top l top _ _ (s e) ∙ sym (alpha-top l top x y (s e)));
       }
 
-  layers-even : (ls : List Layer) → (halvesX f ≡ true → some oddAcross ls ≡ false) → (halvesY f ≡ true → some oddDown ls ≡ false) → some (otherChroma f) ls ≡ false → (isMono f ≡ false → some seeThrough ls ≡ false) → AllEven (halfX f p) (halfY f p) p ls
-  unfolding some AllEven
+  layers-even : (ls : List Layer) → (halvesX f ≡ true → any oddAcross ls ≡ false) → (halvesY f ≡ true → any oddDown ls ≡ false) → any (otherChroma f) ls ≡ false → (isMono f ≡ false → any seeThrough ls ≡ false) → AllEven (halfX f p) (halfY f p) p ls
+  unfolding any AllEven
   layers-even [] a d c s = tt
   layers-even (l ∷ ls) a d c s = (
     layer-even l (λ e. or-left (oddAcross l) _ (a e)) (λ e. or-left (oddDown l) _ (d e)) (or-left (otherChroma f l) _ c) (λ e. or-left (seeThrough l) _ (s e)),
@@ -166,11 +168,11 @@ module _ (f : PixelFormat) (p : Part) where
   pub not-promoted : (width height : ℕ) (ls : List Layer) → promotes f width height ls ≡ false → AllEven (halfX f p) (halfY f p) p ls
   unfolding promotes
   not-promoted width height ls e =
-      let a = or-left (not (isMono f) && some seeThrough ls || some (otherChroma f) ls) _ e in
-      let b = or-right (not (isMono f) && some seeThrough ls || some (otherChroma f) ls) _ e in
-      let t = or-left (not (isMono f) && some seeThrough ls) _ a in
-      layers-even ls (λ h. or-right (odd width) _ (needs-X f _ _ b h)) (λ h. or-right (odd height) _ (needs-Y f _ _ b h)) (or-right (not (isMono f) && some seeThrough ls) _ a)
-      (λ h. sym (ap (λ (m : Bool). not m && some seeThrough ls) h) ∙ t)
+      let a = or-left (not (isMono f) && any seeThrough ls || any (otherChroma f) ls) _ e in
+      let b = or-right (not (isMono f) && any seeThrough ls || any (otherChroma f) ls) _ e in
+      let t = or-left (not (isMono f) && any seeThrough ls) _ a in
+      layers-even ls (λ h. or-right (odd width) _ (needs-X f _ _ b h)) (λ h. or-right (odd height) _ (needs-Y f _ _ b h)) (or-right (not (isMono f) && any seeThrough ls) _ a)
+      (λ h. sym (ap (λ (m : Bool). not m && any seeThrough ls) h) ∙ t)
 
 -- every plane of the composed picture reads at each place what is worked there
 abbrev canvas : PixelFormat → ℕ → ℕ → ℕ → ℕ → Form

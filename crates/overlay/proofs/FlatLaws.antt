@@ -7,8 +7,6 @@ use native.Mathlib.Nat.{suc-mul}
 use native.Mathlib.Omega.{arith}
 use lib.Arith.{digits-div, digits-mod}
 use lib.ListN.{length}
-use lib.Pow.{pow-mono}
-use borrow.Author.Tests.{le-ltb}
 use Rattle.laws.proofs.Order.{mul-below}
 use Rattle.laws.proofs.Out.{refuse-no}
 use Rattle.laws.proofs.Span.{span-cong, span-end, span-shift, span-split, span-step}
@@ -16,21 +14,22 @@ use Rattle.laws.specs.Out.{done}
 use Rattle.laws.specs.Puts.{puts}
 use Rattle.laws.specs.Span.{span}
 use Rattle.image.proofs.FormLaws.{columns-le, columns-some, rows-le, width-le}
-use Rattle.image.specs.Bytes.{encode, rowBytes, rowsBytes, sampleBytes, samplesOf}
+use Rattle.image.proofs.RecordLaws.{depth-taken}
 use Rattle.image.specs.Format.{bytesOf, columnsOf, halfX, halfY, rowsOf, topOf}
 use Rattle.image.specs.Sound.{FormSound}
 use Rattle.image.specs.declared.format.Form.{Form}
 use Rattle.image.specs.declared.format.Part.{Part}
 use Rattle.image.specs.declared.format.Part.the-variants.{Alpha}
-use Rattle.image.specs.declared.format.PixelFormat.{PixelFormat}
-use Rattle.image.proofs.ByteLaws.{samples-same}
+use Rattle.planes.proofs.ByteLaws.{samples-same}
+use Rattle.planes.specs.Bytes.{encode, rowBytes, rowsBytes, sampleBytes, samplesOf}
 use Rattle.fill.specs.Fill.{fillOf, nclxOf, partOf, ycbcrOf}
 use Rattle.fill.specs.declared.Colour.{Colour}
 use Rattle.fill.specs.declared.Ycbcr.{Ycbcr}
 use Rattle.derived.specs.declared.overlay.Fill.{Fill}
-use Rattle.overlay.specs.inner.Block.{StripeFits}
-use Rattle.overlay.specs.Overlay.{Layer, allLaid, base, ground, overlayPic, placeAt, settled}
+use Rattle.inputs.specs.Layers.{Layer}
+use Rattle.overlay.specs.Overlay.{overAll, base, backdrop, overlayPic, placeAt, finalSample}
 use Rattle.overlay.specs.Run.{fillPart}
+use Rattle.overlay.specs.inner.Block.{StripeFits}
 
 pub flat-rows : (bytes : ℕ) (f : ℕ → ℕ → ℕ) (c n : ℕ) → 1 ≤ c
     → span (λ y. samplesOf bytes (λ x. f x y) c) 0 n ≡ span (λ q. sampleBytes bytes (f (q % c) (q / c))) 0 (n * c)
@@ -60,11 +59,11 @@ flat-next bytes g start count total h =
 pub samples-as : (b b′ : ℕ) (f g : ℕ → ℕ) (n : ℕ) → b ≡ b′ → ((j : ℕ) → j < n → f j ≡ g j) → samplesOf b f n ≡ samplesOf b′ g n
 samples-as b b′ f g n e h = ap (λ (k : ℕ). samplesOf k f n) e ∙ samples-same b′ f g n h
 
--- a sample of the canvas, where its two quantities were laid from the ground
-pub laid-place : (top : ℕ) (p : Part) (x y : ℕ) (fill : Part → ℕ) (ls : List Layer) (v w a b : ℕ) → v ≡ ground fill p → w ≡ ground fill Alpha → a ≡ allLaid top p x y ls v → b ≡ allLaid top Alpha x y ls w
-    → settled top p (fill p) a b ≡ placeAt top fill ls p x y
+-- a sample of the canvas, where its two quantities were laid from the backdrop
+pub over-place : (top : ℕ) (p : Part) (x y : ℕ) (fill : Part → ℕ) (ls : List Layer) (v w a b : ℕ) → v ≡ backdrop fill p → w ≡ backdrop fill Alpha → a ≡ overAll top p x y ls v → b ≡ overAll top Alpha x y ls w
+    → finalSample top p (fill p) a b ≡ placeAt top fill ls p x y
 unfolding placeAt
-laid-place top p x y fill ls v w a b e f g h = rw (g, h, e, f)
+over-place top p x y fill ls v w a b e f g h = rw (g, h, e, f)
 
 -- ---- the rows of a composed plane
 
@@ -83,14 +82,10 @@ module _ (m : Form) (ok : FormSound m) (fill : Part → ℕ) (ls : List Layer) (
   pub stripe-fits : (start count : ℕ) → start + count ≤ n * c → StripeFits (record { columns = c; «half_across» = hx; «half_down» = hy; start = start; count = count })
   stripe-fits start count h = record { wide = rw ec (columns-some m ok p); narrow = rw ec (omega (arith, columns-le m ok p, width-le m ok)); ends = omega (arith, total-small) }
 
-pub top-some : (f : PixelFormat) → 8 ≤ f .depth → 1 ≤ topOf f
-unfolding topOf
-top-some f h = let k : 2 ^ 8 ≤ 2 ^ f .depth = pow-mono h in omega arith
-
 -- a depth that was taken has a fill
 pub fill-taken : (k : Fill) (depth : ℕ) (colour : Colour) → 8 ≤ depth → depth ≤ 16 → fillOf (k .red) (k .green) (k .blue) depth colour ≡ done (ycbcrOf (partOf (k .red)) (partOf (k .green)) (partOf (k .blue)) depth (nclxOf colour))
 unfolding fillOf
-fill-taken k depth colour l h = refuse-no _ _ (le-ltb depth 8 l) ∙ refuse-no _ _ (le-ltb 16 depth h)
+fill-taken k depth colour l h = refuse-no _ _ (depth-taken depth l h)
 
 pub drawn-room : (m : Form) (s s′ : Ycbcr) (a a′ : ℕ) (ls : List Layer) (k : ℕ) → s ≡ s′ → a ≡ a′ → length (encode (overlayPic m (fillPart s′ a′) ls)) ≤ k → length (encode (overlayPic m (fillPart s a) ls)) ≤ k
 drawn-room m s s′ a a′ ls k e f h = rw (e, f) h

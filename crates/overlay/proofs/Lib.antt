@@ -1,9 +1,6 @@
-pub mod BlendLaws
 pub mod ReachLaws
 pub mod StripeLaws
 pub mod FlatLaws
-pub mod FrameLaws
-pub mod NotedLaws
 pub mod RunLaws
 pub mod CoveredLaws
 pub mod EvenLaws

@@ -11,7 +11,8 @@ use Rattle.laws.specs.Pick.{pick}
 use Rattle.numbers.specs.declared.Offset.{Offset}
 use Rattle.image.specs.Format.{sideOf}
 use Rattle.overlay.specs.inner.Block.{stretchOf}
-use Rattle.overlay.specs.Overlay.{base, covers, some, spotAt}
+use Rattle.overlay.specs.Overlay.{base, covers, spotAt}
+use Rattle.laws.specs.Any.{any}
 
 -- ---- along one axis
 
@@ -85,7 +86,7 @@ row-begins r e c h l =
     omega arith
 
 -- row r of a plane of c columns, from one column up to another, beside so many samples from a start on
-module _ (c start count from to r : ℕ) (some : 1 ≤ c) where
+module _ (c start count from to r : ℕ) (any : 1 ≤ c) where
   abbrev A : ℕ
   A = max (r * c + from) start
 
@@ -94,7 +95,7 @@ module _ (c start count from to r : ℕ) (some : 1 ≤ c) where
 
   pub line-in : (j : ℕ) → j < count → (start + j) / c ≡ r → from ≤ (start + j) % c → (start + j) % c < to → (A ≤ start + j) × (start + j < E)
   line-in j h e f t =
-      let k = row-column (start + j) c some in
+      let k = row-column (start + j) c any in
       let m : (start + j) / c * c ≡ r * c = ap (λ (n : ℕ). n * c) e in
       (omega arith, omega arith)
 

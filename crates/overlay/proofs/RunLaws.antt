@@ -14,11 +14,11 @@ use Rattle.laws.specs.declared.Refusal.{Refusal}
 use Rattle.numbers.specs.Number.{onNumber, readNumber}
 use Rattle.numbers.specs.declared.NumberRead.the-variants.{Malformed, Number}
 use Rattle.image.proofs.RecordLaws.{record-sound}
-use Rattle.image.proofs.RoundTrip.{length-encode}
+use Rattle.planes.proofs.RoundTrip.{length-encode}
 use Rattle.image.proofs.TrayLaws.{counted}
-use Rattle.image.specs.Bytes.{encode, sizeOf}
+use Rattle.planes.specs.Bytes.{encode, sizeOf}
 use Rattle.image.specs.Format.{topOf}
-use Rattle.image.specs.Picture.{Pic}
+use Rattle.planes.specs.Picture.{Pic}
 use Rattle.image.specs.Sound.{FormSound}
 use Rattle.image.specs.Tray.{framesAt}
 use Rattle.image.specs.declared.record.Frame.{Frame}
@@ -26,12 +26,16 @@ use Rattle.fill.specs.declared.Colour.{Colour}
 use Rattle.derived.proofs.Taken.{overlay-taken}
 use Rattle.derived.specs.inner.Sound.{OverlaySound}
 use Rattle.derived.specs.Overlay.{overlayOf}
-use Rattle.overlay.proofs.FrameLaws.{frames-from}
-use Rattle.overlay.specs.inner.Block.{PlanSound, framesFrom, layersAt}
-use Rattle.overlay.specs.Overlay.{overlayForm, overlayPic, some}
-use Rattle.overlay.specs.inner.Plan.{planAt, planOf}
-use Rattle.overlay.specs.Run.{Inputs, alphaAbove, composed, composedForm, fillFor, firstForm, firstFormat, inputsAt, layersOf, otherDepth, overlayRun}
-use Rattle.overlay.specs.declared.inputs.Plan.{Plan}
+use Rattle.inputs.proofs.FrameLaws.{frames-from}
+use Rattle.overlay.specs.inner.Block.{PlanSound, layersAt}
+use Rattle.image.specs.inner.Frames.{framesFrom}
+use Rattle.inputs.specs.Layers.{overlayForm, layersOf}
+use Rattle.overlay.specs.Overlay.{overlayPic}
+use Rattle.laws.specs.Any.{any}
+use Rattle.inputs.specs.inner.Plan.{planAt, planOf}
+use Rattle.inputs.specs.Inputs.{Inputs, alphaAbove, composedForm, firstForm, firstFormat, inputsAt, otherDepth}
+use Rattle.overlay.specs.Run.{composed, fillFor, overlayRun}
+use Rattle.inputs.specs.declared.read.Plan.{Plan}
 
 pub frames-sound : (n : ℕ) (s : List ℕ) (at : ℕ) (frs : List Frame) → 0 < n → framesAt n s at ≡ done frs → FormSound (firstForm frs)
 unfolding framesAt firstForm
@@ -47,10 +51,10 @@ module _ (body tray list : List ℕ) (n at : ℕ) where
     pub body-read : overlayOf body n ≡ done (q .descriptor)
     pub offsets : OverlaySound body (q .descriptor)
     pub count : q .descriptor .count ≡ n
-    pub any : 0 < n
+    pub nonempty : 0 < n
     pub many : length list ≡ n
     pub frames : framesAt n tray at ≡ done (q .frames)
-    pub depths : some (otherDepth (firstFormat (q .frames))) (q .frames) ≡ false
+    pub depths : any (otherDepth (firstFormat (q .frames))) (q .frames) ≡ false
 
   took-as : (q q′ : Inputs) → q ≡ q′ → Took q → Took q′
   took-as q q′ e k = rw e at k
@@ -64,13 +68,13 @@ module _ (body tray list : List ℕ) (n at : ℕ) where
       let d = andThen-done _ _ q (c .1) in
       let f = refuse-done _ _ _ q (d .2) in
       let o = overlay-taken body n (a .0) (a .1) in
-      took-as _ q (done-same _ q (f .1)) (record { body-read = a .1; offsets = o .0; count = o .1; any = positive n (eqb-false n 0 (b .0)); many = eqb-true _ _ (not-false _ (c .0)); frames = d .1; depths = f .0 })
+      took-as _ q (done-same _ q (f .1)) (record { body-read = a .1; offsets = o .0; count = o .1; nonempty = positive n (eqb-false n 0 (b .0)); many = eqb-true _ _ (not-false _ (c .0)); frames = d .1; depths = f .0 })
 
   module _ (q : Inputs) (k : Took q) where
     form-taken : FormSound (composedForm body tray list q)
     unfolding composedForm overlayForm
     form-taken =
-        let f = frames-sound n tray at (q .frames) (k .any) (k .frames) in
+        let f = frames-sound n tray at (q .frames) (k .nonempty) (k .frames) in
         record {
           chroma = pick-le _ 3 _ 3 (omega arith) (f .chroma);
           low = f .low;
@@ -95,7 +99,7 @@ planPic body tray list colour plan = overlayPic (plan .form) (fillFor (plan .des
 pub record Taken (body tray list : List ℕ) (colour : Colour) (room n at : ℕ) (plan : Plan) : Type 0 where
   pub sound : PlanSound body list plan
   pub left : overlayRun body tray list colour room
-      ≡ refuse (some (alphaAbove tray (topOf (plan .form .format))) (framesFrom n tray at)) 16 (fitted room (encode (planPic body tray list colour plan)))
+      ≡ refuse (any (alphaAbove tray (topOf (plan .form .format))) (framesFrom n tray at)) 16 (fitted room (encode (planPic body tray list colour plan)))
 
 module _ (body tray list : List ℕ) (colour : Colour) (room : ℕ) where
   pub run-malformed : readNumber tray 0 ≡ Malformed → overlayRun body tray list colour room ≡ refused (reason 5)
@@ -104,7 +108,7 @@ module _ (body tray list : List ℕ) (colour : Colour) (room : ℕ) where
 
   module _ (n at : ℕ) (counted : readNumber tray 0 ≡ Number n at) where
     abbrev going : Inputs → Out (List ℕ)
-    going q = refuse (some (alphaAbove tray (topOf (firstFormat (q .frames)))) (q .frames)) 16 (fitted room (encode (composed body tray list colour q)))
+    going q = refuse (any (alphaAbove tray (topOf (firstFormat (q .frames)))) (q .frames)) 16 (fitted room (encode (composed body tray list colour q)))
 
     run-counted : overlayRun body tray list colour room ≡ andThen (inputsAt body tray list n at) going
     unfolding overlayRun onNumber
@@ -114,10 +118,13 @@ module _ (body tray list : List ℕ) (colour : Colour) (room : ℕ) where
     unfolding planAt
     run-refused r e = run-counted ∙ then-refused _ (refused-back (inputsAt body tray list n at) (planOf body tray list at) r e)
 
-    as-plan : (q : Inputs) → Took body tray list n at q → going q ≡ refuse (some (alphaAbove tray (topOf (planOf body tray list at q .form .format))) (framesFrom n tray at)) 16 (fitted room (encode (planPic body tray list colour (planOf body tray list at q))))
+    as-plan : (q : Inputs) → Took body tray list n at q → going q ≡ refuse (any (alphaAbove tray (topOf (planOf body tray list at q .form .format))) (framesFrom n tray at)) 16 (fitted room (encode (planPic body tray list colour (planOf body tray list at q))))
     unfolding planOf composed composedForm overlayForm topOf
     as-plan q k =
-        ap₂ (λ (a b : List Frame). refuse (some (alphaAbove tray (topOf (firstFormat (q .frames)))) a) 16 (fitted room (encode (overlayPic (composedForm body tray list q) (fillFor (q .descriptor .«canvas_fill») (firstFormat (q .frames) .depth) colour) (layersOf body tray list (q .descriptor) 0 b)))))
+        ap₂ (λ (a b : List Frame). refuse (any (alphaAbove tray (topOf (firstFormat (q .frames)))) a) 16
+        (fitted room
+        (encode (overlayPic (composedForm body tray list q) (fillFor (q .descriptor .«canvas_fill») (firstFormat (q .frames) .depth) colour)
+        (layersOf body tray list (q .descriptor) 0 b)))))
         (frames-from n tray at (q .frames) (k .frames)) (frames-are body tray list n at q k)
 
     taken-as : (p p′ : Plan) → p ≡ p′ → Taken body tray list colour room n at p → Taken body tray list colour room n at p′
@@ -131,7 +138,7 @@ module _ (body tray list : List ℕ) (colour : Colour) (room : ℕ) where
         taken-as _ plan (done-same _ plan (a .2)) (record { sound = plan-sound body tray list n at (a .0) k; left = run-counted ∙ then-done _ (a .1) ∙ as-plan (a .0) k })
 
 -- what the search answered, at a top that was worked out
-pub above-is : (tray : List ℕ) (n at t t′ : ℕ) (b : Bool) → t ≡ t′ → b ≡ some (alphaAbove tray t) (framesFrom n tray at) → some (alphaAbove tray t′) (framesFrom n tray at) ≡ b
+pub above-is : (tray : List ℕ) (n at t t′ : ℕ) (b : Bool) → t ≡ t′ → b ≡ any (alphaAbove tray t) (framesFrom n tray at) → any (alphaAbove tray t′) (framesFrom n tray at) ≡ b
 above-is tray n at t t′ b e k = rw (← e) (sym k)
 
 -- room for the picture, by its size

@@ -7,25 +7,29 @@ use Prim.Native.Nat.{_<_, _≤_, ℕ}
 use lib.Pow.{low}
 use Rattle.laws.proofs.Out.{holds-done}
 use Rattle.laws.specs.Out.{done}
-use Rattle.image.specs.Bytes.{Bytes}
-use Rattle.image.specs.Format.{topOf}
-use Rattle.image.specs.Picture.{Pic, pixel}
+use Rattle.laws.specs.Puts.{Bytes}
+use Rattle.image.proofs.FormLaws.{top-some}
+use Rattle.image.specs.Format.{topAt, topOf}
+use Rattle.image.specs.Sound.{FormSound}
 use Rattle.image.specs.declared.format.Part.{Part}
 use Rattle.image.specs.declared.format.Part.the-variants.{Alpha, Cb, Cr, Luma}
 use Rattle.image.specs.declared.format.PixelFormat.{PixelFormat}
-use Rattle.image.specs.Sound.{FormSound}
+use Rattle.planes.specs.Picture.{Pic, pixel}
 use Rattle.fill.proofs.TopLaws.{fill-alpha-top, fill-top}
-use Rattle.fill.specs.Fill.{fillAlphaOf, topAt}
+use Rattle.fill.specs.Fill.{fillAlphaOf}
 use Rattle.fill.specs.declared.Colour.{Colour}
 use Rattle.derived.proofs.Taken.{overlay-fill}
 use Rattle.derived.specs.declared.overlay.Fill.{Fill}
 use Rattle.overlay.proofs.CoveredLaws.{settles, uncovered}
 use Rattle.overlay.proofs.EvenLaws.{overlay-pixel}
-use Rattle.overlay.proofs.FlatLaws.{fill-taken, top-some}
+use Rattle.overlay.proofs.FlatLaws.{fill-taken}
 use Rattle.overlay.proofs.RunLaws.{Took, frames-sound, took}
 use Rattle.overlay.specs.Covered.{AllCut, endsAs, hides, topmost}
-use Rattle.overlay.specs.Overlay.{Layer, coversAt, overlayForm, overlayPic, some}
-use Rattle.overlay.specs.Run.{Inputs, composed, composedForm, fillFor, fillPart, firstForm, firstFormat, inputsAt, layersOf}
+use Rattle.inputs.specs.Layers.{Layer, overlayForm, layersOf}
+use Rattle.overlay.specs.Overlay.{coversAt, overlayPic}
+use Rattle.laws.specs.Any.{any}
+use Rattle.inputs.specs.Inputs.{Inputs, composedForm, firstForm, firstFormat, inputsAt}
+use Rattle.overlay.specs.Run.{composed, fillFor, fillPart}
 
 -- every sample of a fill is at most top
 pub fill-low : (k : Fill) (depth : ℕ) (colour : Colour) → k .alpha ≤ 65535 → 8 ≤ depth → depth ≤ 16 → (p : Part) → fillFor k depth colour p ≤ topAt depth
@@ -41,7 +45,7 @@ module _ (f : PixelFormat) (width height alpha : ℕ) (fill : Part → ℕ) (ls 
   abbrev picture : Pic
   picture = overlayPic (overlayForm f width height alpha ls) fill ls
 
-  uncovered-pixel : some (λ l. coversAt l x y) ls ≡ false → (p : Part) → pixel picture p x y ≡ fill p
+  uncovered-pixel : any (λ l. coversAt l x y) ls ≡ false → (p : Part) → pixel picture p x y ≡ fill p
   uncovered-pixel e p = overlay-pixel f width height alpha fill ls p x y ∙ uncovered (topOf f) some-top fill low x y ls e p
 
   pub settled-pixel : AllCut (topOf f) x y ls → (p : Part) → pixel picture p x y ≡ endsAs (topOf f) fill p x y (topmost (hides (topOf f) x y) ls)
@@ -64,7 +68,7 @@ module _ (body tray list : List ℕ) (colour : Colour) (n at : ℕ) (q : Inputs)
   parts = took body tray list n at q taken
 
   first-sound : FormSound (firstForm (q .frames))
-  first-sound = frames-sound n tray at (q .frames) (parts .any) (parts .frames)
+  first-sound = frames-sound n tray at (q .frames) (parts .nonempty) (parts .frames)
 
   some-top : 0 < topOf first
   some-top = top-some first (first-sound .low)
@@ -74,7 +78,7 @@ module _ (body tray list : List ℕ) (colour : Colour) (n at : ℕ) (q : Inputs)
   fill-at-most p = fill-low (q .descriptor .«canvas_fill») (first .depth) colour (overlay-fill body n (q .descriptor) small (parts .body-read)) (first-sound .low) (first-sound .high) p
 
   -- "A place that no input covers holds fill and fill alpha exactly"
-  pub composed-uncovered : (x y : ℕ) → some (λ l. coversAt l x y) inputs ≡ false → (p : Part) → pixel (composed body tray list colour q) p x y ≡ fill p
+  pub composed-uncovered : (x y : ℕ) → any (λ l. coversAt l x y) inputs ≡ false → (p : Part) → pixel (composed body tray list colour q) p x y ≡ fill p
   unfolding composed composedForm
   composed-uncovered x y none p =
       uncovered-pixel first (q .descriptor .«output_width») (q .descriptor .«output_height») (fillAlphaOf (q .descriptor .«canvas_fill» .alpha) (first .depth)) fill inputs some-top fill-at-most x y none p

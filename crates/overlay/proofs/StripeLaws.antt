@@ -1,4 +1,4 @@
--- Samples of a stripe laid one after the other, row after row.
+-- Samples of a stripe over one after the other, row after row.
 use mathlib.Core.Bool.{Bool, _&&_, false, not, true, true≢false}
 use mathlib.Core.List.{List}
 use mathlib.Core.Path.{_∙_, _≡_, ap, ap₂, refl, sym}
@@ -15,11 +15,11 @@ use Rattle.laws.specs.Span.{run}
 use Rattle.laws.specs.declared.Refusal.{Refusal}
 use Rattle.image.proofs.FormLaws.{cover-in, width-le}
 use Rattle.image.proofs.RecordLaws.{sample-inside}
-use Rattle.image.specs.Bytes.{dataOf, decode}
-use Rattle.image.specs.inner.Promoted.{promotedIn}
+use Rattle.image.specs.Record.{dataOf, planeOf, recordAt}
+use Rattle.planes.specs.Bytes.{decode}
+use Rattle.planes.specs.inner.Promoted.{promotedIn}
 use Rattle.image.specs.Format.{columnsOf, halfX, halfY, hasPart, rowsOf}
-use Rattle.image.specs.Picture.{full, pixel}
-use Rattle.image.specs.Record.{planeOf, recordAt}
+use Rattle.planes.specs.Picture.{full, pixel}
 use Rattle.image.specs.declared.format.Part.{Part}
 use Rattle.image.specs.declared.format.Part.the-variants.{Alpha}
 use Rattle.image.specs.declared.record.Frame.{Frame}
@@ -27,12 +27,15 @@ use Rattle.image.specs.declared.record.Plane.{Plane}
 use Rattle.derived.specs.Overlay.{placementAt}
 use Rattle.derived.specs.declared.overlay.OverlayDescriptor.{OverlayDescriptor}
 use Rattle.derived.specs.declared.overlay.Placement.{Placement}
-use Rattle.overlay.proofs.BlendLaws.{less-one}
-use Rattle.overlay.proofs.FrameLaws.{from-next, from-refused, shown, tall, wide}
+use Rattle.inputs.proofs.BlendLaws.{less-one}
+use Rattle.inputs.proofs.FrameLaws.{from-next, from-refused, shown, tall, wide}
 use Rattle.overlay.proofs.ReachLaws.{line-in, line-out, line-small, row-last, row-mono, spot-inside, spot-step, step-small, stretch-covers, stretch-from}
-use Rattle.overlay.specs.inner.Block.{Inside, RowFits, StripeFits, acrossAt, alphaIn, downAt, framesFrom, layerWith, rowLaid, stretchOf}
-use Rattle.overlay.specs.Overlay.{Layer, allLaid, alphaOf, base, covers, coversAt, laid, laidAt, sampleOf, some, spotAt}
-use Rattle.overlay.specs.Run.{layerOf, layersOf}
+use Rattle.image.specs.inner.Placed.{InSlice}
+use Rattle.overlay.specs.inner.Block.{OverRowFits, StripeFits, acrossAt, alphaIn, downAt, layerWith, rowOver, stretchOf}
+use Rattle.image.specs.inner.Frames.{framesFrom}
+use Rattle.inputs.specs.Layers.{Layer, layerOf, layersOf}
+use Rattle.overlay.specs.Overlay.{overAll, alphaOf, base, covers, coversAt, over, overAt, sampleOf, spotAt}
+use Rattle.laws.specs.Any.{any}
 use Rattle.overlay.specs.declared.blend.Source.{Source}
 use Rattle.overlay.specs.declared.blend.Stretch.{Stretch}
 use Rattle.overlay.specs.declared.blend.Stripe.{Stripe}
@@ -114,20 +117,20 @@ module _ (tray : List ℕ) (fr : Frame) (place : Placement) (pm : Bool) (p : Par
   down r = covers (fr .form .height) (place .vertical) (base (run .«half_down») r)
 
   abbrev after : ℕ → ℕ → ℕ
-  after j v = laidAt top p (acrossAt run j) (downAt run j) layer v
+  after j v = overAt top p (acrossAt run j) (downAt run j) layer v
 
   -- a row's sample is the layer's
-  row-is : (x y v : ℕ) → rowLaid (dataOf tray (planeOf fr p)) (dataOf tray (planeOf fr Alpha)) source (spotAt (place .horizontal) x) (spotAt (place .vertical) y) v
-      ≡ laid top p (sampleOf layer p x y) (alphaOf top layer x y) pm v
-  unfolding rowLaid alphaIn sampleOf alphaOf full pixel promotedIn decode layerWith
+  row-is : (x y v : ℕ) → rowOver (dataOf tray (planeOf fr p)) (dataOf tray (planeOf fr Alpha)) source (spotAt (place .horizontal) x) (spotAt (place .vertical) y) v
+      ≡ over top p (sampleOf layer p x y) (alphaOf top layer x y) pm v
+  unfolding rowOver alphaIn sampleOf alphaOf full pixel promotedIn decode layerWith
   row-is x y v = refl
 
   after-out : (j v : ℕ) → (across j && down (rowOf j)) ≡ false → after j v ≡ v
-  unfolding laidAt coversAt acrossAt downAt layerWith decode
+  unfolding overAt coversAt acrossAt downAt layerWith decode
   after-out j v e = pick-false _ _ _ e
 
-  after-in : (j v : ℕ) → across j ≡ true → down (rowOf j) ≡ true → after j v ≡ laid top p (sampleOf layer p (base (run .«half_across») (columnOf j)) (base (run .«half_down») (rowOf j))) (alphaOf top layer (base (run .«half_across») (columnOf j)) (base (run .«half_down») (rowOf j))) pm v
-  unfolding laidAt coversAt acrossAt downAt layerWith decode
+  after-in : (j v : ℕ) → across j ≡ true → down (rowOf j) ≡ true → after j v ≡ over top p (sampleOf layer p (base (run .«half_across») (columnOf j)) (base (run .«half_down») (rowOf j))) (alphaOf top layer (base (run .«half_across») (columnOf j)) (base (run .«half_down») (rowOf j))) pm v
+  unfolding overAt coversAt acrossAt downAt layerWith decode
   after-in j v e f = pick-true _ _ _ (true-and _ _ e f)
 
   after-left : (j v : ℕ) → across j ≡ false → after j v ≡ v
@@ -172,10 +175,10 @@ module _ (tray : List ℕ) (fr : Frame) (place : Placement) (pm : Bool) (p : Par
         never q = omega (arith, q .0, q .1)
 
     -- the part of it that the stripe has
-    module _ (begins : r * c < run .start + run .count) (some : A < E) where
+    module _ (begins : r * c < run .start + run .count) (any : A < E) where
       first : covers (fr .form .width) (place .horizontal) (base (run .«half_across») (A - r * c)) ≡ true
       first =
-          let k = line-small c (run .start) (run .count) from to r (fits .wide) begins some in
+          let k = line-small c (run .start) (run .count) from to r (fits .wide) begins any in
           stretch-covers (run .«half_across») (place .horizontal) (fr .form .width) (A - r * c) (k .2) (k .3)
 
       abbrev spotted : ℕ → ℕ
@@ -188,16 +191,16 @@ module _ (tray : List ℕ) (fr : Frame) (place : Placement) (pm : Bool) (p : Par
       spotted-inside j a b =
           let q = in-range j a b in
           let o = outside j (q .0) (q .1) in
-          let k = line-small c (run .start) (run .count) from to r (fits .wide) begins some in
+          let k = line-small c (run .start) (run .count) from to r (fits .wide) begins any in
           let z : A - r * c + (j - (A - run .start)) ≡ columnOf j = sym (o .2 ∙ meet (run .start) j A (r * c) (max-right (r * c + from) (run .start)) (k .0) (q .0)) in
           let s : spotted j ≡ spotAt (place .horizontal) (base (run .«half_across») (columnOf j)) = spot-step (run .«half_across») (fr .form .width) (place .horizontal) (A - r * c) (j - (A - run .start)) first ∙ ap (λ (n : ℕ). spotAt (place .horizontal) (base (run .«half_across») n)) z in
           (s, rw s (spot-inside (fr .form .width) (place .horizontal) _ (o .1)))
 
       abbrev rowed : ℕ → ℕ → ℕ
-      rowed j v = rowLaid (dataOf tray (planeOf fr p)) (dataOf tray (planeOf fr Alpha)) source (spotted j) (spotAt (place .vertical) (base (run .«half_down») r)) v
+      rowed j v = rowOver (dataOf tray (planeOf fr p)) (dataOf tray (planeOf fr Alpha)) source (spotted j) (spotAt (place .vertical) (base (run .«half_down») r)) v
 
-      pub line-laid : (j v : ℕ) → j < run .count → pick (within (A - run .start) (E - A) j) (rowed j v) v ≡ pick (eqb (rowOf j) r) (after j v) v
-      line-laid j v h = by-equal (rowOf j) r here elsewhere
+      pub line-over : (j v : ℕ) → j < run .count → pick (within (A - run .start) (E - A) j) (rowed j v) v ≡ pick (eqb (rowOf j) r) (after j v) v
+      line-over j v h = by-equal (rowOf j) r here elsewhere
         where
           elsewhere : (rowOf j ≡ r → ⊥) → pick (within (A - run .start) (E - A) j) (rowed j v) v ≡ pick (eqb (rowOf j) r) (after j v) v
           elsewhere e =
@@ -211,7 +214,7 @@ module _ (tray : List ℕ) (fr : Frame) (place : Placement) (pm : Bool) (p : Par
           hit e k =
               let i = inside j h e k in
               let s = spotted-inside j (omega (arith, i .0)) (omega (arith, i .0, i .1)) in
-              ap₂ (λ (x y : ℕ). rowLaid (dataOf tray (planeOf fr p)) (dataOf tray (planeOf fr Alpha)) source x (spotAt (place .vertical) (base (run .«half_down») y)) v) (s .0) (sym e)
+              ap₂ (λ (x y : ℕ). rowOver (dataOf tray (planeOf fr p)) (dataOf tray (planeOf fr Alpha)) source x (spotAt (place .vertical) (base (run .«half_down») y)) v) (s .0) (sym e)
               ∙ row-is _ _ v ∙ sym (after-in j v k (ap down e ∙ shown))
 
           here : rowOf j ≡ r → pick (within (A - run .start) (E - A) j) (rowed j v) v ≡ pick (eqb (rowOf j) r) (after j v) v
@@ -261,14 +264,14 @@ module _ (tray : List ℕ) (fr : Frame) (place : Placement) (pm : Bool) (p : Par
           let s = spotted-inside r shown begins less (A r shown - run .start + i) (some-more _ i) (more (A r shown - run .start) i (E r shown - A r shown) (rw (a-is, e-is) at h)) in
           rw (x-is, est) (rw k at (s .1))
 
-      pub call-laid : (j v : ℕ) → j < run .count → pick (within (a - run .start) (e - a) j) (rowLaid pd ad handed (x + (j - (a - run .start)) * st) y v) v ≡ pick (eqb (rowOf j) r) (after j v) v
-      call-laid j v h = rw (epd, ead, eqp, eqa, x-is, y-is, est, a-is, e-is) (line-laid r shown begins less j v h)
+      pub call-over : (j v : ℕ) → j < run .count → pick (within (a - run .start) (e - a) j) (rowOver pd ad handed (x + (j - (a - run .start)) * st) y v) v ≡ pick (eqb (rowOf j) r) (after j v) v
+      call-over j v h = rw (epd, ead, eqp, eqa, x-is, y-is, est, a-is, e-is) (line-over r shown begins less j v h)
 
-      pub call-fits : (acc : List ℕ) → run .count ≤ length acc → Inside tray fr → 1 ≤ top → RowFits acc pd ad handed (a - run .start) (e - a) x st y
+      pub call-fits : (acc : List ℕ) → run .count ≤ length acc → InSlice tray fr → 1 ≤ top → OverRowFits acc pd ad handed (a - run .start) (e - a) x st y
       unfolding columnsOf rowsOf hasPart
-      call-fits acc room k some = record {
-        some = some;
-        few = omega (arith, call-bounds l);
+      call-fits acc room k any = record {
+        positive = any;
+        bounded = omega (arith, call-bounds l);
         small =
             let w = width-le (fr .form) (k .sound .form) in
             let b = step-small (run .«half_across») (e - a) in
@@ -334,23 +337,23 @@ module _ (tray : List ℕ) (fr : Frame) (place : Placement) (pm : Bool) (p : Par
 -- ---- all inputs
 
 module _ (top : ℕ) (p : Part) (x y : ℕ) (body tray list : List ℕ) (d : OverlayDescriptor) where
-  pub all-refused : (n at i v : ℕ) (r : Refusal) → recordAt tray at ≡ refused r → allLaid top p x y (layersOf body tray list d i (framesFrom n tray at)) v ≡ v
-  unfolding allLaid layersOf
+  pub all-refused : (n at i v : ℕ) (r : Refusal) → recordAt tray at ≡ refused r → overAll top p x y (layersOf body tray list d i (framesFrom n tray at)) v ≡ v
+  unfolding overAll layersOf
   all-refused n at i v r e = rw (from-refused n tray at r e)
 
-  pub all-none : (n at i v : ℕ) → n ≤ 0 → allLaid top p x y (layersOf body tray list d i (framesFrom n tray at)) v ≡ v
-  unfolding allLaid layersOf framesFrom
+  pub all-none : (n at i v : ℕ) → n ≤ 0 → overAll top p x y (layersOf body tray list d i (framesFrom n tray at)) v ≡ v
+  unfolding overAll layersOf framesFrom
   all-none n at i v h = let e : n ≡ 0 = omega arith in rw e
 
-  pub all-next : (n at i v w : ℕ) (fr : Frame) → 0 < n → recordAt tray at ≡ done fr → w ≡ laidAt top p x y (layerOf body tray list d i fr) v
-      → allLaid top p x y (layersOf body tray list d i (framesFrom n tray at)) v ≡ allLaid top p x y (layersOf body tray list d (i + 1) (framesFrom (n - 1) tray (fr .end))) w
-  unfolding allLaid layersOf
+  pub all-next : (n at i v w : ℕ) (fr : Frame) → 0 < n → recordAt tray at ≡ done fr → w ≡ overAt top p x y (layerOf body tray list d i fr) v
+      → overAll top p x y (layersOf body tray list d i (framesFrom n tray at)) v ≡ overAll top p x y (layersOf body tray list d (i + 1) (framesFrom (n - 1) tray (fr .end))) w
+  unfolding overAll layersOf
   all-next n at i v w fr h e k = rw (from-next n tray at fr h e, k)
 
-  pub all-laid : (n at i v w : ℕ) (fr : Frame) (o : Placement) (m : Bool) → i < n → recordAt tray at ≡ done fr → o ≡ placementAt body d i → m ≡ not (eqb (getD list i 0) 0)
-      → w ≡ laidAt top p x y (layerWith tray fr o m) v
-      → allLaid top p x y (layersOf body tray list d i (framesFrom (n - i) tray at)) v ≡ allLaid top p x y (layersOf body tray list d (i + 1) (framesFrom (n - (i + 1)) tray (fr .end))) w
+  pub all-over : (n at i v w : ℕ) (fr : Frame) (o : Placement) (m : Bool) → i < n → recordAt tray at ≡ done fr → o ≡ placementAt body d i → m ≡ not (eqb (getD list i 0) 0)
+      → w ≡ overAt top p x y (layerWith tray fr o m) v
+      → overAll top p x y (layersOf body tray list d i (framesFrom (n - i) tray at)) v ≡ overAll top p x y (layersOf body tray list d (i + 1) (framesFrom (n - (i + 1)) tray (fr .end))) w
   unfolding layerOf layerWith
-  all-laid n at i v w fr o m h e g b k =
-      all-next (n - i) at i v w fr (omega arith) e (k ∙ ap₂ (λ (a : Placement) (c : Bool). laidAt top p x y (record { pic = decode tray fr; placement = a; premultiplied = c }) v) g b)
-      ∙ ap (λ (q : ℕ). allLaid top p x y (layersOf body tray list d (i + 1) (framesFrom q tray (fr .end))) w) (less-one n i)
+  all-over n at i v w fr o m h e g b k =
+      all-next (n - i) at i v w fr (omega arith) e (k ∙ ap₂ (λ (a : Placement) (c : Bool). overAt top p x y (record { pic = decode tray fr; placement = a; premultiplied = c }) v) g b)
+      ∙ ap (λ (q : ℕ). overAll top p x y (layersOf body tray list d (i + 1) (framesFrom q tray (fr .end))) w) (less-one n i)

@@ -7,7 +7,8 @@ use lib.Dec.{eqb}
 use Rattle.laws.specs.Pick.{pick}
 use Rattle.image.specs.declared.format.Part.{Part}
 use Rattle.image.specs.declared.format.Part.the-variants.{Alpha, Cb, Cr, Luma}
-use Rattle.overlay.specs.Overlay.{Layer, alphaOf, coversAt, sampleOf}
+use Rattle.inputs.specs.Layers.{Layer}
+use Rattle.overlay.specs.Overlay.{alphaOf, coversAt, sampleOf}
 
 -- no input, or the topmost
 pub data Found : Type 0 where

@@ -1,15 +1,17 @@
 // Inputs laid over each other, for a stripe: a run of samples of a plane, row after row.
 ghost use mathlib.Core.Path.{_≡_};
-ghost use Prim.Native.Nat.{ℕ, _+_, _*_, _-_, _/_, _<_, _≤_, _^_, min, max};
+ghost use Prim.Native.Nat.{ℕ, _+_, _*_, _-_, _/_, _<_, _≤_, _^_};
 ghost use mathlib.Core.Bool.{_&&_, true};
 ghost use lib.Dec.{eqb, leb, ltb};
 ghost use lib.ListN.{length, getD};
 ghost use Rattle.laws.specs.Pick.{pick};
 ghost use Rattle.image.specs.Format.{sideOf, hasAlpha, bytesOf};
 ghost use Rattle.derived.specs.inner.Sound.{OverlaySound};
-ghost use Rattle.overlay.specs.Overlay.{paint, veil, laid, covers, base, spotAt, laidAt, allLaid};
-ghost use Rattle.overlay.specs.Run.{layersOf};
-ghost use Rattle.overlay.specs.inner.Block.{framesFrom, stretchOf, layerWith, acrossAt, downAt, StripeFits, Inside, alphaIn, RowFits, rowLaid};
+ghost use Rattle.overlay.specs.Overlay.{overColour, overAlpha, over, covers, base, spotAt, overAt, overAll};
+ghost use Rattle.inputs.specs.Layers.{layersOf};
+ghost use Rattle.image.specs.inner.Frames.{framesFrom};
+ghost use Rattle.overlay.specs.inner.Block.{stretchOf, layerWith, acrossAt, downAt, StripeFits, alphaIn, OverRowFits, rowOver};
+ghost use Rattle.image.specs.inner.Placed.{InSlice};
 use derived::OverlayDescriptor;
 use derived::Placement;
 use image::Frame;
@@ -18,69 +20,44 @@ use image::Part;
 use image::PixelFormat;
 use numbers::Offset;
 
-// a - b, or 0 where b is larger.
-fn less(a: usize, b: usize) -> usize
-    ensures { λ r. ⌜ r ≡ a - b ⌝ }
-{
-    if a < b {
-        return 0;
-    }
-    a - b
-}
-
-pub(crate) fn least(a: usize, b: usize) -> usize
-    ensures { λ r. ⌜ r ≡ min a b ⌝ }
-{
-    if a < b {
-        return a;
-    }
-    b
-}
-
-fn most(a: usize, b: usize) -> usize
-    ensures { λ r. ⌜ r ≡ max a b ⌝ }
-{
-    if a < b {
-        return b;
-    }
-    a
-}
-
 // Colour times opacity under an input's sample m of alpha a.
-fn paint_over(top: u16, m: u16, a: u16, premultiplied: bool, v: u32) -> u32
+fn over_colour(top: u16, m: u16, a: u16, premultiplied: bool, v: u32) -> u32
     requires { ⌜ 1 ≤ top ⌝ }
-    ensures { λ r. ⌜ r ≡ paint top m a premultiplied v ⌝ }
+    ensures { λ r. ⌜ r ≡ overColour top m a premultiplied v ⌝ }
 {
     let t = top as usize;
     let m = m as usize;
     let a = a as usize;
-    let under = (v as usize * less(t, a) + t / 2) / t;
+    let under = (v as usize * numbers::saturating_sub(t, a) + t / 2) / t;
     if premultiplied {
-        return least(m * t + under, t * t) as u32;
+        return numbers::min(m * t + under, t * t) as u32;
     }
-    least(m * a + under, t * t) as u32
+    numbers::min(m * a + under, t * t) as u32
 }
 
 // Opacity under an input's alpha a.
-fn veil_over(top: u16, a: u16, v: u32) -> u32
+fn over_alpha(top: u16, a: u16, v: u32) -> u32
     requires { ⌜ 1 ≤ top ⌝ }
-    ensures { λ r. ⌜ r ≡ veil top a v ⌝ }
+    ensures { λ r. ⌜ r ≡ overAlpha top a v ⌝ }
 {
     let t = top as usize;
     let a = a as usize;
-    least(a + (v as usize * less(t, a) + t / 2) / t, t) as u32
+    numbers::min(
+        a + (v as usize * numbers::saturating_sub(t, a) + t / 2) / t,
+        t,
+    ) as u32
 }
 
 // What a plane carries, under an input.
-fn lay(top: u16, part: Part, m: u16, a: u16, premultiplied: bool, v: u32) -> u32
+fn over(top: u16, part: Part, m: u16, a: u16, premultiplied: bool, v: u32) -> u32
     requires { ⌜ 1 ≤ top ⌝ }
-    ensures { λ r. ⌜ r ≡ laid top part m a premultiplied v ⌝ }
+    ensures { λ r. ⌜ r ≡ over top part m a premultiplied v ⌝ }
 {
     match part {
-        Part::Luma => paint_over(top, m, a, premultiplied, v),
-        Part::Cb => paint_over(top, m, a, premultiplied, v),
-        Part::Cr => paint_over(top, m, a, premultiplied, v),
-        Part::Alpha => veil_over(top, a, v),
+        Part::Luma => over_colour(top, m, a, premultiplied, v),
+        Part::Cb => over_colour(top, m, a, premultiplied, v),
+        Part::Cr => over_colour(top, m, a, premultiplied, v),
+        Part::Alpha => over_alpha(top, a, v),
     }
 }
 
@@ -132,13 +109,13 @@ fn source_alpha(alpha: &[u8], s: Source, x: usize, y: usize) -> u16
 {
     let f = s.format;
     if f.has(Part::Alpha) {
-        return image::sample(alpha, f.bytes_per_sample(), s.alpha_stride, x, y);
+        return planes::sample(alpha, f.bytes_per_sample(), s.alpha_stride, x, y);
     }
     s.top
 }
 
 // Lays n samples of an input's row over those from k on, from the input's place x on, by so many places a sample.
-fn lay_row(
+fn over_row(
     acc: &mut [u32],
     k: usize,
     n: usize,
@@ -149,9 +126,9 @@ fn lay_row(
     step: usize,
     y: usize,
 )
-    requires { ⌜ RowFits (now acc) (now plane) (now alpha) s k n x step y ⌝ }
+    requires { ⌜ OverRowFits (now acc) (now plane) (now alpha) s k n x step y ⌝ }
     ensures { λ _. ⌜ ((j : ℕ) → getD (now (acc .exit)) j 0
-        ≡ pick (leb k j && ltb j (k + n)) (rowLaid (now (plane .entry)) (now (alpha .entry)) s (x + (j - k) * step) y (getD (now (acc .entry)) j 0)) (getD (now (acc .entry)) j 0)) ⌝ }
+        ≡ pick (leb k j && ltb j (k + n)) (rowOver (now (plane .entry)) (now (alpha .entry)) s (x + (j - k) * step) y (getD (now (acc .entry)) j 0)) (getD (now (acc .entry)) j 0)) ⌝ }
 {
     let top = s.top;
     let part = s.part;
@@ -161,11 +138,11 @@ fn lay_row(
     let mut i: usize = 0;
     while i < n {
         let u = x + i * step;
-        let m = image::promoted(plane, format, stride, part, u, y);
+        let m = planes::promoted(plane, format, stride, part, u, y);
         let a = source_alpha(alpha, s, u, y);
         let at = k + i;
         let v = acc[at];
-        acc[at] = lay(top, part, m, a, premultiplied, v);
+        acc[at] = over(top, part, m, a, premultiplied, v);
         i += 1;
     }
 }
@@ -182,8 +159,8 @@ fn reach(half: bool, o: Offset, side: u32) -> Stretch
     let ahead = o.ahead as usize;
     let behind = o.behind as usize;
     Stretch {
-        from: before(half, less(ahead, behind)),
-        to: before(half, less(ahead + side as usize, behind)),
+        from: before(half, numbers::saturating_sub(ahead, behind)),
+        to: before(half, numbers::saturating_sub(ahead + side as usize, behind)),
     }
 }
 
@@ -192,7 +169,7 @@ fn spot(o: Offset, x: usize) -> usize
     requires { ⌜ x < 2 ^ 41 ⌝ }
     ensures { λ r. ⌜ r ≡ spotAt o x ⌝ }
 {
-    less(x + o.behind as usize, o.ahead as usize)
+    numbers::saturating_sub(x + o.behind as usize, o.ahead as usize)
 }
 
 fn step_of(half: bool) -> usize
@@ -205,7 +182,7 @@ fn step_of(half: bool) -> usize
 }
 
 // Lays a row of an input over what a stripe has of the plane's row r.
-fn lay_line(
+fn over_line(
     acc: &mut [u32],
     tray: &[u8],
     fr: Frame,
@@ -216,10 +193,10 @@ fn lay_line(
     run: Stripe,
     r: usize,
 )
-    requires { ⌜ Inside (now tray) fr × (1 ≤ top) × StripeFits run × (run .count ≤ length (now acc)) × (r * run .columns < run .start + run .count)
+    requires { ⌜ InSlice (now tray) fr × (1 ≤ top) × StripeFits run × (run .count ≤ length (now acc)) × (r * run .columns < run .start + run .count)
         × (covers (fr .form .height) (place .vertical) (base (run .«half_down») r) ≡ true) ⌝ }
     ensures { λ _. ⌜ ((j : ℕ) → j < run .count → getD (now (acc .exit)) j 0
-        ≡ pick (eqb ((run .start + j) / run .columns) r) (laidAt top part (acrossAt run j) (downAt run j) (layerWith (now (tray .entry)) fr place premultiplied) (getD (now (acc .entry)) j 0)) (getD (now (acc .entry)) j 0)) ⌝ }
+        ≡ pick (eqb ((run .start + j) / run .columns) r) (overAt top part (acrossAt run j) (downAt run j) (layerWith (now (tray .entry)) fr place premultiplied) (getD (now (acc .entry)) j 0)) (getD (now (acc .entry)) j 0)) ⌝ }
 {
     let form = fr.form;
     let format = form.format;
@@ -227,13 +204,13 @@ fn lay_line(
     let columns = run.columns;
     let start = run.start;
     let row = r * columns;
-    let a = most(row + across.from, start);
-    let e = least(row + least(across.to, columns), start + run.count);
+    let a = numbers::max(row + across.from, start);
+    let e = numbers::min(row + numbers::min(across.to, columns), start + run.count);
     if a < e {
         let q = fr.plane(part);
         let qa = fr.plane(Part::Alpha);
-        let plane = image::plane_data(tray, q);
-        let alpha = image::plane_data(tray, qa);
+        let plane = planes::plane_data(tray, q);
+        let alpha = planes::plane_data(tray, qa);
         let s = Source {
             format,
             stride: q.stride,
@@ -245,12 +222,12 @@ fn lay_line(
         let x = spot(place.horizontal, first_place(run.half_across, a - row));
         let y = spot(place.vertical, first_place(run.half_down, r));
         let step = step_of(run.half_across);
-        lay_row(acc, a - start, e - a, plane, alpha, s, x, step, y);
+        over_row(acc, a - start, e - a, plane, alpha, s, x, step, y);
     }
 }
 
 // Lays one input over a stripe.
-fn lay_input(
+fn over_input(
     acc: &mut [u32],
     tray: &[u8],
     fr: Frame,
@@ -260,25 +237,25 @@ fn lay_input(
     top: u16,
     run: Stripe,
 )
-    requires { ⌜ Inside (now tray) fr × (1 ≤ top) × StripeFits run × (run .count ≤ length (now acc)) ⌝ }
+    requires { ⌜ InSlice (now tray) fr × (1 ≤ top) × StripeFits run × (run .count ≤ length (now acc)) ⌝ }
     ensures { λ _. ⌜ ((j : ℕ) → j < run .count → getD (now (acc .exit)) j 0
-        ≡ laidAt top part (acrossAt run j) (downAt run j) (layerWith (now (tray .entry)) fr place premultiplied) (getD (now (acc .entry)) j 0)) ⌝ }
+        ≡ overAt top part (acrossAt run j) (downAt run j) (layerWith (now (tray .entry)) fr place premultiplied) (getD (now (acc .entry)) j 0)) ⌝ }
 {
     let form = fr.form;
     let down = reach(run.half_down, place.vertical, form.height);
     let columns = run.columns;
     let start = run.start;
     let end = start + run.count;
-    let last = least(down.to, (end + columns - 1) / columns);
-    let mut r = most(down.from, start / columns);
+    let last = numbers::min(down.to, (end + columns - 1) / columns);
+    let mut r = numbers::max(down.from, start / columns);
     while r < last {
-        lay_line(acc, tray, fr, place, premultiplied, part, top, run, r);
+        over_line(acc, tray, fr, place, premultiplied, part, top, run, r);
         r += 1;
     }
 }
 
 // Lays every input over a stripe, in list order.
-pub(crate) fn lay_inputs(
+pub(crate) fn over_inputs(
     acc: &mut [u32],
     body: &[u8],
     tray: &[u8],
@@ -291,7 +268,7 @@ pub(crate) fn lay_inputs(
 )
     requires { ⌜ OverlaySound (now body) d × (length (now premultiplied) ≡ d .count) × (1 ≤ top) × StripeFits run × (run .count ≤ length (now acc)) ⌝ }
     ensures { λ _. ⌜ ((j : ℕ) → j < run .count → getD (now (acc .exit)) j 0
-        ≡ allLaid top part (acrossAt run j) (downAt run j) (layersOf (now (body .entry)) (now (tray .entry)) (now (premultiplied .entry)) d 0 (framesFrom (d .count) (now (tray .entry)) first)) (getD (now (acc .entry)) j 0)) ⌝ }
+        ≡ overAll top part (acrossAt run j) (downAt run j) (layersOf (now (body .entry)) (now (tray .entry)) (now (premultiplied .entry)) d 0 (framesFrom (d .count) (now (tray .entry)) first)) (getD (now (acc .entry)) j 0)) ⌝ }
 {
     let count = d.count;
     let mut at = first;
@@ -305,7 +282,7 @@ pub(crate) fn lay_inputs(
                 let place = d.offset(body, i);
                 let n = i as usize;
                 let multiplied = premultiplied[n] != 0;
-                lay_input(acc, tray, fr, place, multiplied, part, top, run);
+                over_input(acc, tray, fr, place, multiplied, part, top, run);
                 at = fr.end;
             }
         }

@@ -5,18 +5,17 @@ ghost use lib.ListN.{length, getD};
 ghost use Rattle.laws.specs.Puts.{puts};
 ghost use Rattle.image.specs.Format.{bytesOf, topOf};
 ghost use Rattle.image.specs.declared.format.Part.the-variants.{Alpha};
-ghost use Rattle.image.specs.Bytes.{samplesOf, rowsBytes, planeBytes, encode};
-ghost use Rattle.overlay.specs.Overlay.{ground, settle, settled, placeAt, overlayPic};
+ghost use Rattle.planes.specs.Bytes.{samplesOf, rowsBytes, planeBytes, encode};
+ghost use Rattle.overlay.specs.Overlay.{backdrop, unpremultiply, finalSample, placeAt, overlayPic};
 ghost use Rattle.overlay.specs.Run.{fillFor};
 ghost use Rattle.overlay.specs.inner.Block.{acrossAt, downAt, StripeFits, backdropFill, layersAt, PlanSound};
 use crate::blend::Stripe;
-use crate::blend::lay_inputs;
-use crate::blend::least;
-use crate::inputs::Plan;
+use crate::blend::over_inputs;
 use fill::Colour;
 use fill::Filled;
 use fill::Ycbcr;
 use image::Part;
+use inputs::Plan;
 
 // What the canvas starts from, and ends as where nothing covers it.
 pub(crate) struct Backdrop {
@@ -38,8 +37,8 @@ fn fill_part(g: Backdrop, part: Part) -> u16
 }
 
 // What a plane starts from: colour times opacity, or opacity.
-fn ground_of(g: Backdrop, part: Part) -> u32
-    ensures { λ r. ⌜ r ≡ ground (backdropFill g) part ⌝ }
+fn backdrop_of(g: Backdrop, part: Part) -> u32
+    ensures { λ r. ⌜ r ≡ backdrop (backdropFill g) part ⌝ }
 {
     let fill = fill_part(g, part) as u32;
     match part {
@@ -51,25 +50,25 @@ fn ground_of(g: Backdrop, part: Part) -> u32
 }
 
 // The colour again, by its opacity.
-fn settle_by(top: u16, fill: u16, v: u32, a: u32) -> u16
-    ensures { λ r. ⌜ r ≡ settle top fill v a ⌝ }
+fn unpremultiply(top: u16, fill: u16, v: u32, a: u32) -> u16
+    ensures { λ r. ⌜ r ≡ unpremultiply top fill v a ⌝ }
 {
     if a == 0 {
         return fill;
     }
     let v = v as usize;
     let a = a as usize;
-    least((v + a / 2) / a, top as usize) as u16
+    numbers::min((v + a / 2) / a, top as usize) as u16
 }
 
-fn finish(top: u16, part: Part, fill: u16, v: u32, a: u32) -> u16
-    ensures { λ r. ⌜ r ≡ settled top part fill v a ⌝ }
+fn final_sample(top: u16, part: Part, fill: u16, v: u32, a: u32) -> u16
+    ensures { λ r. ⌜ r ≡ finalSample top part fill v a ⌝ }
 {
     match part {
-        Part::Luma => settle_by(top, fill, v, a),
-        Part::Cb => settle_by(top, fill, v, a),
-        Part::Cr => settle_by(top, fill, v, a),
-        Part::Alpha => least(a as usize, top as usize) as u16,
+        Part::Luma => unpremultiply(top, fill, v, a),
+        Part::Cb => unpremultiply(top, fill, v, a),
+        Part::Cr => unpremultiply(top, fill, v, a),
+        Part::Alpha => numbers::min(a as usize, top as usize) as u16,
     }
 }
 
@@ -86,7 +85,7 @@ fn write_run(
 ) -> usize
     requires { ⌜ (1 ≤ bytes) × (bytes ≤ 2) × (n ≤ length (now colour)) × (n ≤ length (now opacity)) × (at + n * bytes ≤ length (now out)) ⌝ }
     ensures { λ r. ⌜ (r ≡ at + n * bytes)
-        × (now (out .exit) ≡ puts (now (out .entry)) at (samplesOf bytes (λ k. settled (g .top) part (backdropFill g part) (getD (now (colour .entry)) k 0) (getD (now (opacity .entry)) k 0)) n)) ⌝ }
+        × (now (out .exit) ≡ puts (now (out .entry)) at (samplesOf bytes (λ k. finalSample (g .top) part (backdropFill g part) (getD (now (colour .entry)) k 0) (getD (now (opacity .entry)) k 0)) n)) ⌝ }
 {
     let top = g.top;
     let fill = fill_part(g, part);
@@ -95,14 +94,14 @@ fn write_run(
     while k < n {
         let v = colour[k];
         let a = opacity[k];
-        i = image::put_sample(out, i, bytes, finish(top, part, fill, v, a));
+        i = planes::put_sample(out, i, bytes, final_sample(top, part, fill, v, a));
         k += 1;
     }
     i
 }
 
 // Lays the inputs over a stripe that holds the ground, and writes it.
-fn lay_block(
+fn over_block(
     out: &mut [u8],
     at: usize,
     body: &[u8],
@@ -117,8 +116,8 @@ fn lay_block(
 ) -> usize
     requires { ⌜ PlanSound (now body) (now premultiplied) plan × (1 ≤ g .top) × StripeFits run × (run .count ≤ length (now colour)) × (run .count ≤ length (now opacity))
         × (at + run .count * bytesOf (plan .form .format) ≤ length (now out))
-        × ((j : ℕ) → j < run .count → getD (now colour) j 0 ≡ ground (backdropFill g) part)
-        × ((j : ℕ) → j < run .count → getD (now opacity) j 0 ≡ ground (backdropFill g) Alpha) ⌝ }
+        × ((j : ℕ) → j < run .count → getD (now colour) j 0 ≡ backdrop (backdropFill g) part)
+        × ((j : ℕ) → j < run .count → getD (now opacity) j 0 ≡ backdrop (backdropFill g) Alpha) ⌝ }
     ensures { λ r. ⌜ (r ≡ at + run .count * bytesOf (plan .form .format))
         × (now (out .exit) ≡ puts (now (out .entry)) at (samplesOf (bytesOf (plan .form .format))
         (λ j. placeAt (g .top) (backdropFill g) (layersAt (now (body .entry)) (now (tray .entry)) (now (premultiplied .entry)) plan) part (acrossAt run j) (downAt run j)) (run .count))) ⌝ }
@@ -128,8 +127,8 @@ fn lay_block(
     let d = plan.descriptor;
     let top = g.top;
     let first = plan.first;
-    lay_inputs(colour, body, tray, premultiplied, d, first, part, top, run);
-    lay_inputs(
+    over_inputs(colour, body, tray, premultiplied, d, first, part, top, run);
+    over_inputs(
         opacity,
         body,
         tray,
@@ -161,9 +160,9 @@ fn write_block(
         × (now (out .exit) ≡ puts (now (out .entry)) at (samplesOf (bytesOf (plan .form .format))
         (λ j. placeAt (g .top) (backdropFill g) (layersAt (now (body .entry)) (now (tray .entry)) (now (premultiplied .entry)) plan) part (acrossAt run j) (downAt run j)) (run .count))) ⌝ }
 {
-    let mut colour = [ground_of(g, part); 16384];
-    let mut opacity = [ground_of(g, Part::Alpha); 16384];
-    lay_block(
+    let mut colour = [backdrop_of(g, part); 16384];
+    let mut opacity = [backdrop_of(g, Part::Alpha); 16384];
+    over_block(
         out,
         at,
         body,
@@ -204,7 +203,7 @@ fn write_rows(
     let mut i = at;
     let mut start: usize = 0;
     while start < total {
-        let count = least(total - start, 16384);
+        let count = numbers::min(total - start, 16384);
         let run = Stripe {
             columns,
             half_across,
@@ -237,7 +236,7 @@ fn write_plane(
     let form = plan.form;
     let f = form.format;
     if f.has(part) {
-        let first = image::write_plane_head(out, at, form, part);
+        let first = planes::write_plane_head(out, at, form, part);
         return write_rows(out, first, body, tray, premultiplied, plan, g, part);
     }
     at
@@ -257,7 +256,7 @@ fn write_overlay(
     ensures { λ r. ⌜ (r ≡ length (encode (overlayPic (plan .form) (backdropFill g) (layersAt (now (body .entry)) (now (tray .entry)) (now (premultiplied .entry)) plan))))
         × (now (out .exit) ≡ puts (now (out .entry)) 0 (encode (overlayPic (plan .form) (backdropFill g) (layersAt (now (body .entry)) (now (tray .entry)) (now (premultiplied .entry)) plan)))) ⌝ }
 {
-    let a = image::write_head(out, 0, plan.form);
+    let a = planes::write_head(out, 0, plan.form);
     let b = write_plane(out, a, body, tray, premultiplied, plan, g, Part::Luma);
     let c = write_plane(out, b, body, tray, premultiplied, plan, g, Part::Cb);
     let d = write_plane(out, c, body, tray, premultiplied, plan, g, Part::Cr);

@@ -1,19 +1,14 @@
 // Overlays composed (document 01, Overlay): a body, a tray and a premultiplied list become a tight record in a lent output.
 mod blend;
 mod draw;
-mod hunt;
-mod inputs;
 
 ghost use mathlib.Core.Path.{_≡_};
 ghost use lib.ListN.{length};
 ghost use Rattle.laws.specs.Out.{answerOf, written};
 ghost use Rattle.overlay.specs.Run.{overlayRun};
 pub use crate::draw::draw_overlay;
-pub use crate::hunt::alpha_above;
-pub use crate::inputs::Plan;
-pub use crate::inputs::PlanRead;
-pub use crate::inputs::read_inputs;
 use fill::Colour;
+use inputs::PlanRead;
 use laws::Answer;
 use laws::Refusal;
 use numbers::NumberRead;
@@ -37,15 +32,15 @@ pub fn composite_overlay(
     else {
         return Answer::Refused(Refusal::MALFORMED);
     };
-    match read_inputs(body, tray, premultiplied, count, first) {
+    match inputs::read_inputs(body, tray, premultiplied, count, first) {
         PlanRead::Refused(e) => Answer::Refused(e),
         PlanRead::Read(plan) => {
             let form = plan.form;
             let format = form.format;
-            if alpha_above(tray, first, count, format.top()) {
+            if inputs::alpha_above(tray, first, count, format.top()) {
                 return Answer::Refused(Refusal::OPACITY);
             }
-            if out.len() < image::record_size(form) {
+            if out.len() < planes::record_size(form) {
                 return Answer::Refused(Refusal::ROOM);
             }
             Answer::Wrote(draw_overlay(out, body, tray, premultiplied, plan, colour))

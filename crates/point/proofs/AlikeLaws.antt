@@ -27,8 +27,8 @@ use Rattle.derived.specs.Grid.{gridOf}
 use Rattle.derived.specs.Overlay.{overlayOf}
 use Rattle.props.specs.Chain.{chainAt}
 use Rattle.grid.specs.Tiles.{countOf, judgeOf, tilesAt}
-use Rattle.overlay.specs.Overlay.{some}
-use Rattle.overlay.specs.Run.{firstFormat, inputsAt, otherDepth}
+use Rattle.laws.specs.Any.{any}
+use Rattle.inputs.specs.Inputs.{firstFormat, inputsAt, otherDepth}
 use Rattle.point.specs.Alike.{SameBytes, SameHead, SameNumber, SameParts, SameRecords, SameTray}
 use Rattle.point.specs.Point.{Look, gridLook, gridNames, gridPoint, lookOn, overlayLook, overlayNames, overlayPoint, pointFrom, seeThroughFrame}
 
@@ -121,8 +121,7 @@ module _ (s t : List ℕ) (long : length s ≡ length t) where
       let d = on-number _ _ h (c .3) in
       let g = on-number _ _ h (d .3) in
       let u = andThen-done _ _ h (g .3) in
-      let v = andThen-done _ _ h (u .2) in
-      let z : g .1 ≡ h .next = ap (λ (x : Head). x .next) (done-same _ h (v .2)) in
+      let z : g .1 ≡ h .next = ap (λ (x : Head). x .next) (done-same _ h (u .2)) in
       let a′ = read-bounds s _ _ _ (a .2) .2 in
       let b′ = read-bounds s _ _ _ (b .2) .2 in
       let c′ = read-bounds s _ _ _ (c .2) .2 in
@@ -276,8 +275,8 @@ overlay-looks body s t chain flag list h =
     sym (on-same _ _ _ _ (same-count s t h) (λ n at e.
     ap (λ (o : Out (List Frame)).
     andThen (chainAt chain 0) (λ es.
-    andThen (andThen (overlayOf body n) (λ d. refuse (eqb n 0) 15 (refuse (not (eqb (length list) n)) 11 (andThen o (λ frs. refuse (some (otherDepth (firstFormat frs)) frs) 14 (done (record { descriptor = d; frames = frs })))))))
-    (λ q. refuse (some seeThroughFrame (q .frames)) 18 (lookOn es flag (q .descriptor .«output_width») (q .descriptor .«output_height») (overlayNames body q)))))
+    andThen (andThen (overlayOf body n) (λ d. refuse (eqb n 0) 15 (refuse (not (eqb (length list) n)) 11 (andThen o (λ frs. refuse (any (otherDepth (firstFormat frs)) frs) 14 (done (record { descriptor = d; frames = frs })))))))
+    (λ q. refuse (any seeThroughFrame (q .frames)) 18 (lookOn es flag (q .descriptor .«output_width») (q .descriptor .«output_height») (overlayNames body q)))))
     (same-frames s t h n at e)))
 
 pub overlay-blind : (body s t chain : List ℕ) (flag : Bool) (list : List ℕ) (x y : ℕ) → SameTray s t → overlayPoint body t chain flag list x y ≡ overlayPoint body s chain flag list x y

@@ -2,7 +2,7 @@
 use mathlib.Core.Bool.{Bool, true}
 use mathlib.Core.List.{List, []}
 use mathlib.Core.Path.{_∙_, _≡_, ap, refl, sym}
-use Prim.Native.Nat.{_<_, _≤_, ℕ}
+use Prim.Native.Nat.{_<_, _≤_, max, ℕ}
 use native.Mathlib.Omega.{arith}
 use lib.ListN.{length}
 use borrow.Author.Tests.{le-ltb, leb-false}
@@ -10,19 +10,20 @@ use Rattle.laws.proofs.Out.{Holds, Same, alike, andThen-done, both, done-same, 
 use Rattle.laws.specs.Out.{Out, andThen, done, refused}
 use Rattle.laws.specs.Pick.{pick}
 use Rattle.image.proofs.FormLaws.{cover-in}
-use Rattle.image.specs.Bytes.{decode, encode, tightAt}
-use Rattle.image.specs.Format.{columnsOf, halfX, halfY, hasPart, rowsOf}
-use Rattle.image.specs.Picture.{Agree, Pic, pixel}
-use Rattle.image.specs.inner.Even.{Even}
+use Rattle.image.specs.Format.{Covers, columnsOf, halfX, halfY, hasPart, rowsOf}
 use Rattle.image.specs.Record.{recordOf}
 use Rattle.image.specs.declared.format.Form.{Form}
 use Rattle.image.specs.declared.format.Part.{Part}
 use Rattle.image.specs.declared.format.PixelFormat.{PixelFormat}
+use Rattle.planes.specs.Bytes.{decode, encode, tightAt}
+use Rattle.planes.specs.Picture.{Agree, Pic, pixel}
+use Rattle.planes.specs.inner.Even.{Even}
 use Rattle.props.proofs.ChainLaws.{Applied, fold-same}
 use Rattle.props.specs.Chain.{foldChain}
 use Rattle.props.specs.Sound.{Inside}
 use Rattle.props.specs.declared.entry.Property.{Property}
 use Rattle.props.specs.declared.entry.PropertyEntry.{PropertyEntry}
+use Rattle.transform.specs.Chain.{NotIscl, chainPic, picAfter}
 use Rattle.transform.specs.Place.{Place, sideways, swaps, unturn}
 use Rattle.transform.specs.Turn.{quarterOf}
 use Rattle.sight.proofs.Agreement.{chain-sight-plain, seen-place}
@@ -30,12 +31,10 @@ use Rattle.sight.proofs.CarryLaws.{all-applied, back-carried, sight-carries}
 use Rattle.sight.proofs.Steps.{place-in, sight-inside}
 use Rattle.sight.proofs.Turns.{back-in, back-once, place-path}
 use Rattle.sight.specs.Carry.{carryOf}
-use Rattle.sight.specs.Chain.{NotIscl, chainPic, picAfter}
-use Rattle.sight.specs.Seen.{Covers}
-use Rattle.sight.specs.inner.Seen.{PlaceAgrees, Seen}
-use Rattle.sight.specs.Sight.{back, backFrom, exchange, finalHeight, finalWidth, highOf, placeOf, sightOf, whole, wideOf}
+use Rattle.sight.specs.Sight.{back, backFrom, exchange, finalHeight, finalWidth, highOf, sourcePlace, sightOf, whole, wideOf}
 use Rattle.sight.specs.declared.Sight.{Sight}
-use Rattle.scene.specs.Chain.{Drawn, begun, chainDrawn, drawnAfter, longer, scaled}
+use Rattle.sight.specs.inner.Seen.{PlaceAgrees, Seen}
+use Rattle.scene.specs.Chain.{Drawn, firstDrawn, chainDrawn, drawnAfter, scaled}
 use Rattle.scene.specs.Scene.{roomFor}
 use Rattle.point.proofs.Halves.{pointOn}
 use Rattle.point.specs.Agreement.{Agreement, CarriedFrom, CarriedTo, Pictured, Room, Shown, canvasHeight, canvasWidth, inside, outside}
@@ -49,7 +48,7 @@ use Rattle.point.specs.declared.Spot.{Spot}
 unfoldable Carries : Drawn → Pic → Type 0
 Carries d Q = d .pic ≡ Q
 
-carried : (o : Out Pic) (n : ℕ) → Same Carries (andThen o (λ Q. done (record { pic = Q; longest = longer n (length (encode Q)) }))) o
+carried : (o : Out Pic) (n : ℕ) → Same Carries (andThen o (λ Q. done (record { pic = Q; longest = max n (length (encode Q)) }))) o
 unfolding andThen Carries
 carried (refused r) n = alike
 carried (done Q) n = both refl
@@ -59,7 +58,7 @@ unfolding drawnAfter Carries
 drawn-after p d Q k e = rw (← e) (carried (picAfter scaled p (d .pic)) (d .longest))
 
 drawn-chain : (es : List PropertyEntry) (flag : Bool) (P : Pic) → Same Carries (chainDrawn es flag P) (chainPic scaled es flag P)
-unfolding chainDrawn chainPic begun Carries
+unfolding chainDrawn chainPic firstDrawn Carries
 drawn-chain es flag P = fold-same Carries (λ p. Unit {0}) drawnAfter (picAfter scaled) drawn-after flag es (all-applied flag es) _ P refl
 
 -- ---- two runs that answer alike
@@ -148,11 +147,11 @@ module _ (reads : Named → Part → ℕ) (P : Pic) (names : Place → Named)
   agreement-as e k = rw (← e) k
 
   at-sight : (o : Out Drawn) (u : Out Sight) → Same (λ (d : Drawn) (s : Sight). ReadsBack (d .pic) × Seen P (d .pic) s) o u → (output spare : ℕ) → Room o output spare
-      → Agreement reads x y (andThen o (roomFor output spare)) (andThen u (λ s. andThen (placeOf s x y) (answer s)))
+      → Agreement reads x y (andThen o (roomFor output spare)) (andThen u (λ s. andThen (sourcePlace s x y) (answer s)))
   unfolding andThen Room
   at-sight o u alike output spare m = Agreement.alike
   at-sight o u (both {a = d} {b = s} k) output spare m =
-      agreement-as (sym (room-is d output spare (m d refl .0) (m d refl .1))) (at-place (d .pic) s (k .0) (k .1) (placeOf s x y) (seen-place P (d .pic) s (k .1) x y))
+      agreement-as (sym (room-is d output spare (m d refl .0) (m d refl .1))) (at-place (d .pic) s (k .0) (k .1) (sourcePlace s x y) (seen-place P (d .pic) s (k .1) x y))
 
 -- ---- a picture run and the point runs
 
@@ -179,7 +178,7 @@ whole-back : (w h u v : ℕ) → back (whole w h) u v ≡ record { x = u; y = v 
 unfolding whole back backFrom exchange quarterOf unturn pick
 whole-back w h u v = place-path (omega arith) (omega arith)
 
-whole-place : (w h u v : ℕ) → u < w → v < h → placeOf (whole w h) u v ≡ done (record { x = u; y = v })
+whole-place : (w h u v : ℕ) → u < w → v < h → sourcePlace (whole w h) u v ≡ done (record { x = u; y = v })
 unfolding whole finalWidth finalHeight wideOf highOf quarterOf sideways swaps pick
 whole-place w h u v l m = place-in (whole w h) u v l m ∙ ap done (whole-back w h u v)
 
@@ -214,7 +213,7 @@ module _ (w h : ℕ) (wide : 1 ≤ w) (tall : 1 ≤ h) (es : List PropertyEntry)
     named : names (back (a .sight) x y) ≡ a .named
 
   answered : (x y : ℕ) (a : Point) → pointed x y ≡ done a → Answered x y a
-  unfolding pointOn pointFrom placeOf
+  unfolding pointOn pointFrom sourcePlace
   answered x y a e =
       let i = andThen-done _ _ a e in
       let j = andThen-done _ _ a (i .2) in
@@ -252,7 +251,7 @@ module _ (w h : ℕ) (wide : 1 ≤ w) (tall : 1 ≤ h) (es : List PropertyEntry)
     row : v < h
 
   canvas : (u v : ℕ) (b : Point) → bare u v ≡ done b → Canvas u v b
-  unfolding pointOn pointFrom placeOf
+  unfolding pointOn pointFrom sourcePlace
   canvas u v b e =
       let i = andThen-done _ _ b e in
       let j = andThen-done _ _ b (i .2) in

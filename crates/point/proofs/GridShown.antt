@@ -16,14 +16,14 @@ use Rattle.laws.specs.Pick.{pick}
 use Rattle.numbers.specs.Number.{readNumber}
 use Rattle.numbers.specs.declared.NumberRead.the-variants.{Number}
 use Rattle.image.proofs.FormLaws.{like-halved}
-use Rattle.image.proofs.PictureLaws.{evenX-of, evenY-of, evenly-part, full-pixel, promote-pixel}
+use Rattle.planes.proofs.PictureLaws.{evenX-of, evenY-of, evenly-part, full-pixel, promote-pixel}
 use Rattle.image.proofs.TrayLaws.{frames-length, tray-number}
-use Rattle.image.specs.Bytes.{decode}
-use Rattle.image.specs.Format.{columnsOf, cover, halfX, halfY, halved, halvesX, halvesY, hasAlpha, hasPart, isMono, middleOf, rowsOf, sideOf, topOf}
-use Rattle.image.specs.Picture.{Pic, as444, full, needs444, odd, pixel, sized}
-use Rattle.image.specs.inner.Even.{Even, Evenly}
+use Rattle.planes.specs.Bytes.{decode, pictureIn, inputIn}
+use Rattle.image.specs.Format.{columnsOf, cover, halfX, halfY, halved, halvesX, halvesY, hasAlpha, hasPart, isMono, middleOf, rowsOf, sideOf, topOf, as444, needs444, odd, sized, withAlpha}
+use Rattle.planes.specs.Picture.{Pic, full, pixel}
+use Rattle.planes.specs.inner.Even.{Even, Evenly}
 use Rattle.image.specs.Sound.{FormSound}
-use Rattle.image.specs.Tray.{framesAt}
+use Rattle.image.specs.Tray.{framesAt, noFrame, takenOf, recordsIn}
 use Rattle.image.specs.declared.format.Form.{Form}
 use Rattle.image.specs.declared.format.Part.{Part}
 use Rattle.image.specs.declared.format.Part.the-variants.{Alpha, Cb, Cr, Luma}
@@ -37,12 +37,12 @@ use Rattle.grid.proofs.Suited.{tile-parts, tilePic-form}
 use Rattle.grid.specs.Cell.{tileForm, tilePic}
 use Rattle.grid.specs.Mosaic.{gridPic, mosaicAt, opaqueAt, tileIndex}
 use Rattle.grid.specs.inner.Ready.{Alike, TilesTaken}
-use Rattle.grid.specs.Run.{framesIn, gridOn, noFrame, takenOf, tileIn}
-use Rattle.grid.specs.Tiles.{canvasForm, countOf, judgeOf, promotesOf, tilesAt, withAlpha}
+use Rattle.grid.specs.Run.{framesIn, gridOn}
+use Rattle.grid.specs.Tiles.{canvasForm, countOf, judgeOf, promotesOf, tilesAt}
 use Rattle.grid.specs.declared.tiles.Tiles.{Tiles}
 use Rattle.point.specs.Agreement.{InTray}
 use Rattle.point.specs.Point.{gridNames}
-use Rattle.point.specs.Read.{gridReads, inputIn, readAt, recordsIn}
+use Rattle.point.specs.Read.{gridReads, readAt}
 use Rattle.point.specs.declared.Named.{Named}
 use Rattle.point.specs.declared.Spot.{Spot}
 
@@ -190,8 +190,8 @@ tiles-records body tray n at t c e =
 
 -- ---- the whole
 
-tile-in-chroma : (tray : List ℕ) (frs : List Frame) (i : ℕ) → tileIn tray frs i .form .format .chroma ≡ getD frs i noFrame .form .format .chroma
-unfolding tileIn decode
+tile-in-chroma : (tray : List ℕ) (frs : List Frame) (i : ℕ) → pictureIn tray frs i .form .format .chroma ≡ getD frs i noFrame .form .format .chroma
+unfolding pictureIn decode
 tile-in-chroma tray frs i = refl
 
 -- a number by its quotient and its remainder
@@ -207,7 +207,7 @@ module _ (tray : List ℕ) (t : Tiles) (ok : TilesTaken tray t) where
 
   -- a tile, promoted or as it is
   abbrev shownTile : ℕ → Pic
-  shownTile i = tilePic promoted (tileIn tray (framesIn tray t) i)
+  shownTile i = tilePic promoted (pictureIn tray (framesIn tray t) i)
 
   -- the canvas's form is sound
   pub grid-form : FormSound (gridOn tray t .form)
@@ -227,21 +227,21 @@ module _ (tray : List ℕ) (t : Tiles) (ok : TilesTaken tray t) where
   -- a tile of the tray, by its number
   tile-of : (i : ℕ) → i < countOf (t .desc) → (p : Part) → hasPart (canvasForm (t .desc) (t .tile) (t .alpha) .format) p ≡ true → (x y : ℕ)
       → opaqueAt (shownTile i) p (cover (halfX (canvasForm (t .desc) (t .tile) (t .alpha) .format) p) x) (cover (halfY (canvasForm (t .desc) (t .tile) (t .alpha) .format) p) y)
-      ≡ readAt (tileIn tray (framesIn tray t) i) p x y
+      ≡ readAt (pictureIn tray (framesIn tray t) i) p x y
   tile-of i l p h x y =
       let k = ok .alike i l in
-      let P = tileIn tray (framesIn tray t) i in
+      let P = pictureIn tray (framesIn tray t) i in
       tile-reads promoted P (canvasForm (t .desc) (t .tile) (t .alpha) .format)
       (canvas-chroma (t .desc) (t .tile) (t .alpha) ∙ sym (ap (λ (m : Form). m .format .chroma) (tilePic-form promoted P) ∙ tile-chroma promoted (P .form) (t .tile) (chroma-of k)))
       (λ e. mono-same (P .form .format) (t .tile .format) (chroma-of k) ∙ promotes-colour (t .desc) (t .tile) e) x y p h
     where
-      chroma-of : Alike (t .tile) (getD (framesIn tray t) i noFrame .form) → tileIn tray (framesIn tray t) i .form .format .chroma ≡ t .tile .format .chroma
+      chroma-of : Alike (t .tile) (getD (framesIn tray t) i noFrame .form) → pictureIn tray (framesIn tray t) i .form .format .chroma ≡ t .tile .format .chroma
       chroma-of k = tile-in-chroma tray (framesIn tray t) i ∙ k .chroma
 
   -- each place of the canvas reads what is read at the tile and the spot that it names
   pub grid-reads : framesIn tray t ≡ recordsIn tray → (p : Part) → hasPart (gridOn tray t .form .format) p ≡ true → (l : Place) → l .x < t .desc .«output_width» → l .y < t .desc .«output_height»
       → pixel (gridOn tray t) p (l .x) (l .y) ≡ gridReads tray (gridNames t l) p
-  unfolding pixel gridOn gridPic gridReads gridNames inputIn tileIn
+  unfolding pixel gridOn gridPic gridReads gridNames inputIn pictureIn
   grid-reads e p h l lx ly =
       let c = canvasForm (t .desc) (t .tile) (t .alpha) in
       let m = tileForm promoted (t .tile) in
@@ -272,7 +272,7 @@ module _ (tray : List ℕ) (t : Tiles) (ok : TilesTaken tray t) where
 
   -- a spot that is named lies in its tile
   tile-there : framesIn tray t ≡ recordsIn tray → (i x y : ℕ) → i < countOf (t .desc) → x < t .tile .width → y < t .tile .height → InTray tray (record { input = i; x = x; y = y })
-  unfolding inputIn decode
+  unfolding inputIn pictureIn decode
   tile-there e i x y l lx ly =
       let k = ok .alike i l in
       let n : length (framesIn tray t) ≡ countOf (t .desc) = frames-length _ tray (t .first) (framesIn tray t) (ok .taken) in

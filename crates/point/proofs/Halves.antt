@@ -13,8 +13,8 @@ use Rattle.props.specs.declared.entry.PropertyEntry.{PropertyEntry}
 use Rattle.transform.specs.Place.{Place}
 use Rattle.sight.specs.Sight.{sightOf}
 use Rattle.grid.specs.Tiles.{tilesAt}
-use Rattle.overlay.specs.Overlay.{some}
-use Rattle.overlay.specs.Run.{inputsAt}
+use Rattle.laws.specs.Any.{any}
+use Rattle.inputs.specs.Inputs.{inputsAt}
 use Rattle.point.specs.Point.{gridLook, gridNames, gridPoint, lookOn, overlayLook, overlayNames, overlayPoint, pointFrom, seeThroughFrame}
 use Rattle.point.specs.declared.Named.{Named}
 use Rattle.point.specs.declared.Point.{Point}
@@ -63,7 +63,7 @@ overlaySteps body tray chain flag list x y =
     onNumber (readNumber tray 0) (λ n at.
     andThen (chainAt chain 0) (λ es.
     andThen (inputsAt body tray list n at) (λ q.
-    refuse (some seeThroughFrame (q .frames)) 18
+    refuse (any seeThroughFrame (q .frames)) 18
     (pointOn es flag (q .descriptor .«output_width») (q .descriptor .«output_height») x y (overlayNames body q)))))
 
 pub overlay-steps : (body tray chain : List ℕ) (flag : Bool) (list : List ℕ) (x y : ℕ) → overlayPoint body tray chain flag list x y ≡ overlaySteps body tray chain flag list x y
@@ -72,4 +72,4 @@ overlay-steps body tray chain flag list x y =
     number-then (readNumber tray 0) _ _ _ (λ n at.
     then-then (chainAt chain 0) _ _ _ (λ es.
     then-then (inputsAt body tray list n at) _ _ _ (λ q.
-    then-refuse _ _ _ _ ∙ ap (refuse (some seeThroughFrame (q .frames)) 18) (look-point es flag _ _ x y (overlayNames body q)))))
+    then-refuse _ _ _ _ ∙ ap (refuse (any seeThroughFrame (q .frames)) 18) (look-point es flag _ _ x y (overlayNames body q)))))

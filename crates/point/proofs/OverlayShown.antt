@@ -9,40 +9,44 @@ use lib.Dec.{ltb}
 use lib.ListN.{drop, getD, length, length-drop}
 use borrow.Author.Tests.{eq-eqb, eqb-true, not-false}
 use Rattle.laws.proofs.Order.{and-true, apart, by-test, or-left, or-right, pick-false, pick-true}
+use Rattle.laws.specs.Any.{any}
 use Rattle.laws.specs.Out.{Out}
 use Rattle.laws.specs.Pick.{pick}
+use Rattle.laws.specs.Puts.{Bytes}
 use Rattle.numbers.specs.Number.{readNumber}
 use Rattle.numbers.specs.declared.NumberRead.the-variants.{Number}
 use Rattle.numbers.specs.declared.Offset.{Offset}
-use Rattle.image.proofs.PictureLaws.{evenly-if, needs-X, needs-Y, odd-false}
+use Rattle.image.proofs.FormLaws.{top-some}
 use Rattle.image.proofs.TrayLaws.{frames-length, tray-number}
-use Rattle.image.specs.Bytes.{Bytes, decode}
-use Rattle.image.specs.Format.{halvesX, halvesY, hasAlpha, isMono, topOf}
-use Rattle.image.specs.Picture.{odd, pixel}
-use Rattle.image.specs.inner.Even.{Even, Evenly}
+use Rattle.image.specs.Format.{halvesX, halvesY, hasAlpha, isMono, odd, topOf}
+use Rattle.image.specs.Tray.{noFrame, recordsIn, takenOf}
 use Rattle.image.specs.declared.format.Part.{Part}
 use Rattle.image.specs.declared.format.Part.the-variants.{Alpha, Cb, Cr, Luma}
 use Rattle.image.specs.declared.format.PixelFormat.{PixelFormat}
 use Rattle.image.specs.declared.record.Frame.{Frame}
+use Rattle.planes.proofs.PictureLaws.{evenly-if, needs-X, needs-Y, odd-false}
+use Rattle.planes.specs.Bytes.{decode, inputIn, pictureIn}
+use Rattle.planes.specs.Picture.{pixel}
+use Rattle.planes.specs.inner.Even.{Even, Evenly}
 use Rattle.fill.specs.Fill.{fillAlphaOf}
-use Rattle.point.specs.Read.{fillOf, inputIn, overlayReads, readAt, recordsIn}
 use Rattle.fill.specs.declared.Colour.{Colour}
 use Rattle.derived.proofs.Taken.{overlay-fill}
 use Rattle.derived.specs.Overlay.{overlayOf, placementAt}
 use Rattle.derived.specs.declared.overlay.OverlayDescriptor.{OverlayDescriptor}
 use Rattle.transform.specs.Place.{Place}
-use Rattle.overlay.proofs.RunLaws.{Took, frames-sound}
-use Rattle.overlay.specs.Run.{Inputs, alphaAbove, composed, composedForm, fillFor, firstFormat, layerOf, layersOf, otherDepth}
 use Rattle.grid.proofs.Composed.{drop-head}
-use Rattle.grid.specs.Run.{noFrame, takenOf}
-use Rattle.overlay.proofs.FlatLaws.{top-some}
 use Rattle.overlay.proofs.ReachLaws.{covers-facts, spot-inside}
+use Rattle.overlay.proofs.RunLaws.{Took, frames-sound}
 use Rattle.overlay.proofs.Sentences.{fill-low, settled-pixel}
 use Rattle.overlay.specs.Covered.{AllCut, Found, capped, endsAs, hides, nowhere, topmost}
-use Rattle.point.specs.Agreement.{InTray}
-use Rattle.point.specs.Point.{liesOver, overlayNames, seeThroughFrame, spotUnder, topmostFrom}
-use Rattle.overlay.specs.Overlay.{Layer, alphaOf, covers, coversAt, otherChroma, overlayForm, overlayPic, promotes, sampleOf, seeThrough, some, spotAt}
+use Rattle.inputs.specs.Layers.{Layer, otherChroma, overlayForm, promotes, seeThrough, layerOf, layersOf}
+use Rattle.overlay.specs.Overlay.{alphaOf, covers, coversAt, overlayPic, sampleOf, spotAt}
+use Rattle.inputs.specs.Inputs.{Inputs, alphaAbove, composedForm, firstFormat, otherDepth}
+use Rattle.overlay.specs.Run.{composed, fillFor}
 use Rattle.point.proofs.GridShown.{spot-same}
+use Rattle.point.specs.Agreement.{InTray}
+use Rattle.point.specs.Point.{liesOver, overlayNames, seeThroughFrame, spotUnder, topmostNamed}
+use Rattle.point.specs.Read.{canvasFill, overlayReads, readAt}
 use Rattle.point.specs.declared.Named.{Named}
 use Rattle.point.specs.declared.Spot.{Spot}
 
@@ -57,7 +61,7 @@ plain-even : (f : PixelFormat) (width height depth alpha : ℕ) (ls : List Layer
     → Even (record { width = width; height = height; format = record { chroma = f .chroma; depth = depth; alpha = alpha } })
 unfolding promotes halvesX halvesY
 plain-even f width height depth alpha ls e =
-    let b = or-right (not (isMono f) && some seeThrough ls || some (otherChroma f) ls) _ e in
+    let b = or-right (not (isMono f) && any seeThrough ls || any (otherChroma f) ls) _ e in
     record {
       evenX = evenly-if (halvesX f) width (λ h. odd-false width (or-left (odd width) _ (needs-X f _ _ b h)));
       evenY = evenly-if (halvesY f) height (λ h. odd-false height (or-left (odd height) _ (needs-Y f _ _ b h)));
@@ -88,11 +92,11 @@ unfolding recordsIn takenOf
 inputs-records body tray list n at q c k = ap takenOf (tray-number tray n at c ∙ k .frames)
 
 -- no alpha sample is above top where there is none
-pub none-above : (tray : List ℕ) (top : ℕ) (frs : List Frame) → some seeThroughFrame frs ≡ false → some (alphaAbove tray top) frs ≡ false
-unfolding some seeThroughFrame alphaAbove
+pub none-above : (tray : List ℕ) (top : ℕ) (frs : List Frame) → any seeThroughFrame frs ≡ false → any (alphaAbove tray top) frs ≡ false
+unfolding any seeThroughFrame alphaAbove
 none-above tray top [] e = refl
 none-above tray top (fr ∷ frs) e =
-    rw (or-left (hasAlpha (fr .form .format)) (some seeThroughFrame frs) e) (none-above tray top frs (or-right (hasAlpha (fr .form .format)) (some seeThroughFrame frs) e))
+    rw (or-left (hasAlpha (fr .form .format)) (any seeThroughFrame frs) e) (none-above tray top frs (or-right (hasAlpha (fr .form .format)) (any seeThroughFrame frs) e))
 
 -- ---- one place
 
@@ -132,8 +136,8 @@ module _ (body tray list : List ℕ) (colour : Colour) (q : Inputs) (l : Place) 
   unfolding hides coversAt liesOver layerOf decode
   hides-is i fr e = ap (λ (b : Bool). liesOver fr (placementAt body (q .descriptor) i) l && b) (eq-eqb _ _ (opaque-alpha i fr e)) ∙ and-right _
 
-  all-cut : (i : ℕ) (frs : List Frame) → some seeThroughFrame frs ≡ false → AllCut top (l .x) (l .y) (layersOf body tray list (q .descriptor) i frs)
-  unfolding AllCut layersOf some seeThroughFrame
+  all-cut : (i : ℕ) (frs : List Frame) → any seeThroughFrame frs ≡ false → AllCut top (l .x) (l .y) (layersOf body tray list (q .descriptor) i frs)
+  unfolding AllCut layersOf any seeThroughFrame
   all-cut i [] e = tt
   all-cut i (fr ∷ frs) e = (record { clear = λ c h. absurd (h (opaque-alpha i fr (or-left (hasAlpha (fr .form .format)) _ e))) }, all-cut (i + 1) frs (or-right (hasAlpha (fr .form .format)) _ e))
 
@@ -146,10 +150,10 @@ module _ (body tray list : List ℕ) (colour : Colour) (q : Inputs) (l : Place) 
   input-reads i fr Cr a d e = rw e refl
   input-reads i fr Alpha a d e = rw e (let k = alpha-reads tray f fr (spotAt (placementAt body (q .descriptor) i .horizontal) (l .x)) (spotAt (placementAt body (q .descriptor) i .vertical) (l .y)) a d in omega arith)
 
-  ends-named : (p : Part) (frs : List Frame) (i : ℕ) (found : Found) (named : Named) → drop i (q .frames) ≡ frs → some seeThroughFrame frs ≡ false → some (otherDepth f) frs ≡ false
+  ends-named : (p : Part) (frs : List Frame) (i : ℕ) (found : Found) (named : Named) → drop i (q .frames) ≡ frs → any seeThroughFrame frs ≡ false → any (otherDepth f) frs ≡ false
       → endsAs top fill p (l .x) (l .y) found ≡ reads named p
-      → endsAs top fill p (l .x) (l .y) (Rattle.overlay.specs.Covered.topmostFrom (hides top (l .x) (l .y)) found (layersOf body tray list (q .descriptor) i frs)) ≡ reads (topmostFrom body (q .descriptor) l i named frs) p
-  unfolding Rattle.overlay.specs.Covered.topmostFrom topmostFrom layersOf some seeThroughFrame endsAs
+      → endsAs top fill p (l .x) (l .y) (Rattle.overlay.specs.Covered.topmostFrom (hides top (l .x) (l .y)) found (layersOf body tray list (q .descriptor) i frs)) ≡ reads (topmostNamed body (q .descriptor) l i named frs) p
+  unfolding Rattle.overlay.specs.Covered.topmostFrom topmostNamed layersOf any seeThroughFrame endsAs
   ends-named p [] i found named e a d k = k
   ends-named p (fr ∷ frs) i found named e a d k =
       let h = drop-head (q .frames) i fr frs e in
@@ -161,7 +165,7 @@ module _ (body tray list : List ℕ) (colour : Colour) (q : Inputs) (l : Place) 
       ap (endsAs top fill p (l .x) (l .y)) (pick-true _ _ _ t) ∙ input-reads i fr p s (or-left (otherDepth f fr) _ d) (h .0) ∙ sym (ap (λ (m : Named). reads m p) (pick-true _ _ _ t)))
       (λ t. ap (endsAs top fill p (l .x) (l .y)) (pick-false _ _ _ t) ∙ k ∙ sym (ap (λ (m : Named). reads m p) (pick-false _ _ _ t)))))
 
-  module _ (low : (p : Part) → fill p ≤ top) (some-top : 0 < top) (none : some seeThroughFrame (q .frames) ≡ false) (depths : some (otherDepth f) (q .frames) ≡ false) where
+  module _ (low : (p : Part) → fill p ≤ top) (some-top : 0 < top) (none : any seeThroughFrame (q .frames) ≡ false) (depths : any (otherDepth f) (q .frames) ≡ false) where
     place-reads : (p : Part) → pixel (composed body tray list colour q) p (l .x) (l .y) ≡ reads (overlayNames body q l) p
     unfolding composed composedForm topmost overlayNames endsAs reads
     place-reads p =
@@ -172,18 +176,18 @@ module _ (body tray list : List ℕ) (colour : Colour) (q : Inputs) (l : Place) 
 -- ---- the whole
 
 reads-are : (body tray list : List ℕ) (colour : Colour) (n at : ℕ) (q : Inputs) (l : Place) → recordsIn tray ≡ q .frames → Took body tray list n at q → (named : Named) (p : Part) → reads body tray list colour q l named p ≡ overlayReads body tray colour named p
-unfolding reads overlayReads inputIn fillOf
+unfolding reads overlayReads inputIn pictureIn canvasFill
 reads-are body tray list colour n at q l e k Named.Fill p =
     let m : length (recordsIn tray) ≡ n = ap length e ∙ frames-length n tray at (q .frames) (k .frames) in
-    sym (ap₂ (λ (o : Out OverlayDescriptor) (frs : List Frame). fillOf o (firstFormat frs .depth) colour p) (ap (overlayOf body) m ∙ k .body-read) e)
+    sym (ap₂ (λ (o : Out OverlayDescriptor) (frs : List Frame). canvasFill o (firstFormat frs .depth) colour p) (ap (overlayOf body) m ∙ k .body-read) e)
 reads-are body tray list colour n at q l e k (Named.Spot j) p = rw e refl
 
 -- each place of the canvas reads what is read at the input and the spot that it names, or the fill
-pub overlay-reads : (body tray list : List ℕ) (colour : Colour) (n at : ℕ) (q : Inputs) → Bytes body → readNumber tray 0 ≡ Number n at → Took body tray list n at q → some seeThroughFrame (q .frames) ≡ false
+pub overlay-reads : (body tray list : List ℕ) (colour : Colour) (n at : ℕ) (q : Inputs) → Bytes body → readNumber tray 0 ≡ Number n at → Took body tray list n at q → any seeThroughFrame (q .frames) ≡ false
     → (p : Part) (l : Place) → pixel (composed body tray list colour q) p (l .x) (l .y) ≡ overlayReads body tray colour (overlayNames body q l) p
 unfolding topOf
 overlay-reads body tray list colour n at q small c k none p l =
-    let m = frames-sound n tray at (q .frames) (k .any) (k .frames) in
+    let m = frames-sound n tray at (q .frames) (k .nonempty) (k .frames) in
     place-reads body tray list colour q l
     (fill-low (q .descriptor .«canvas_fill») (firstFormat (q .frames) .depth) colour (overlay-fill body n (q .descriptor) small (k .body-read)) (m .low) (m .high))
     (top-some (firstFormat (q .frames)) (m .low)) none (k .depths) p
@@ -222,8 +226,8 @@ drop-within : (all : List Frame) (i : ℕ) (fr : Frame) (frs : List Frame) → d
 drop-within all i fr frs e = let q : length all - i ≡ suc (length frs) = sym (length-drop i all) ∙ ap length e in omega (arith, q)
 
 named-lies : (body : List ℕ) (d : OverlayDescriptor) (all : List Frame) (l : Place) (k : Spot) (frs : List Frame) (i : ℕ) (found : Named) → drop i all ≡ frs → (found ≡ Named.Spot k → Told body d all l k)
-    → topmostFrom body d l i found frs ≡ Named.Spot k → Told body d all l k
-unfolding topmostFrom
+    → topmostNamed body d l i found frs ≡ Named.Spot k → Told body d all l k
+unfolding topmostNamed
 named-lies body d all l k [] i found r f e = f e
 named-lies body d all l k (fr ∷ frs) i found r f e =
     let g = drop-head all i fr frs r in
@@ -250,7 +254,7 @@ overlay-once body q l m k e f =
 -- ---- a spot that is named lies in its input
 
 pub overlay-there : (body tray : List ℕ) (q : Inputs) → recordsIn tray ≡ q .frames → (l : Place) (k : Spot) → overlayNames body q l ≡ Named.Spot k → InTray tray k
-unfolding inputIn decode
+unfolding inputIn pictureIn decode
 overlay-there body tray q r l k e =
     let a = names-told body q l k e in
     record {

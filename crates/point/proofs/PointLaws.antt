@@ -13,7 +13,8 @@ use Rattle.laws.specs.Pick.{pick}
 use Rattle.laws.specs.declared.Refusal.{Refusal}
 use Rattle.numbers.specs.Number.{onNumber, readNumber}
 use Rattle.numbers.specs.declared.NumberRead.the-variants.{Malformed, Number}
-use Rattle.image.specs.Bytes.{Bytes, decode}
+use Rattle.laws.specs.Puts.{Bytes}
+use Rattle.planes.specs.Bytes.{decode}
 use Rattle.image.specs.Format.{hasAlpha}
 use Rattle.image.specs.Record.{recordAt}
 use Rattle.image.specs.declared.record.Frame.{Frame}
@@ -31,22 +32,24 @@ use Rattle.props.specs.declared.entry.PropertyEntry.{PropertyEntry}
 use Rattle.transform.specs.Place.{Place}
 use Rattle.sight.proofs.Steps.{bounded-place, sight-bounded, sight-inside}
 use Rattle.sight.proofs.Turns.{back-in}
-use Rattle.sight.specs.Sight.{back, boundedPlaceOf, placeOf, sightOf}
+use Rattle.sight.specs.Sight.{back, boundedSource, sourcePlace, sightOf}
 use Rattle.sight.specs.inner.Bounded.{Bounded}
 use Rattle.sight.specs.declared.CanvasPlace.{CanvasPlace}
 use Rattle.sight.specs.declared.Sight.{Sight}
 use Rattle.grid.proofs.GridLaws.{tiles-taken}
 use Rattle.grid.specs.Tiles.{tilesOf}
 use Rattle.grid.specs.declared.tiles.Tiles.{Tiles}
-use Rattle.overlay.proofs.FrameLaws.{frames-from, from-next, from-refused}
-use Rattle.overlay.specs.inner.Block.{framesFrom}
-use Rattle.overlay.specs.Overlay.{covers, seeThrough, some, spotAt}
-use Rattle.overlay.specs.inner.Plan.{planAt, planOf}
-use Rattle.overlay.specs.Run.{Inputs, inputsAt, layerOf, layersOf}
-use Rattle.overlay.specs.declared.inputs.Plan.{Plan}
+use Rattle.inputs.proofs.FrameLaws.{frames-from, from-next, from-refused}
+use Rattle.image.specs.inner.Frames.{framesFrom}
+use Rattle.overlay.specs.Overlay.{covers, spotAt}
+use Rattle.inputs.specs.Layers.{seeThrough, layerOf, layersOf}
+use Rattle.laws.specs.Any.{any}
+use Rattle.inputs.specs.inner.Plan.{planAt, planOf}
+use Rattle.inputs.specs.Inputs.{Inputs, inputsAt}
+use Rattle.inputs.specs.declared.read.Plan.{Plan}
 use Rattle.point.proofs.GridShown.{canvas-sides}
 use Rattle.point.specs.inner.Look.{GridHeld, Tiled, gridHeld, gridLooked, overlayHeld, overlayLooked, placeIn}
-use Rattle.point.specs.Point.{Look, gridLook, gridNames, liesOver, lookOn, overlayLook, overlayNames, pointFrom, seeThroughFrame, spotUnder, topmostFrom}
+use Rattle.point.specs.Point.{Look, gridLook, gridNames, liesOver, lookOn, overlayLook, overlayNames, pointFrom, seeThroughFrame, spotUnder, topmostNamed}
 use Rattle.point.specs.declared.Named.{Named}
 use Rattle.point.specs.declared.look.GridLook.{GridLook}
 use Rattle.point.specs.declared.look.GridLookRead.{GridLookRead}
@@ -56,17 +59,17 @@ use Rattle.point.specs.declared.look.OverlayLookRead.{OverlayLookRead}
 -- ---- the place
 
 module _ (k : Look) (x y : ℕ) (b : Bounded (k .sight .area)) where
-  pub point-refused : (r : Refusal) → boundedPlaceOf (k .sight) x y ≡ refused r → refused r ≡ pointFrom k x y
+  pub point-refused : (r : Refusal) → boundedSource (k .sight) x y ≡ refused r → refused r ≡ pointFrom k x y
   unfolding pointFrom
   point-refused r e = sym (then-refused _ (sym (bounded-place (k .sight) x y b) ∙ e))
 
-  pub point-done : (l : CanvasPlace) (m : Named) → boundedPlaceOf (k .sight) x y ≡ done (placeIn l) → m ≡ k .names (placeIn l) → done (record { named = m; sight = k .sight }) ≡ pointFrom k x y
+  pub point-done : (l : CanvasPlace) (m : Named) → boundedSource (k .sight) x y ≡ done (placeIn l) → m ≡ k .names (placeIn l) → done (record { named = m; sight = k .sight }) ≡ pointFrom k x y
   unfolding pointFrom
   point-done l m e p = ap (λ (u : Named). done (record { named = u; sight = k .sight })) p ∙ sym (then-done _ (sym (bounded-place (k .sight) x y b) ∙ e))
 
 -- the tiles cover it
-pub held-tiled : (k : GridLook) (x y : ℕ) (l : CanvasPlace) → GridHeld k → boundedPlaceOf (k .sight) x y ≡ done (placeIn l) → Tiled (k .tiles) l
-unfolding placeOf
+pub held-tiled : (k : GridLook) (x y : ℕ) (l : CanvasPlace) → GridHeld k → boundedSource (k .sight) x y ≡ done (placeIn l) → Tiled (k .tiles) l
+unfolding sourcePlace
 held-tiled k x y l h e =
     let c = refuse-done _ _ _ (placeIn l) (sym (bounded-place (k .sight) x y (h .bounded)) ∙ e) in
     let d = refuse-done _ _ _ (placeIn l) (c .1) in
@@ -134,22 +137,22 @@ module _ (i : ℕ) (fr : Frame) (o : Placement) (l : Place) (found : Named) wher
 -- one record after the other
 module _ (body tray : List ℕ) (d : OverlayDescriptor) (l : Place) (i at : ℕ) (found : Named) where
   abbrev left : Named
-  left = topmostFrom body d l i found (framesFrom (d .count - i) tray at)
+  left = topmostNamed body d l i found (framesFrom (d .count - i) tray at)
 
   pub top-next : (fr : Frame) (o : Placement) (f : Named) → i < d .count → recordAt tray at ≡ done fr → o ≡ placementAt body d i → f ≡ pick (liesOver fr o l) (spotUnder i o l) found
-      → left ≡ topmostFrom body d l (i + 1) f (framesFrom (d .count - (i + 1)) tray (fr .end))
-  unfolding topmostFrom
+      → left ≡ topmostNamed body d l (i + 1) f (framesFrom (d .count - (i + 1)) tray (fr .end))
+  unfolding topmostNamed
   top-next fr o f h e p q =
       let z : d .count - i - 1 ≡ d .count - (i + 1) = omega arith in
-      ap (topmostFrom body d l i found) (from-next (d .count - i) tray at fr (omega arith) e)
-      ∙ ap₂ (λ (g : Named) (n : ℕ). topmostFrom body d l (i + 1) g (framesFrom n tray (fr .end))) (sym (q ∙ ap (λ (u : Placement). pick (liesOver fr u l) (spotUnder i u l) found) p)) z
+      ap (topmostNamed body d l i found) (from-next (d .count - i) tray at fr (omega arith) e)
+      ∙ ap₂ (λ (g : Named) (n : ℕ). topmostNamed body d l (i + 1) g (framesFrom n tray (fr .end))) (sym (q ∙ ap (λ (u : Placement). pick (liesOver fr u l) (spotUnder i u l) found) p)) z
 
   pub top-refused : (r : Refusal) → recordAt tray at ≡ refused r → left ≡ found
-  unfolding topmostFrom
-  top-refused r e = ap (topmostFrom body d l i found) (from-refused (d .count - i) tray at r e)
+  unfolding topmostNamed
+  top-refused r e = ap (topmostNamed body d l i found) (from-refused (d .count - i) tray at r e)
 
   pub top-none : d .count ≤ i → left ≡ found
-  unfolding topmostFrom framesFrom
+  unfolding topmostNamed framesFrom
   top-none h = let z : d .count - i ≡ 0 = omega arith in rw z
 
 -- ---- the grid's look, step by step
@@ -229,8 +232,8 @@ module _ (body tray chain : List ℕ) (flag : Bool) where
 
 -- ---- the overlay's look, step by step
 
-some-see : (body tray list : List ℕ) (d : OverlayDescriptor) (i : ℕ) (frs : List Frame) → some seeThrough (layersOf body tray list d i frs) ≡ some seeThroughFrame frs
-unfolding some layersOf layerOf seeThrough seeThroughFrame decode
+some-see : (body tray list : List ℕ) (d : OverlayDescriptor) (i : ℕ) (frs : List Frame) → any seeThrough (layersOf body tray list d i frs) ≡ any seeThroughFrame frs
+unfolding any layersOf layerOf seeThrough seeThroughFrame decode
 some-see body tray list d i [] = refl
 some-see body tray list d i (fr ∷ frs) = ap (λ (b : Bool). hasAlpha (fr .form .format) || b) (some-see body tray list d (i + 1) frs)
 
@@ -266,7 +269,7 @@ module _ (body tray chain : List ℕ) (flag : Bool) (list : List ℕ) where
 
   module _ (n at : ℕ) (counted : readNumber tray 0 ≡ Number n at) where
     abbrev goes : List PropertyEntry → Inputs → Out Look
-    goes es q = refuse (some seeThroughFrame (q .frames)) 18 (lookOn es flag (q .descriptor .«output_width») (q .descriptor .«output_height») (overlayNames body q))
+    goes es q = refuse (any seeThroughFrame (q .frames)) 18 (lookOn es flag (q .descriptor .«output_width») (q .descriptor .«output_height») (overlayNames body q))
 
     overlay-counted : overlayLook body tray chain flag list ≡ andThen (chainAt chain 0) (λ es. andThen (inputsAt body tray list n at) (goes es))
     unfolding overlayLook onNumber

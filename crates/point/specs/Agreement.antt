@@ -7,9 +7,9 @@ use Prim.Native.Nat.{_<_, _≤_, ℕ}
 use lib.ListN.{length}
 use Rattle.laws.specs.Out.{Out, andThen, done, reason, refused}
 use Rattle.laws.specs.declared.Refusal.{Refusal}
-use Rattle.image.specs.Bytes.{decode}
-use Rattle.image.specs.Format.{hasPart}
-use Rattle.image.specs.Picture.{Pic}
+use Rattle.planes.specs.Bytes.{decode, inputIn}
+use Rattle.image.specs.Format.{hasPart, Covers}
+use Rattle.planes.specs.Picture.{Pic}
 use Rattle.image.specs.Record.{recordOf}
 use Rattle.image.specs.declared.format.Part.{Part}
 use Rattle.image.specs.declared.record.Frame.{Frame}
@@ -17,14 +17,13 @@ use Rattle.props.specs.Chain.{applies, chainAt}
 use Rattle.props.specs.declared.entry.PropertyEntry.{PropertyEntry}
 use Rattle.transform.specs.Place.{Place}
 use Rattle.sight.specs.Carry.{Follows, Tracked, carryOf, kept}
-use Rattle.sight.specs.Chain.{NotIscl}
-use Rattle.sight.specs.Seen.{Covers}
+use Rattle.transform.specs.Chain.{NotIscl}
 use Rattle.sight.specs.Sight.{finalHeight, finalWidth, sightOf}
 use Rattle.sight.specs.declared.Sight.{Sight}
-use Rattle.overlay.specs.Overlay.{some}
+use Rattle.laws.specs.Any.{any}
 use Rattle.scene.specs.Chain.{Drawn}
 use Rattle.point.specs.Point.{seeThroughFrame}
-use Rattle.point.specs.Read.{inputIn, recordsIn}
+use Rattle.image.specs.Tray.{recordsIn}
 use Rattle.point.specs.declared.Named.{Named}
 use Rattle.point.specs.declared.Point.{Point}
 use Rattle.point.specs.declared.Spot.{Spot}
@@ -113,4 +112,4 @@ NoScaling chain essentialOnly = (es : List PropertyEntry) → chainAt chain 0 �
 
 -- inputs without alpha; a damaged tray has none
 unfoldable pub NoAlpha : List ℕ → Type 0
-NoAlpha tray = some seeThroughFrame (recordsIn tray) ≡ false
+NoAlpha tray = any seeThroughFrame (recordsIn tray) ≡ false

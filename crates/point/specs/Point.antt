@@ -13,12 +13,13 @@ use Rattle.derived.specs.declared.overlay.Placement.{Placement}
 use Rattle.props.specs.Chain.{chainAt}
 use Rattle.props.specs.declared.entry.PropertyEntry.{PropertyEntry}
 use Rattle.transform.specs.Place.{Place}
-use Rattle.sight.specs.Sight.{placeOf, sightOf}
+use Rattle.sight.specs.Sight.{sourcePlace, sightOf}
 use Rattle.sight.specs.declared.Sight.{Sight}
 use Rattle.grid.specs.Tiles.{tilesAt}
 use Rattle.grid.specs.declared.tiles.Tiles.{Tiles}
-use Rattle.overlay.specs.Overlay.{covers, some, spotAt}
-use Rattle.overlay.specs.Run.{Inputs, inputsAt}
+use Rattle.overlay.specs.Overlay.{covers, spotAt}
+use Rattle.laws.specs.Any.{any}
+use Rattle.inputs.specs.Inputs.{Inputs, inputsAt}
 use Rattle.point.specs.declared.Named.{Named}
 use Rattle.point.specs.declared.Point.{Point}
 use Rattle.point.specs.declared.PointRead.{PointRead}
@@ -42,15 +43,15 @@ unfoldable pub spotUnder : ℕ → Placement → Place → Named
 spotUnder i o l = Named.Spot (record { input = i; x = spotAt (o .horizontal) (l .x); y = spotAt (o .vertical) (l .y) })
 
 -- the topmost of the inputs from number i on, or what was found before them
-unfoldable pub topmostFrom : List ℕ → OverlayDescriptor → Place → ℕ → Named → List Frame → Named
-topmostFrom body d l i found [] = found
-topmostFrom body d l i found (fr ∷ frs) =
+unfoldable pub topmostNamed : List ℕ → OverlayDescriptor → Place → ℕ → Named → List Frame → Named
+topmostNamed body d l i found [] = found
+topmostNamed body d l i found (fr ∷ frs) =
     let o = placementAt body d i in
-    topmostFrom body d l (i + 1) (pick (liesOver fr o l) (spotUnder i o l) found) frs
+    topmostNamed body d l (i + 1) (pick (liesOver fr o l) (spotUnder i o l) found) frs
 
 -- the topmost input that covers it, and the spot there, else fill
 unfoldable pub overlayNames : List ℕ → Inputs → Place → Named
-overlayNames body q l = topmostFrom body (q .descriptor) l 0 Named.Fill (q .frames)
+overlayNames body q l = topmostNamed body (q .descriptor) l 0 Named.Fill (q .frames)
 
 -- ---- the calls, in two halves
 
@@ -81,12 +82,12 @@ overlayLook body tray chain essentialOnly premultiplied =
     onNumber (readNumber tray 0) (λ n at.
     andThen (chainAt chain 0) (λ es.
     andThen (inputsAt body tray premultiplied n at) (λ q.
-    refuse (some seeThroughFrame (q .frames)) 18
+    refuse (any seeThroughFrame (q .frames)) 18
     (lookOn es essentialOnly (q .descriptor .«output_width») (q .descriptor .«output_height») (overlayNames body q)))))
 
 -- the place: 18 last, a place outside
 unfoldable pub pointFrom : Look → ℕ → ℕ → Out Point
-pointFrom k column row = andThen (placeOf (k .sight) column row) (λ l. done (record { named = k .names l; sight = k .sight }))
+pointFrom k column row = andThen (sourcePlace (k .sight) column row) (λ l. done (record { named = k .names l; sight = k .sight }))
 
 unfoldable pub gridPoint : List ℕ → List ℕ → List ℕ → Bool → ℕ → ℕ → Out Point
 gridPoint body tray chain essentialOnly column row = andThen (gridLook body tray chain essentialOnly) (λ k. pointFrom k column row)

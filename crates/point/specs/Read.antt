@@ -1,29 +1,21 @@
 -- What document 01 reads at an input and a spot ("Point call").
 use mathlib.Core.List.{List}
 use Prim.Native.Nat.{min, ℕ}
-use lib.ListN.{getD, length}
+use lib.ListN.{length}
 use Rattle.laws.specs.Out.{Out, done, refused}
 use Rattle.laws.specs.Pick.{pick}
-use Rattle.image.specs.Bytes.{decode}
 use Rattle.image.specs.Format.{hasAlpha, topOf}
-use Rattle.image.specs.Picture.{Pic, full}
-use Rattle.image.specs.Tray.{trayOf}
+use Rattle.image.specs.Tray.{recordsIn}
 use Rattle.image.specs.declared.format.Part.{Part}
 use Rattle.image.specs.declared.format.Part.the-variants.{Alpha, Cb, Cr, Luma}
-use Rattle.image.specs.declared.record.Frame.{Frame}
+use Rattle.planes.specs.Bytes.{inputIn}
+use Rattle.planes.specs.Picture.{Pic, full}
 use Rattle.fill.specs.declared.Colour.{Colour}
 use Rattle.derived.specs.Overlay.{overlayOf}
 use Rattle.derived.specs.declared.overlay.OverlayDescriptor.{OverlayDescriptor}
-use Rattle.grid.specs.Run.{noFrame, takenOf}
-use Rattle.overlay.specs.Run.{fillFor, firstFormat}
+use Rattle.overlay.specs.Run.{fillFor}
+use Rattle.inputs.specs.Inputs.{firstFormat}
 use Rattle.point.specs.declared.Named.{Named}
-
--- the records of a tray, and input i as a picture
-unfoldable pub recordsIn : List ℕ → List Frame
-recordsIn tray = takenOf (trayOf tray)
-
-unfoldable pub inputIn : List ℕ → ℕ → Pic
-inputIn tray i = decode tray (getD (recordsIn tray) i noFrame)
 
 -- colour is read at the spot's covering sample, 2 ^ (depth − 1) for the chroma that mono has not; alpha is the input's, or top where
 -- it has none
@@ -39,11 +31,11 @@ gridReads tray Named.Fill p = 0
 gridReads tray (Named.Spot k) p = readAt (inputIn tray (k .input)) p (k .x) (k .y)
 
 -- the fill of a body's canvas; none is read where the body is refused
-unfoldable pub fillOf : Out OverlayDescriptor → ℕ → Colour → Part → ℕ
-fillOf (refused r) depth colour p = 0
-fillOf (done d) depth colour p = fillFor (d .«canvas_fill») depth colour p
+unfoldable pub canvasFill : Out OverlayDescriptor → ℕ → Colour → Part → ℕ
+canvasFill (refused r) depth colour p = 0
+canvasFill (done d) depth colour p = fillFor (d .«canvas_fill») depth colour p
 
 -- the canvas fill and the fill alpha, or the input's sample, capped at top
 unfoldable pub overlayReads : List ℕ → List ℕ → Colour → Named → Part → ℕ
-overlayReads body tray colour Named.Fill p = fillOf (overlayOf body (length (recordsIn tray))) (firstFormat (recordsIn tray) .depth) colour p
+overlayReads body tray colour Named.Fill p = canvasFill (overlayOf body (length (recordsIn tray))) (firstFormat (recordsIn tray) .depth) colour p
 overlayReads body tray colour (Named.Spot k) p = min (readAt (inputIn tray (k .input)) p (k .x) (k .y)) (topOf (firstFormat (recordsIn tray)))

@@ -11,9 +11,9 @@ use crate::names::name_topmost;
 use derived::OverlayDescriptor;
 use grid::Tiles;
 use grid::TilesRead;
+use inputs::PlanRead;
 use laws::Refusal;
 use numbers::NumberRead;
-use overlay::PlanRead;
 use props::ChainRead;
 use sight::PlaceRead;
 use sight::Sight;
@@ -126,7 +126,7 @@ pub fn look_overlay(
     };
     match props::check_chain(chain, 0) {
         ChainRead::Refused(e) => OverlayLookRead::Refused(e),
-        ChainRead::Read(c) => match overlay::read_inputs(body, tray, premultiplied, count, first) {
+        ChainRead::Read(c) => match inputs::read_inputs(body, tray, premultiplied, count, first) {
             PlanRead::Refused(e) => OverlayLookRead::Refused(e),
             PlanRead::Read(q) => {
                 if q.alpha {

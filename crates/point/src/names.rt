@@ -3,9 +3,9 @@ ghost use mathlib.Core.Bool.{true};
 ghost use mathlib.Core.Path.{_≡_};
 ghost use Rattle.laws.specs.Pick.{pick};
 ghost use Rattle.derived.specs.inner.Sound.{OverlaySound};
-ghost use Rattle.overlay.specs.inner.Block.{framesFrom};
+ghost use Rattle.image.specs.inner.Frames.{framesFrom};
 ghost use Rattle.overlay.specs.Overlay.{covers, spotAt};
-ghost use Rattle.point.specs.Point.{gridNames, liesOver, spotUnder, topmostFrom};
+ghost use Rattle.point.specs.Point.{gridNames, liesOver, spotUnder, topmostNamed};
 ghost use Rattle.point.specs.inner.Look.{Tiled, placeIn};
 ghost use Rattle.point.specs.declared.Named.{Named};
 use crate::Named;
@@ -76,7 +76,7 @@ pub(crate) fn name_topmost(
     l: CanvasPlace,
 ) -> Named
     requires { ⌜ OverlaySound (now body) d ⌝ }
-    ensures { λ r. ⌜ r ≡ topmostFrom (now (body .entry)) d (placeIn l) 0 Named.Fill (framesFrom (d .count) (now (tray .entry)) first) ⌝ }
+    ensures { λ r. ⌜ r ≡ topmostNamed (now (body .entry)) d (placeIn l) 0 Named.Fill (framesFrom (d .count) (now (tray .entry)) first) ⌝ }
 {
     let count = d.count;
     let mut at = first;

@@ -4,36 +4,37 @@ use mathlib.Core.List.{List, []}
 use mathlib.Core.Path.{_∙_, _≡_, ap, ap₂, refl, sym}
 use Prim.Native.Nat.{_<_, _≤_, ℕ}
 use Rattle.laws.proofs.Out.{Holds, andThen-done, holds-map, refuse-done, refuse-no, then-done}
+use Rattle.laws.specs.Any.{any}
 use Rattle.laws.specs.Out.{Out, andThen, done, refuse}
 use Rattle.laws.specs.Pick.{pick}
+use Rattle.laws.specs.Puts.{Bytes}
 use Rattle.numbers.specs.Number.{lastByte, onNumber, readFrom, readNumber}
 use Rattle.numbers.specs.declared.NumberRead.the-variants.{Number}
 use Rattle.image.proofs.RecordLaws.{on-number}
-use Rattle.image.proofs.RoundTrip.{Tame}
-use Rattle.image.specs.Bytes.{Bytes}
 use Rattle.image.specs.Format.{topOf}
-use Rattle.image.specs.Picture.{Pic}
-use Rattle.image.specs.Sound.{FormSound}
+use Rattle.image.specs.Sound.{FormSound, SizeSound}
+use Rattle.image.specs.Tray.{recordsIn}
+use Rattle.planes.proofs.RoundTrip.{InRange}
+use Rattle.planes.specs.Picture.{Pic}
 use Rattle.fill.specs.declared.Colour.{Colour}
-use Rattle.derived.specs.inner.Sound.{CanvasSound}
 use Rattle.props.proofs.ChainLaws.{Applied}
 use Rattle.props.specs.Chain.{chainAt, countAt, entriesAt}
 use Rattle.props.specs.declared.entry.PropertyEntry.{PropertyEntry}
+use Rattle.transform.specs.Chain.{NotIscl}
 use Rattle.transform.specs.Place.{Place}
-use Rattle.sight.specs.Chain.{NotIscl}
 use Rattle.sight.specs.declared.Sight.{Sight}
 use Rattle.grid.proofs.GridLaws.{tiles-taken}
 use Rattle.grid.proofs.TilesLaws.{tiles-number}
-use Rattle.grid.specs.inner.Ready.{TilesTaken}
 use Rattle.grid.specs.Run.{gridOn}
 use Rattle.grid.specs.Tiles.{tilesAt}
 use Rattle.grid.specs.declared.tiles.Tiles.{Tiles}
+use Rattle.grid.specs.inner.Ready.{TilesTaken}
 use Rattle.overlay.proofs.RunLaws.{Took, took}
-use Rattle.overlay.specs.Overlay.{some}
-use Rattle.overlay.specs.Run.{Inputs, alphaAbove, composed, firstFormat, inputsAt}
-use Rattle.scene.proofs.AfterLaws.{tame-back}
-use Rattle.scene.proofs.ComposedLaws.{grid-tame, overlay-tame}
-use Rattle.scene.proofs.CourseLaws.{chain-tame}
+use Rattle.inputs.specs.Inputs.{Inputs, alphaAbove, firstFormat, inputsAt}
+use Rattle.overlay.specs.Run.{composed}
+use Rattle.scene.proofs.AfterLaws.{in-range-back}
+use Rattle.scene.proofs.ComposedLaws.{grid-in-range, overlay-in-range}
+use Rattle.scene.proofs.ChainPlanLaws.{chain-in-range}
 use Rattle.scene.specs.Chain.{Drawn, chainDrawn}
 use Rattle.scene.specs.Scene.{gridDrawn, gridScene, overlayDrawn, overlayScene}
 use Rattle.point.proofs.AlikeLaws.{grid-blind, overlay-blind}
@@ -44,7 +45,7 @@ use Rattle.point.proofs.OverlayShown.{inputs-records, none-above, overlay-even,
 use Rattle.point.proofs.Runs.{Agrees, agrees-as, agrees-number, agrees-then, on-taken, unscaled}
 use Rattle.point.specs.Agreement.{CarriedFrom, CarriedTo, InTray, NoAlpha, NoScaling, canvasHeight, canvasWidth, chainCarries, chainSight, noChain}
 use Rattle.point.specs.Point.{gridNames, gridPoint, overlayNames, overlayPoint, seeThroughFrame}
-use Rattle.point.specs.Read.{gridReads, overlayReads, recordsIn}
+use Rattle.point.specs.Read.{gridReads, overlayReads}
 use Rattle.point.specs.declared.Named.{Named}
 use Rattle.point.specs.declared.Point.{Point}
 use Rattle.point.specs.declared.Spot.{Spot}
@@ -146,21 +147,21 @@ module _ (body tray : List ℕ) (bytes : Bytes body) (flag : Bool) (n at : ℕ) 
 -- ---- an overlay's inputs that were taken, without alpha
 
 module _ (body tray list : List ℕ) (colour : Colour) (bytes : Bytes body) (flag : Bool) (n at : ℕ) (number : readNumber tray 0 ≡ Number n at) (es : List PropertyEntry) (applied : Applied NotIscl flag es) (q : Inputs)
-    (taken : inputsAt body tray list n at ≡ done q) (none : some seeThroughFrame (recordsIn tray) ≡ false) where
+    (taken : inputsAt body tray list n at ≡ done q) (none : any seeThroughFrame (recordsIn tray) ≡ false) where
   abbrev overlaid : Pic
   overlaid = composed body tray list colour q
 
   inputs : Took body tray list n at q
   inputs = took body tray list n at q taken
 
-  opaque : some seeThroughFrame (q .frames) ≡ false
-  opaque = ap (some seeThroughFrame) (sym (inputs-records body tray list n at q number inputs)) ∙ none
+  opaque : any seeThroughFrame (q .frames) ≡ false
+  opaque = ap (any seeThroughFrame) (sym (inputs-records body tray list n at q number inputs)) ∙ none
 
   -- the canvas has places
   canvas-sides : (overlaid .form .width ≡ q .descriptor .«output_width») × (overlaid .form .height ≡ q .descriptor .«output_height»)
   canvas-sides = overlay-sides body tray list colour q
 
-  canvas : CanvasSound (overlaid .form .width) (overlaid .form .height)
+  canvas : SizeSound (record { width = overlaid .form .width; height = overlaid .form .height })
   canvas = rw (canvas-sides .0, canvas-sides .1) (inputs .offsets .canvas)
 
   abbrev overlayPointed : ℕ → ℕ → Out Point
@@ -170,11 +171,11 @@ module _ (body tray list : List ℕ) (colour : Colour) (bytes : Bytes body) (fla
   sides-point x y = ap₂ (λ (w h : ℕ). pointOn es flag w h x y (overlayNames body q)) (canvas-sides .0) (canvas-sides .1)
 
   -- 18 an input with alpha
-  not-18 : (x y : ℕ) → refuse (some seeThroughFrame (q .frames)) 18 (overlayPointed x y) ≡ overlayPointed x y
+  not-18 : (x y : ℕ) → refuse (any seeThroughFrame (q .frames)) 18 (overlayPointed x y) ≡ overlayPointed x y
   not-18 x y = refuse-no _ _ opaque
 
   -- 16 an alpha sample above top
-  not-16 : refuse (some (alphaAbove tray (topOf (firstFormat (q .frames)))) (q .frames)) 16 (chainDrawn es flag overlaid) ≡ chainDrawn es flag overlaid
+  not-16 : refuse (any (alphaAbove tray (topOf (firstFormat (q .frames)))) (q .frames)) 16 (chainDrawn es flag overlaid) ≡ chainDrawn es flag overlaid
   not-16 = refuse-no _ _ (none-above tray (topOf (firstFormat (q .frames))) (q .frames) opaque)
 
   chained-agree : Holds (λ (d : Drawn). ReadsBack (d .pic)) (chainDrawn es flag overlaid) → (x y : ℕ) → Agrees (overlayReads body tray colour) x y (chainDrawn es flag overlaid) (overlayPointed x y)
@@ -186,14 +187,14 @@ module _ (body tray list : List ℕ) (colour : Colour) (bytes : Bytes body) (fla
       drawn x y output spare m)
 
   inputs-agree : Holds (λ (d : Drawn). ReadsBack (d .pic)) (chainDrawn es flag overlaid) → (x y : ℕ)
-      → Agrees (overlayReads body tray colour) x y (refuse (some (alphaAbove tray (topOf (firstFormat (q .frames)))) (q .frames)) 16 (chainDrawn es flag overlaid)) (refuse (some seeThroughFrame (q .frames)) 18 (overlayPointed x y))
+      → Agrees (overlayReads body tray colour) x y (refuse (any (alphaAbove tray (topOf (firstFormat (q .frames)))) (q .frames)) 16 (chainDrawn es flag overlaid)) (refuse (any seeThroughFrame (q .frames)) 18 (overlayPointed x y))
   inputs-agree drawn x y = agrees-as (overlayReads body tray colour) x y (sym not-16) (sym (not-18 x y)) (chained-agree drawn x y)
 
 -- ---- the calls
 
 -- the records that a chain writes read back
-chain-back : (es : List PropertyEntry) (flag : Bool) (P : Pic) → Tame P → Holds (λ (d : Drawn). ReadsBack (d .pic)) (chainDrawn es flag P)
-chain-back es flag P k = holds-map _ _ _ (λ d f. tame-back (d .pic) f) (chain-tame es flag P k)
+chain-back : (es : List PropertyEntry) (flag : Bool) (P : Pic) → InRange P → Holds (λ (d : Drawn). ReadsBack (d .pic)) (chainDrawn es flag P)
+chain-back es flag P k = holds-map _ _ _ (λ d f. in-range-back (d .pic) f) (chain-in-range es flag P k)
 
 -- a grid's point run that answers, with any chain: its count, its chain and its tiles were taken
 record GridTaken (body tray chain : List ℕ) : Type 0 where
@@ -245,7 +246,7 @@ grid-demand body tray chain flag bytes small =
           (agrees-number (gridReads tray) x y (readNumber tray 0) _ _
           (λ n at c. agrees-then (gridReads tray) x y (chainAt chain 0) _ _
           (λ es k. agrees-then (gridReads tray) x y (tilesAt body tray n at) _ _
-          (λ t e. tiles-agree body tray bytes flag n at c es (unscaled flag es (plain es k)) t e (chain-back es flag (gridOn tray t) (grid-tame body tray n at t bytes small c e)) x y))))
+          (λ t e. tiles-agree body tray bytes flag n at c es (unscaled flag es (plain es k)) t e (chain-back es flag (gridOn tray t) (grid-in-range body tray n at t bytes small c e)) x y))))
           output spare m;
       blind = λ other a x y. grid-blind body tray other chain flag x y a;
       once = λ x y u v a b k p. places-once tray chain flag _ _ _ (grid-places body tray chain flag bytes (grid-read body tray chain flag x y a p)) x y u v a b k p;
@@ -268,7 +269,7 @@ record OverlayTaken (body tray chain list : List ℕ) : Type 0 where
   chained : chainAt chain 0 ≡ done es
   q : Inputs
   taken : inputsAt body tray list n at ≡ done q
-  opaque : some seeThroughFrame (q .frames) ≡ false
+  opaque : any seeThroughFrame (q .frames) ≡ false
 
 overlay-read : (body tray chain : List ℕ) (flag : Bool) (list : List ℕ) (x y : ℕ) (a : Point) → overlayPoint body tray chain flag list x y ≡ done a → OverlayTaken body tray chain list
 overlay-read body tray chain flag list x y a e =
@@ -309,7 +310,7 @@ overlay-demand body tray chain flag list colour bytes small =
           (agrees-number (overlayReads body tray colour) x y (readNumber tray 0) _ _
           (λ n at c. agrees-then (overlayReads body tray colour) x y (chainAt chain 0) _ _
           (λ es k. agrees-then (overlayReads body tray colour) x y (inputsAt body tray list n at) _ _
-          (λ q e. inputs-agree body tray list colour bytes flag n at c es (unscaled flag es (plain .0 es k)) q e (plain .1) (chain-back es flag (composed body tray list colour q) (overlay-tame body tray list colour n at q bytes c e)) x y))))
+          (λ q e. inputs-agree body tray list colour bytes flag n at c es (unscaled flag es (plain .0 es k)) q e (plain .1) (chain-back es flag (composed body tray list colour q) (overlay-in-range body tray list colour n at q bytes c e)) x y))))
           output spare m;
       blind = λ other a x y. overlay-blind body tray other chain flag list x y a;
       once = λ x y u v a b k p. places-once tray chain flag _ _ _ (overlay-places body tray chain flag list (overlay-read body tray chain flag list x y a p)) x y u v a b k p;

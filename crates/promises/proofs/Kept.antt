@@ -1,14 +1,15 @@
 -- The promises, each by its law.
+use mathlib.Core.List.{List}
 use mathlib.Core.Path.{_≡_}
 use Prim.Native.Nat.{_-_, _^_, _≤_, ℕ}
 use lib.ListN.{drop, take}
-use mathlib.Core.List.{List}
 use Rattle.laws.proofs.Out.{holds-done}
 use Rattle.laws.specs.Out.{done}
+use Rattle.laws.specs.Puts.{Bytes}
+use Rattle.numbers.proofs.Number.{read-shortest, round-trip}
 use Rattle.numbers.specs.Number.{numberBytes, readNumber}
 use Rattle.numbers.specs.declared.NumberRead.the-variants.{Number}
-use Rattle.image.specs.Bytes.{Bytes}
-use Rattle.numbers.proofs.Number.{read-shortest, round-trip}
+use Rattle.image.specs.Sound.{SizeSound}
 use Rattle.fill.proofs.Bound.{fill-within}
 use Rattle.fill.specs.Figure.{AllWithin, figuresOf}
 use Rattle.fill.specs.Fill.{fillOf}
@@ -17,20 +18,19 @@ use Rattle.fill.specs.declared.Ycbcr.{Ycbcr}
 use Rattle.derived.proofs.OffsetLaws.{offset-is}
 use Rattle.props.proofs.ApertureLaws.{resolve-exact, resolve-taken}
 use Rattle.props.proofs.SizeLaws.{chain-sound, scaled-covers, scaled-least}
-use Rattle.props.specs.Sound.{SizeSound}
 use Rattle.sight.proofs.Agreement.{covers-some}
 use Rattle.steps_text.proofs.Cases.{example}
 use Rattle.steps_text.proofs.TextLaws.{text-fits, text-prefix}
-use Rattle.resample.specs.Depth.{levelOf, topAt}
 use Rattle.resample.proofs.DepthLaws.{level-mono, level-top, level-zero}
 use Rattle.resample.proofs.MeanLaws.{area-constant, weights-whole}
 use Rattle.resample.proofs.SameLaws.{area-same, nearest-same, rescaled-same}
+use Rattle.resample.specs.Depth.{levelOf}
 use Rattle.overlay.proofs.Sentences.{composed-settled, composed-uncovered}
 use Rattle.session.proofs.CallLaws.{blank-before-alpha, blank-leaves, blank-over, calls-leave, other-cell, place-leaves, place-over}
-use Rattle.session.proofs.MadeLaws.{made-ok, ok-made}
 use Rattle.session.proofs.ComposeLaws.{any-order-composes}
+use Rattle.session.proofs.MadeLaws.{made-ok, ok-made}
 use Rattle.cases.proofs.Holds.{table-holds}
-use Rattle.capi.proofs.CanvasLaws.{canvas-words, words-small}
+use Rattle.words.proofs.CanvasLaws.{canvas-words, words-small}
 use Rattle.promises.proofs.DemandLaws.{grid-demand, overlay-demand}
 use Rattle.promises.specs.Promises.{Promises}
 
@@ -39,7 +39,6 @@ unfolding Bytes
 shortest = read-shortest
 
 depth-top : (old new : ℕ) → 8 ≤ old → old ≤ 16 → levelOf old new (2 ^ old - 1) ≡ 2 ^ new - 1
-unfolding topAt
 depth-top = level-top
 
 fill-figures : (red green blue depth : ℕ) (colour : Colour) (s : Ycbcr) → red ≤ 65535 → green ≤ 65535 → blue ≤ 65535 → fillOf red green blue depth colour ≡ done s

@@ -6,20 +6,23 @@ use Prim.Native.Nat.{_*_, _+_, _-_, _<_, _^_, _≤_, ℕ}
 use lib.Dec.{ltb}
 use lib.IntN.{subℕ, ℤ}
 use lib.ListN.{drop, getD, length, take}
+use Rattle.laws.specs.Any.{any}
 use Rattle.laws.specs.Ascii.{ascii}
 use Rattle.laws.specs.Out.{Out, done, fitted}
+use Rattle.laws.specs.Puts.{Bytes}
 use Rattle.numbers.specs.Field.{offsetOf}
 use Rattle.numbers.specs.Number.{numberBytes, readNumber}
 use Rattle.numbers.specs.declared.NumberRead.the-variants.{Number}
-use Rattle.image.specs.Bytes.{Bytes, decode, sizeOf}
-use Rattle.image.specs.Format.{columnsOf, hasAlpha, hasPart, rowsOf, topOf}
-use Rattle.image.specs.Picture.{Agree, Pic, pixel}
+use Rattle.image.specs.Format.{Covers, columnsOf, hasAlpha, hasPart, rowsOf, topOf}
 use Rattle.image.specs.Record.{recordOf}
-use Rattle.image.specs.Sound.{FormSound}
+use Rattle.image.specs.Sound.{FormSound, SizeSound}
 use Rattle.image.specs.declared.format.Form.{Form}
 use Rattle.image.specs.declared.format.Part.{Part}
 use Rattle.image.specs.declared.format.Part.the-variants.{Alpha}
 use Rattle.image.specs.declared.record.Frame.{Frame}
+use Rattle.image.specs.declared.size.Size.{Size}
+use Rattle.planes.specs.Bytes.{decode, pictureIn, sizeOf}
+use Rattle.planes.specs.Picture.{Agree, Pic, pixel}
 use Rattle.fill.specs.Figure.{AllWithin, figuresOf}
 use Rattle.fill.specs.Fill.{fillOf}
 use Rattle.fill.specs.declared.Colour.{Colour}
@@ -28,30 +31,29 @@ use Rattle.derived.specs.Grid.{gridOf}
 use Rattle.derived.specs.declared.grid.GridDescriptor.{GridDescriptor}
 use Rattle.props.specs.Aperture.{ExactRect, resolveOf}
 use Rattle.props.specs.Chain.{foldChain}
-use Rattle.props.specs.Scale.{scaled}
+use Rattle.props.specs.Scale.{scaledSide}
 use Rattle.props.specs.Size.{sizeAfter}
-use Rattle.props.specs.Sound.{SizeSound}
 use Rattle.props.specs.declared.clap.Clap.{Clap}
 use Rattle.props.specs.declared.clap.CropRect.{CropRect}
 use Rattle.props.specs.declared.entry.PropertyEntry.{PropertyEntry}
-use Rattle.props.specs.declared.size.Size.{Size}
 use Rattle.transform.specs.Place.{Place}
 use Rattle.sight.specs.Carry.{Tracked}
-use Rattle.sight.specs.Seen.{Covers}
 use Rattle.sight.specs.declared.Sight.{Sight}
 use Rattle.steps_text.specs.Text.{textOf}
 use Rattle.resample.specs.Area.{area, footOf, weighed}
 use Rattle.resample.specs.Depth.{levelOf, rescaled}
 use Rattle.resample.specs.Nearest.{nearest}
 use Rattle.grid.specs.Mosaic.{among}
-use Rattle.grid.specs.Run.{framesIn, gridRun, tileIn}
+use Rattle.grid.specs.Run.{framesIn, gridRun}
 use Rattle.grid.specs.Tiles.{countOf, tilesOf}
 use Rattle.grid.specs.declared.tiles.Tiles.{Tiles}
+use Rattle.inputs.specs.Inputs.{Inputs, firstFormat, inputsAt}
+use Rattle.inputs.specs.Layers.{layersOf}
 use Rattle.overlay.specs.Covered.{AllCut, endsAs, hides, topmost}
-use Rattle.overlay.specs.Overlay.{coversAt, some}
-use Rattle.overlay.specs.Run.{Inputs, composed, fillFor, firstFormat, inputsAt, layersOf}
+use Rattle.overlay.specs.Overlay.{coversAt}
+use Rattle.overlay.specs.Run.{composed, fillFor}
 use Rattle.session.specs.Sequence.{Call, MadeBy, alphaNumber, blank, callsRun, cellAt, cellIn, drawnAt, drawnPic, firstTile, leftAt, leftBytes, pictureOf, place, sessionRun}
-use Rattle.session.specs.Session.{Drawn as SessionDrawn, blankAt, reservedForm}
+use Rattle.session.specs.Session.{CanvasAfter, blankAt, reservedForm}
 use Rattle.session.specs.State.{stateOk}
 use Rattle.session.specs.declared.state.Canvas.{Canvas}
 use Rattle.scene.specs.Chain.{Drawn}
@@ -63,8 +65,8 @@ use Rattle.point.specs.Read.{gridReads, overlayReads}
 use Rattle.point.specs.declared.Named.{Named}
 use Rattle.point.specs.declared.Point.{Point}
 use Rattle.point.specs.declared.Spot.{Spot}
-use Rattle.cases.specs.Table.{Holds, table}
-use Rattle.capi.specs.Canvas.{canvasOf, wordsOf}
+use Rattle.cases.specs.Table.{AllHold, table}
+use Rattle.words.specs.Canvas.{canvasOf, wordsOf}
 
 -- ---- demand 3, and document 01's "Point call", of a picture run and the point runs, which take a tray and a place; bare are those with
 -- the empty chain
@@ -129,8 +131,8 @@ pub record Promises : Type 0 where
   pub clapExact : (c : Clap) (width height : ℕ) (r : CropRect) → 0 < c .«width_d» → 0 < c .«horiz_off_d» → 0 < c .«height_d» → 0 < c .«vert_off_d» → ExactRect c width height r
       → resolveOf c width height ≡ done r
   -- "size × n / d rounded up": the least whole number that is not below it
-  pub isclCovers : (side num den : ℕ) → 0 < den → side * num ≤ scaled side num den * den
-  pub isclLeast : (side num den m : ℕ) → 0 < den → side * num ≤ m * den → scaled side num den ≤ m
+  pub isclCovers : (side num den : ℕ) → 0 < den → side * num ≤ scaledSide side num den * den
+  pub isclLeast : (side num den m : ℕ) → 0 < den → side * num ≤ m * den → scaledSide side num den ≤ m
   -- "Limit L is 2^30 pixels": no chain makes a picture above it, or one without columns or rows
   pub chainWithin : (essentialOnly : Bool) (es : List PropertyEntry) (z y : Size) → SizeSound z → foldChain sizeAfter essentialOnly es z ≡ done y → SizeSound y
   -- ---- "Steps program"
@@ -165,7 +167,7 @@ pub record Promises : Type 0 where
 
   -- "A place that no input covers holds fill and fill alpha exactly"
   pub overlayUncovered : (body tray list : List ℕ) (colour : Colour) (n at : ℕ) (q : Inputs) → Bytes body → inputsAt body tray list n at ≡ done q → (x y : ℕ)
-      → some (λ l. coversAt l x y) (layersOf body tray list (q .descriptor) 0 (q .frames)) ≡ false → (p : Part)
+      → any (λ l. coversAt l x y) (layersOf body tray list (q .descriptor) 0 (q .frames)) ≡ false → (p : Part)
       → pixel (composed body tray list colour q) p x y ≡ fillFor (q .descriptor .«canvas_fill») (firstFormat (q .frames) .depth) colour p
   -- "one whose covering inputs all have alpha top or straight alpha 0 there ends as the topmost at top, capped at top, with alpha top, or
   -- as the fill where there is none"
@@ -181,13 +183,13 @@ pub record Promises : Type 0 where
   -- `composite_grid` comes to over body and tray
   pub sessionComposes : (body tray : List ℕ) (t : Tiles) → Bytes body → tilesOf body tray ≡ done t → (R : ℕ → List ℕ) (F : ℕ → Frame)
       → ((i : ℕ) → i < countOf (t .desc) → recordOf (R i) ≡ done (F i))
-      → ((i : ℕ) → i < countOf (t .desc) → Agree (decode (R i) (F i)) (tileIn tray (framesIn tray t) i))
+      → ((i : ℕ) → i < countOf (t .desc) → Agree (decode (R i) (F i)) (pictureIn tray (framesIn tray t) i))
       → (js : List ℕ) → ((i : ℕ) → among i js ≡ ltb i (countOf (t .desc))) → (d : List ℕ) → sizeOf (reservedForm (t .desc) (t .tile)) ≤ length d
       → sessionRun body R js d ≡ gridRun body tray (length d)
   -- "It lends one buffer holding, from the first accepted place, the tight canvas record with an alpha plane reserved behind it. Its alpha
   -- number turns 1 at the first tile with alpha; past that plane nothing is written. Unplaced cells are 0": after start and accepted
   -- calls, of which the last is the head of the list
-  pub sessionLeaves : (body d : List ℕ) (g : GridDescriptor) (c : Call) (cs : List Call) (x : SessionDrawn) → gridOf body ≡ done g → callsRun body (c ∷ cs) d ≡ done x
+  pub sessionLeaves : (body d : List ℕ) (g : GridDescriptor) (c : Call) (cs : List Call) (x : CanvasAfter) → gridOf body ≡ done g → callsRun body (c ∷ cs) d ≡ done x
       → (x .buffer ≡ leftBytes g (firstTile c cs) (c ∷ cs) ++ drop (sizeOf (reservedForm g (firstTile c cs))) d)
       × (x .canvas .desc ≡ g) × (x .canvas .tile ≡ firstTile c cs) × (x .canvas .alpha ≡ alphaNumber (c ∷ cs))
   -- "Placing a cell again overwrites it, but a tile without alpha leaves the alpha there"; a call for another cell leaves it as it was
@@ -213,7 +215,7 @@ pub record Promises : Type 0 where
   -- ---- "Cases"
 
   -- "Starred cases make one table with one proved statement"
-  pub cases : Holds table
+  pub cases : AllHold table
   -- ---- "Point call" and demand 3
 
   pub gridDemand : (body tray chain : List ℕ) (essentialOnly : Bool) → GridDemand body tray chain essentialOnly

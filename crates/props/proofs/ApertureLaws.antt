@@ -18,7 +18,7 @@ use Rattle.props.specs.declared.clap.Clap.{Clap}
 use Rattle.props.specs.declared.clap.CropRect.{CropRect}
 use Rattle.props.specs.declared.clap.Resolved.{Resolved}
 use Rattle.props.specs.declared.clap.Resolved.the-variants.{Rect}
-use Rattle.props.specs.declared.clap.Strip.{Strip}
+use Rattle.props.specs.declared.clap.AxisPart.{AxisPart}
 
 -- ---- the edge (a - b) / den, where a - b is below 0 and where it is not
 
@@ -66,7 +66,7 @@ whole k den e =
     let r : k % den ≡ 0 = eqb-true (k % den) 0 (not-false _ e) in
     omega (arith, div-add-mod' k den)
 
-pub edge-taken : (z : ℤ) (den gap size : ℕ) (a : Strip) → edgeOf z den gap size ≡ done a → (a .size ≡ size) × (a .edge ≤ gap) × (pos (a .edge * den) ≡ z)
+pub edge-taken : (z : ℤ) (den gap size : ℕ) (a : AxisPart) → edgeOf z den gap size ≡ done a → (a .size ≡ size) × (a .edge ≤ gap) × (pos (a .edge * den) ≡ z)
 unfolding edgeOf
 edge-taken (pos k) den gap size a e =
     let f = refuse-done _ _ _ a e in
@@ -75,7 +75,7 @@ edge-taken (pos k) den gap size a e =
     (sym (ap (λ x. x .size) q), omega (arith, ltb-false gap (k / den) (g .0), ap (λ x. x .edge) q), ap (λ x. pos (x .edge * den)) (sym q) ∙ ap pos (whole k den (f .0)))
 edge-taken (negsuc k) den gap size a e = let f = refuse-done _ _ _ a e in not-done _ a (f .1)
 
-pub axis-taken : (n d offN offD input : ℕ) (a : Strip) → axisOf n d offN offD input ≡ done a → Exact n d offN offD input (a .edge) (a .size)
+pub axis-taken : (n d offN offD input : ℕ) (a : AxisPart) → axisOf n d offN offD input ≡ done a → Exact n d offN offD input (a .edge) (a .size)
 unfolding axisOf
 axis-taken n d offN offD input a e =
     let f = refuse-done _ _ _ a e in
@@ -86,7 +86,7 @@ axis-taken n d offN offD input a e =
     let k = edge-taken _ _ _ _ a (j .1) in
     let l = ltb-false input (n / d) (j .0) in
     record {
-      some = positive (a .size) (k .0) (eqb-false (n / d) 0 (i .0));
+      positive = positive (a .size) (k .0) (eqb-false (n / d) 0 (i .0));
       whole = ap (λ x. x * d) (k .0) ∙ whole n d (h .0);
       inside = omega arith;
       placed = k .2 ∙ ap (λ (m : ℕ). pos ((input - m) * offD) +ℤ pos 2 *ℤ signedOf (2 ^ 32) offN) (sym (k .0));
@@ -103,13 +103,13 @@ edge-exact k den gap size h l =
     ∙ refuse-no _ _ (le-ltb gap (k * den / den) (omega arith))
     ∙ ap (λ (m : ℕ). done (record { edge = m; size = size })) q
 
-pub axis-exact : (n d offN offD input : ℕ) (a : Strip) → 0 < d → 0 < offD → Exact n d offN offD input (a .edge) (a .size) → axisOf n d offN offD input ≡ done a
+pub axis-exact : (n d offN offD input : ℕ) (a : AxisPart) → 0 < d → 0 < offD → Exact n d offN offD input (a .edge) (a .size) → axisOf n d offN offD input ≡ done a
 unfolding axisOf
 axis-exact n d offN offD input a h l x =
     let q : n / d ≡ a .size = ap (λ (m : ℕ). m / d) (sym (x .whole)) ∙ mul-div-cancel (a .size) h in
     let r : n % d ≡ 0 = ap (λ (m : ℕ). m % d) (sym (x .whole)) ∙ mul-mod-left (a .size) d in
     refuse-no _ _ (ne-eqb d 0 (λ e. above d h e)) ∙ refuse-no _ _ (ne-eqb offD 0 (λ e. above offD l e)) ∙ refuse-no _ _ (ap not (eq-eqb (n % d) 0 r))
-    ∙ refuse-no _ _ (ne-eqb (n / d) 0 (λ e. above (a .size) (x .some) (sym q ∙ e))) ∙ refuse-no _ _ (le-ltb input (n / d) (omega (arith, x .inside)))
+    ∙ refuse-no _ _ (ne-eqb (n / d) 0 (λ e. above (a .size) (x .positive) (sym q ∙ e))) ∙ refuse-no _ _ (le-ltb input (n / d) (omega (arith, x .inside)))
     ∙ ap (λ (m : ℕ). edgeOf (pos ((input - m) * offD) +ℤ pos 2 *ℤ signedOf (2 ^ 32) offN) (2 * offD) (input - m) m) q
     ∙ ap (λ (z : ℤ). edgeOf z (2 * offD) (input - a .size) (a .size)) (sym (x .placed))
     ∙ edge-exact (a .edge) (2 * offD) (input - a .size) (a .size) (omega arith) (omega (arith, x .inside))
@@ -139,7 +139,7 @@ resolve-exact c width height r i j k l x =
 pub resolve-inside : (c : Clap) (width height : ℕ) (r : CropRect) → resolveOf c width height ≡ done r → Inside r width height
 resolve-inside c width height r e =
     let x = resolve-taken c width height r e in
-    record { across = x .across .inside; down = x .down .inside; wide = x .across .some; tall = x .down .some }
+    record { across = x .across .inside; down = x .down .inside; wide = x .across .positive; tall = x .down .positive }
 
 pub resolve-holds : (c : Clap) (width height : ℕ) → Holds (λ r. Inside r width height) (resolveOf c width height)
 resolve-holds c width height = done-holds _ _ (λ r e. resolve-inside c width height r e)

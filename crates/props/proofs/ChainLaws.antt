@@ -16,12 +16,12 @@ use Rattle.numbers.specs.Number.{onNumber, readNumber}
 use Rattle.numbers.specs.declared.NumberRead.{NumberRead}
 use Rattle.numbers.specs.declared.NumberRead.the-variants.{Number}
 use Rattle.props.specs.Chain.{applies, chainAt, countAt, entriesAt, foldChain}
-use Rattle.props.specs.inner.Judged.{Judged, judgedAt}
 use Rattle.props.specs.Entry.{entryAt}
 use Rattle.props.specs.declared.chain.Chain.{Chain}
 use Rattle.props.specs.declared.entry.EntryAt.{EntryAt}
 use Rattle.props.specs.declared.entry.Property.{Property}
 use Rattle.props.specs.declared.entry.PropertyEntry.{PropertyEntry}
+use Rattle.props.specs.inner.Judged.{Judged, judgedAt}
 
 -- ---- the count
 
@@ -114,12 +114,12 @@ unfoldable pub kept : Chain → Out (List PropertyEntry) → Out Chain
 kept c o = andThen o (λ es. done c)
 
 pub judged-start : (s : List ℕ) (at : ℕ) (c : Chain) → countAt s at ≡ done c → judgedAt s at ≡ kept c (entriesAt (c .count) s (c .first))
-unfolding judgedAt kept
-judged-start s at c e = then-done _ e
+unfolding judgedAt chainAt kept
+judged-start s at c e = rw e (ap (λ o. andThen o (λ es. done c)) (then-done _ refl))
 
 pub judged-none : (s : List ℕ) (at : ℕ) (r : Refusal) → countAt s at ≡ refused r → judgedAt s at ≡ refused r
-unfolding judgedAt
-judged-none s at r e = then-refused _ e
+unfolding judgedAt chainAt
+judged-none s at r e = then-refused _ (then-refused _ e)
 
 pub kept-next : (c : Chain) (n : ℕ) (s : List ℕ) (at : ℕ) (x : EntryAt) → 0 < n → entryAt s at ≡ done x → kept c (entriesAt n s at) ≡ kept c (entriesAt (n - 1) s (x .next))
 unfolding kept
@@ -142,10 +142,8 @@ pub judged-chain : (s : List ℕ) (at : ℕ) (c : Chain) → judgedAt s at ≡ d
 unfolding judgedAt chainAt
 judged-chain s at c e =
     let a = andThen-done _ _ c e in
-    let b = andThen-done _ _ c (a .2) in
-    let p : a .0 ≡ c = done-same _ c (b .2) in
-    let q : entriesAt (c .count) s (c .first) ≡ done (b .0) = ap (λ k. entriesAt (k .count) s (k .first)) (sym p) ∙ b .1 in
-    (record { few = count-few s at c (a .1 ∙ ap done p); entries = b .0; read = q }, then-done _ (a .1 ∙ ap done p) ∙ q)
+    let q : entriesAt (c .count) s (c .first) ≡ done (a .0) = sym (then-done _ (a .2)) ∙ a .1 in
+    (record { bounded = count-few s at c (a .2); entries = a .0; read = q }, a .1)
 
 -- how many they are
 pub judged-count : (s : List ℕ) (at : ℕ) (c : Chain) → judgedAt s at ≡ done c → andThen (chainAt s at) (λ es. done (length es)) ≡ done (c .count)
@@ -164,18 +162,18 @@ chain-few s at es e =
 pub refused-as : {A B : Type 0} (q r : Refusal) → _≡_ {A = Out A} (refused q) (refused r) → _≡_ {A = Out B} (refused q) (refused r)
 refused-as q r e = let p : q ≡ r = cc in ap refused p
 
+counted : (s : List ℕ) (at : ℕ) (es : List PropertyEntry) → chainAt s at ≡ done es → (c : Chain) × (countAt s at ≡ done c)
+unfolding chainAt
+counted s at es k = let a = andThen-done _ _ es k in (a .0, a .1)
+
 -- the judgement and the chain refuse alike
 pub judged-refused : (s : List ℕ) (at : ℕ) (r : Refusal) → judgedAt s at ≡ refused r → chainAt s at ≡ refused r
-unfolding judgedAt chainAt
-judged-refused s at r e = go (countAt s at) refl
+unfolding judgedAt
+judged-refused s at r e = go (chainAt s at) refl
   where
-    entries : (c : Chain) (o : Out (List PropertyEntry)) → andThen o (λ es. done c) ≡ refused r → o ≡ refused r
-    entries c (refused q) k = refused-as q r (sym (then-refused (λ es. done c) refl) ∙ k)
-    entries c (done es) k = not-done r c (sym (sym (then-done (λ es. done c) refl) ∙ k))
-
-    go : (o : Out Chain) → countAt s at ≡ o → andThen o (λ c. entriesAt (c .count) s (c .first)) ≡ refused r
-    go (refused q) k = then-refused _ refl ∙ refused-as q r (sym (then-refused _ k) ∙ e)
-    go (done c) k = then-done _ refl ∙ entries c (entriesAt (c .count) s (c .first)) (sym (then-done _ k) ∙ e)
+    go : (o : Out (List PropertyEntry)) → chainAt s at ≡ o → o ≡ refused r
+    go (refused q) k = refused-as q r (sym (then-refused _ k) ∙ e)
+    go (done es) k = let c = counted s at es k in not-done r (c .0) (sym (sym (c .1) ∙ sym (then-done _ k) ∙ e))
 
 -- ---- folding
 

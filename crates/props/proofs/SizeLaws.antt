@@ -11,39 +11,40 @@ use Rattle.laws.proofs.Order.{by-order, mul-below, pick-false, pick-true}
 use Rattle.laws.proofs.Out.{Holds, andThen-done, done-holds, done-same, refuse-done}
 use Rattle.laws.specs.Out.{done}
 use Rattle.laws.specs.Pick.{pick}
-use Rattle.image.specs.Picture.{odd}
+use Rattle.image.specs.Format.{odd}
+use Rattle.image.specs.Sound.{SizeSound}
+use Rattle.image.specs.declared.size.Size.{Size}
 use Rattle.props.proofs.ApertureLaws.{resolve-inside}
 use Rattle.props.proofs.ChainLaws.{fold-holds}
 use Rattle.props.specs.Chain.{foldChain}
-use Rattle.props.specs.Scale.{changed, scaleOf, scaled, withinOf}
-use Rattle.props.specs.Size.{judgedSize, sizeAfter, swapped}
-use Rattle.props.specs.Sound.{Inside, SizeSound}
+use Rattle.props.specs.Scale.{changed, scaleOf, scaledSide, withinOf}
+use Rattle.props.specs.Size.{sizeAfter, swapped}
+use Rattle.props.specs.Sound.{Inside}
 use Rattle.props.specs.declared.clap.Clap.{Clap}
 use Rattle.props.specs.declared.clap.CropRect.{CropRect}
 use Rattle.props.specs.declared.entry.Property.{Property}
 use Rattle.props.specs.declared.entry.PropertyEntry.{PropertyEntry}
 use Rattle.props.specs.declared.iscl.Iscl.{Iscl}
-use Rattle.props.specs.declared.size.Size.{Size}
 
 -- ---- rounding up
 
--- the scaled side is the least whole number that is not below side * num / den
-pub scaled-covers : (side num den : ℕ) → 0 < den → side * num ≤ scaled side num den * den
-unfolding scaled
+-- the scaledSide side is the least whole number that is not below side * num / den
+pub scaled-covers : (side num den : ℕ) → 0 < den → side * num ≤ scaledSide side num den * den
+unfolding scaledSide
 scaled-covers side num den h = omega (arith, div-add-mod' (side * num + (den - 1)) den, mod-lt (side * num + (den - 1)) h)
 
-pub scaled-least : (side num den m : ℕ) → 0 < den → side * num ≤ m * den → scaled side num den ≤ m
-unfolding scaled
+pub scaled-least : (side num den m : ℕ) → 0 < den → side * num ≤ m * den → scaledSide side num den ≤ m
+unfolding scaledSide
 scaled-least side num den m h g =
     let a : side * num + (den - 1) < suc m * den = omega (arith, suc-mul m den) in
     omega (arith, div-lt-iff-lt-mul h .1 a)
 
 -- a part of something is something
-pub scaled-some : (side num den : ℕ) → 1 ≤ side → 1 ≤ num → 0 < den → 1 ≤ scaled side num den
+pub scaled-some : (side num den : ℕ) → 1 ≤ side → 1 ≤ num → 0 < den → 1 ≤ scaledSide side num den
 scaled-some side num den h g l =
-    by-order (scaled side num den) 1
+    by-order (scaledSide side num den) 1
     (λ o.
-    let z : scaled side num den ≡ 0 = omega arith in
+    let z : scaledSide side num den ≡ 0 = omega arith in
     let a : side * num ≤ 0 * den = rw z at (scaled-covers side num den l) in
     absurd (none a))
     (λ o. o)
@@ -61,14 +62,6 @@ not-zero k e = go (eqb-false k 0 e)
   where
     go : (k ≡ 0 → ⊥) → 1 ≤ k
     go f = omega arith
-
-pub judged-sound : (w h : ℕ) (y : Size) → judgedSize w h ≡ done y → SizeSound y
-unfolding judgedSize
-judged-sound w h y e =
-    let a = refuse-done _ _ _ y e in
-    let b = refuse-done _ _ _ y (a .1) in
-    let c = refuse-done _ _ _ y (b .1) in
-    sound-as _ y (done-same _ y (c .1)) (record { wide = not-zero w (a .0); tall = not-zero h (b .0); area = ltb-false _ _ (c .0) })
 
 within-sound : (z x y : Size) → 1 ≤ x .width → 1 ≤ x .height → withinOf z x ≡ done y → SizeSound y
 unfolding withinOf

@@ -9,17 +9,17 @@ use Rattle.numbers.specs.Field.{signedOf}
 use Rattle.props.specs.declared.clap.Clap.{Clap}
 use Rattle.props.specs.declared.clap.CropRect.{CropRect}
 use Rattle.props.specs.declared.clap.Resolved.{Resolved}
-use Rattle.props.specs.declared.clap.Strip.{Strip}
-use Rattle.props.specs.declared.clap.StripRead.{StripRead}
+use Rattle.props.specs.declared.clap.AxisPart.{AxisPart}
+use Rattle.props.specs.declared.clap.AxisPartRead.{AxisPartRead}
 
 -- the edge num / den on an axis with `gap` pixels to spare: 8 where it is not whole, 9 where it is below 0 or above gap
-unfoldable pub edgeOf : ℤ → ℕ → ℕ → ℕ → Out Strip
+unfoldable pub edgeOf : ℤ → ℕ → ℕ → ℕ → Out AxisPart
 edgeOf (pos k) den gap size = refuse (not (eqb (k % den) 0)) 8 (refuse (ltb gap (k / den)) 9 (done (record { edge = k / den; size = size })))
 edgeOf (negsuc k) den gap size = refuse (not (eqb (suc k % den) 0)) 8 (refused (reason 9))
 
 -- one axis: the size is n / d, and the edge ((input - size) * offset d + 2 * offset n) / (2 * offset d), where the offset's n is the
 -- 32-bit pattern of a signed number; 7 a zero denominator, 8 a size that is not whole, 9 a size 0 or above the input, then the edge's
-unfoldable pub axisOf : ℕ → ℕ → ℕ → ℕ → ℕ → Out Strip
+unfoldable pub axisOf : ℕ → ℕ → ℕ → ℕ → ℕ → Out AxisPart
 axisOf n d offN offD input =
     refuse (eqb d 0) 7
     (refuse (eqb offD 0) 7
@@ -36,9 +36,9 @@ resolveOf c width height =
     done (record { x = a .edge; y = b .edge; width = a .size; height = b .size })))
 
 -- what resolving an axis and an aperture answers
-abbrev pub stripOut : StripRead → Out Strip
-stripOut (StripRead.Read a) = done a
-stripOut (StripRead.Refused e) = refused e
+abbrev pub axisPartOut : AxisPartRead → Out AxisPart
+axisPartOut (AxisPartRead.Read a) = done a
+axisPartOut (AxisPartRead.Refused e) = refused e
 
 abbrev pub resolvedOut : Resolved → Out CropRect
 resolvedOut (Resolved.Rect r) = done r
@@ -51,7 +51,7 @@ NoRect (Resolved.Refused e) = Unit
 
 -- a part of an axis, by its edge and its size: the size is n / d, the part lies in the input, and the edge is the formula's number exactly
 pub record Exact (n d offN offD input edge size : ℕ) : Type 0 where
-  pub some : 1 ≤ size
+  pub positive : 1 ≤ size
   pub whole : size * d ≡ n
   pub inside : edge + size ≤ input
   pub placed : pos (edge * (2 * offD)) ≡ pos ((input - size) * offD) +ℤ pos 2 *ℤ signedOf (2 ^ 32) offN

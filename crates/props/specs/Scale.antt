@@ -5,11 +5,11 @@ use lib.Dec.{eqb, ltb}
 use Rattle.laws.specs.Out.{Out, done, refuse}
 use Rattle.laws.specs.Pick.{pick}
 use Rattle.props.specs.declared.iscl.Iscl.{Iscl}
-use Rattle.props.specs.declared.size.Size.{Size}
+use Rattle.image.specs.declared.size.Size.{Size}
 
 -- side * num / den, rounded up
-unfoldable pub scaled : ℕ → ℕ → ℕ → ℕ
-scaled side num den = (side * num + (den - 1)) / den
+unfoldable pub scaledSide : ℕ → ℕ → ℕ → ℕ
+scaledSide side num den = (side * num + (den - 1)) / den
 
 -- a size that changes: 4 above 2 ^ 30 pixels, or where a side before or after exceeds 2 ^ 26
 unfoldable pub withinOf : Size → Size → Out Size
@@ -32,7 +32,7 @@ scaleOf k width height =
     (refuse (eqb (k .«width_den») 0) 7
     (refuse (eqb (k .«height_num») 0) 7
     (refuse (eqb (k .«height_den») 0) 7
-    (refuse (ltb (2 ^ 32 - 1) (scaled width (k .«width_num») (k .«width_den»))) 10
-    (refuse (ltb (2 ^ 32 - 1) (scaled height (k .«height_num») (k .«height_den»))) 10
+    (refuse (ltb (2 ^ 32 - 1) (scaledSide width (k .«width_num») (k .«width_den»))) 10
+    (refuse (ltb (2 ^ 32 - 1) (scaledSide height (k .«height_num») (k .«height_den»))) 10
     (changed (record { width = width; height = height })
-    (record { width = scaled width (k .«width_num») (k .«width_den»); height = scaled height (k .«height_num») (k .«height_den») })))))))
+    (record { width = scaledSide width (k .«width_num») (k .«width_den»); height = scaledSide height (k .«height_num») (k .«height_den») })))))))

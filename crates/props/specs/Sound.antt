@@ -1,7 +1,7 @@
--- What holds of rectangles and sizes that were taken.
+-- What holds of a rectangle that was taken.
 use Prim.Native.Nat.{_*_, _+_, _^_, _≤_, ℕ}
 use Rattle.props.specs.declared.clap.CropRect.{CropRect}
-use Rattle.props.specs.declared.size.Size.{Size}
+use Rattle.image.specs.declared.size.Size.{Size}
 
 -- a rectangle with some pixels that lies in a picture of that size
 pub record Inside (r : CropRect) (width height : ℕ) : Type 0 where
@@ -9,9 +9,3 @@ pub record Inside (r : CropRect) (width height : ℕ) : Type 0 where
   pub down : r .y + r .height ≤ height
   pub wide : 1 ≤ r .width
   pub tall : 1 ≤ r .height
-
--- a size that a picture may have
-pub record SizeSound (z : Size) : Type 0 where
-  pub wide : 1 ≤ z .width
-  pub tall : 1 ≤ z .height
-  pub area : z .width * z .height ≤ 2 ^ 30

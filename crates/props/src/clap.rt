@@ -2,7 +2,7 @@
 ghost use mathlib.Core.Path.{_≡_};
 ghost use Prim.Native.Nat.{_<_};
 ghost use lib.IntN.{subℕ};
-ghost use Rattle.props.specs.Aperture.{edgeOf, axisOf, resolveOf, stripOut, resolvedOut, NoRect};
+ghost use Rattle.props.specs.Aperture.{edgeOf, axisOf, resolveOf, axisPartOut, resolvedOut, NoRect};
 use laws::Refusal;
 
 // An offset's numerator is the 32-bit pattern of a signed number.
@@ -30,60 +30,60 @@ pub enum Resolved {
 }
 
 // A part of one axis.
-struct Strip {
+struct AxisPart {
     edge: u32,
     size: u32,
 }
 
-enum StripRead {
-    Read(Strip),
+enum AxisPartRead {
+    Read(AxisPart),
     Refused(Refusal),
 }
 
 // The edge (ahead - behind) / den, which is whole and from 0 to gap.
-fn edge(ahead: u64, behind: u64, den: u64, gap: u32, size: u32) -> StripRead
+fn edge(ahead: u64, behind: u64, den: u64, gap: u32, size: u32) -> AxisPartRead
     requires { ⌜ 0 < den ⌝ }
-    ensures { λ r. ⌜ stripOut r ≡ edgeOf (subℕ ahead behind) den gap size ⌝ }
+    ensures { λ r. ⌜ axisPartOut r ≡ edgeOf (subℕ ahead behind) den gap size ⌝ }
 {
     if ahead < behind {
         if (behind - ahead) % den != 0 {
-            return StripRead::Refused(Refusal::FRACTION);
+            return AxisPartRead::Refused(Refusal::FRACTION);
         }
-        return StripRead::Refused(Refusal::OUTSIDE);
+        return AxisPartRead::Refused(Refusal::OUTSIDE);
     }
     let num = ahead - behind;
     if num % den != 0 {
-        return StripRead::Refused(Refusal::FRACTION);
+        return AxisPartRead::Refused(Refusal::FRACTION);
     }
     let at = num / den;
     if at > gap as u64 {
-        return StripRead::Refused(Refusal::OUTSIDE);
+        return AxisPartRead::Refused(Refusal::OUTSIDE);
     }
-    StripRead::Read(Strip {
+    AxisPartRead::Read(AxisPart {
         edge: at as u32,
         size,
     })
 }
 
 // One axis: the size n / d, about a centre that lies off_n / off_d beyond the input's.
-fn along(n: u32, d: u32, off_n: u32, off_d: u32, input: u32) -> StripRead
-    ensures { λ r. ⌜ stripOut r ≡ axisOf n d «off_n» «off_d» input ⌝ }
+fn along(n: u32, d: u32, off_n: u32, off_d: u32, input: u32) -> AxisPartRead
+    ensures { λ r. ⌜ axisPartOut r ≡ axisOf n d «off_n» «off_d» input ⌝ }
 {
     if d == 0 {
-        return StripRead::Refused(Refusal::ZERO);
+        return AxisPartRead::Refused(Refusal::ZERO);
     }
     if off_d == 0 {
-        return StripRead::Refused(Refusal::ZERO);
+        return AxisPartRead::Refused(Refusal::ZERO);
     }
     if n % d != 0 {
-        return StripRead::Refused(Refusal::FRACTION);
+        return AxisPartRead::Refused(Refusal::FRACTION);
     }
     let size = n / d;
     if size == 0 {
-        return StripRead::Refused(Refusal::OUTSIDE);
+        return AxisPartRead::Refused(Refusal::OUTSIDE);
     }
     if size > input {
-        return StripRead::Refused(Refusal::OUTSIDE);
+        return AxisPartRead::Refused(Refusal::OUTSIDE);
     }
     let gap = input - size;
     let off = numbers::signed(off_n, 4294967296);
@@ -104,16 +104,16 @@ impl Clap {
             self.horiz_off_d,
             width,
         ) {
-            StripRead::Refused(e) => Resolved::Refused(e),
-            StripRead::Read(a) => match along(
+            AxisPartRead::Refused(e) => Resolved::Refused(e),
+            AxisPartRead::Read(a) => match along(
                 self.height_n,
                 self.height_d,
                 self.vert_off_n,
                 self.vert_off_d,
                 height,
             ) {
-                StripRead::Refused(e) => Resolved::Refused(e),
-                StripRead::Read(b) => Resolved::Rect(CropRect {
+                AxisPartRead::Refused(e) => Resolved::Refused(e),
+                AxisPartRead::Read(b) => Resolved::Rect(CropRect {
                     x: a.edge,
                     y: b.edge,
                     width: a.size,

@@ -1,11 +1,11 @@
 // Image scaling (ISO/IEC 23008-12, 6.5.13): the size that it gives.
 ghost use mathlib.Core.Path.{_≡_};
 ghost use Prim.Native.Nat.{_<_};
-ghost use Rattle.props.specs.Scale.{scaled, withinOf, scaleOf};
-ghost use Rattle.props.specs.Size.{sizeOut};
-use crate::size::Size;
-use crate::size::SizeAnswer;
+ghost use Rattle.props.specs.Scale.{scaledSide, withinOf, scaleOf};
+ghost use Rattle.image.specs.Format.{sizeOut};
 use image::PixelFormat;
+use image::Size;
+use image::SizeAnswer;
 use laws::Refusal;
 
 pub struct Iscl {
@@ -18,7 +18,7 @@ pub struct Iscl {
 // side * num / den, rounded up.
 fn scaled_side(side: u32, num: u16, den: u16) -> u64
     requires { ⌜ 0 < den ⌝ }
-    ensures { λ r. ⌜ r ≡ scaled side num den ⌝ }
+    ensures { λ r. ⌜ r ≡ scaledSide side num den ⌝ }
 {
     let d = den as u64;
     (side as u64 * num as u64 + (d - 1)) / d

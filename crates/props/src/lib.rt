@@ -19,5 +19,3 @@ pub use crate::entry::Property;
 pub use crate::entry::PropertyEntry;
 pub use crate::entry::read_entry;
 pub use crate::iscl::Iscl;
-pub use crate::size::Size;
-pub use crate::size::SizeAnswer;

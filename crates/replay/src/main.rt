@@ -1,12 +1,14 @@
 // Replays stored answers of the published Rust: each operation of the proved crates on the stored input, held to the stored bytes,
-// numbers or refusal. Standard input is made of operations: a name of 16 bytes and how many calls follow. A call is 17 numbers (the
-// operation, the refusal or 0, the lengths of four parts and of the answer, ten fields), then the parts and the answer. Every number
-// has four bytes, the highest first. A session with all its calls is one such call: its parts are the body, the records and the script.
+// numbers or refusal. Standard input is made of operations: a name of 16 bytes and how many calls follow. A call is 20 numbers (the
+// operation, the refusal or 0, the lengths of four parts, how many zeros follow the first, the length of the answer, how many bytes of
+// output and of spare are lent, ten fields), then the parts and the answer. Every number has four bytes, the highest first. A session
+// with all its calls is one such call: its parts are the body, the records and the script. A refused call must leave what it is lent.
 // `stdin.md` says how the file is made. For each operation the program prints how many calls are answered alike, and of how many.
 ghost use Prim.Native.Nat.{_≤_};
 use fill::Colour;
 use fill::Filled;
 use fill::Nclx;
+use image::SizeAnswer;
 use laws::Answer;
 use laws::Refusal;
 use libc::STDIN_FILENO;
@@ -19,7 +21,6 @@ use props::Imir;
 use props::Irot;
 use props::Iscl;
 use props::Resolved;
-use props::SizeAnswer;
 use session::Called;
 use session::Canvas;
 
@@ -37,7 +38,7 @@ fn field(head: &[u8], i: usize) -> u32 {
     if i > 9 {
         return 0;
     }
-    number_at(head, 28 + 4 * i)
+    number_at(head, 40 + 4 * i)
 }
 
 fn byte(head: &[u8], i: usize) -> u8 {
@@ -196,6 +197,22 @@ fn write(op: u32, head: &[u8], one: &[u8], two: &[u8], three: &[u8], out: &mut [
     steps_text::steps_text(one, out)
 }
 
+// The same, lent the start of a buffer that the call says, or all of it.
+fn write_lent(
+    op: u32,
+    head: &[u8],
+    one: &[u8],
+    two: &[u8],
+    three: &[u8],
+    out: &mut [u8],
+) -> Answer {
+    let n = number_at(head, 32) as usize;
+    if n < out.len() {
+        return write(op, head, one, two, three, &mut out[0..n]);
+    }
+    write(op, head, one, two, three, out)
+}
+
 // A fill's three samples.
 fn filled_so(head: &[u8], want: &[u8]) -> bool {
     let colour = colour_of(head, 4);
@@ -281,6 +298,51 @@ fn compose(
     scene::overlay_scene(one, two, three, essential_only, four, colour, out, spare)
 }
 
+// The same, lent the start of the spare that the call says, or all of it.
+fn compose_spare(
+    op: u32,
+    head: &[u8],
+    one: &[u8],
+    two: &[u8],
+    three: &[u8],
+    four: &[u8],
+    out: &mut [u8],
+    spare: &mut [u8],
+) -> Answer {
+    let n = number_at(head, 36) as usize;
+    if n < spare.len() {
+        return compose(op, head, one, two, three, four, out, &mut spare[0..n]);
+    }
+    compose(op, head, one, two, three, four, out, spare)
+}
+
+// The same, lent so much of the output, too.
+fn compose_lent(
+    op: u32,
+    head: &[u8],
+    one: &[u8],
+    two: &[u8],
+    three: &[u8],
+    four: &[u8],
+    out: &mut [u8],
+    spare: &mut [u8],
+) -> Answer {
+    let n = number_at(head, 32) as usize;
+    if n < out.len() {
+        return compose_spare(op, head, one, two, three, four, &mut out[0..n], spare);
+    }
+    compose_spare(op, head, one, two, three, four, out, spare)
+}
+
+// The first n bytes, or all of them.
+fn start(s: &[u8], n: u32) -> &[u8] {
+    let n = n as usize;
+    if n < s.len() {
+        return &s[0..n];
+    }
+    s
+}
+
 // Whether a scene is the stored one: past the record the output is zero, and so is the spare; refused, both are as they were.
 fn composed_so(head: &[u8], answer: Answer, out: &[u8], spare: &[u8], want: &[u8]) -> bool {
     match answer {
@@ -311,6 +373,29 @@ fn composed_so(head: &[u8], answer: Answer, out: &[u8], spare: &[u8], want: &[u8
     }
 }
 
+// A scene on what the call lends.
+fn scene_so(
+    op: u32,
+    head: &[u8],
+    one: &[u8],
+    two: &[u8],
+    three: &[u8],
+    four: &[u8],
+    want: &[u8],
+) -> bool {
+    let mut out = [BEFORE; 4096];
+    let mut spare = [BEFORE; 4096];
+    let answer = compose_lent(op, head, one, two, three, four, &mut out, &mut spare);
+    let output = start(&out, number_at(head, 32));
+    composed_so(
+        head,
+        answer,
+        output,
+        start(&spare, number_at(head, 36)),
+        want,
+    )
+}
+
 // So many bytes from a place on, none where there are fewer.
 fn part(s: &[u8], from: usize, count: usize) -> &[u8] {
     if from > s.len() {
@@ -323,9 +408,10 @@ fn part(s: &[u8], from: usize, count: usize) -> &[u8] {
     &s[from..end]
 }
 
-// A call of a session, by four numbers of its script: 0 place, 1 blank, else finish; the cell; its record's place and length.
+// A call of a session, by the first four of its five numbers of the script: 0 place, 1 blank, else finish; the cell; its record's
+// place and length.
 fn call(canvas: Canvas, turn: u32, records: &[u8], script: &[u8], out: &mut [u8]) -> Called {
-    let at = 16 * (turn as usize);
+    let at = 20 * (turn as usize);
     let kind = number_at(script, at);
     let cell = number_at(script, at + 4);
     if kind == 0 {
@@ -340,10 +426,24 @@ fn call(canvas: Canvas, turn: u32, records: &[u8], script: &[u8], out: &mut [u8]
     Called { canvas, answer }
 }
 
-// Whether an answer is 0, or else the refusal's number, as stored.
-fn numbered_so(answer: Answer, number: u32) -> bool {
+// The same, lent the start of the buffer that the fifth number says, or all of it.
+fn call_lent(canvas: Canvas, turn: u32, records: &[u8], script: &[u8], out: &mut [u8]) -> Called {
+    let n = number_at(script, 20 * (turn as usize) + 16) as usize;
+    if n < out.len() {
+        return call(canvas, turn, records, script, &mut out[0..n]);
+    }
+    call(canvas, turn, records, script, out)
+}
+
+// Whether a call of a session is answered by 0, or else by the refusal's number, as stored, and then left the buffer as it was.
+fn called_so(answer: Answer, number: u32, before: &[u8], after: &[u8]) -> bool {
     match answer {
-        Answer::Refused(e) => e.number as u32 == number,
+        Answer::Refused(e) => {
+            if e.number as u32 != number {
+                return false;
+            }
+            starts(after, before)
+        }
         Answer::Wrote(_) => number == 0,
     }
 }
@@ -363,9 +463,11 @@ fn calls_so(start: Canvas, calls: u32, records: &[u8], script: &[u8], want: &[u8
     let mut length: usize = 0;
     let mut turn: u32 = 0;
     while turn < calls {
-        let called = call(canvas, turn, records, script, &mut out);
+        let before = out;
+        let called = call_lent(canvas, turn, records, script, &mut out);
         let answer = called.answer;
-        if !numbered_so(answer, number_at(want, 4 * (turn as usize))) {
+        let number = number_at(want, 4 * (turn as usize));
+        if !called_so(answer, number, &before, &out) {
             return false;
         }
         length = wrote(answer);
@@ -411,10 +513,7 @@ fn answered_so(
         return session_so(head, one, two, three, want);
     }
     if op > 14 {
-        let mut out = [BEFORE; 4096];
-        let mut spare = [BEFORE; 4096];
-        let answer = compose(op, head, one, two, three, four, &mut out, &mut spare);
-        return composed_so(head, answer, &out, &spare, want);
+        return scene_so(op, head, one, two, three, four, want);
     }
     if op == 9 {
         return filled_so(head, want);
@@ -426,17 +525,21 @@ fn answered_so(
         return sized_so(head, want);
     }
     let mut out = [BEFORE; 4096];
-    let answer = write(op, head, one, two, three, &mut out);
+    let answer = write_lent(op, head, one, two, three, &mut out);
     written_so(head, answer, &out, want)
+}
+
+fn sum(a: u32, b: u32) -> usize {
+    a as usize + b as usize
 }
 
 // The same of parts that stand at the start of longer ones.
 fn held_so(head: &[u8], one: &[u8], two: &[u8], three: &[u8], four: &[u8], want: &[u8]) -> bool {
-    let a = number_at(head, 8) as usize;
+    let a = sum(number_at(head, 8), number_at(head, 24));
     let b = number_at(head, 12) as usize;
     let c = number_at(head, 16) as usize;
     let d = number_at(head, 20) as usize;
-    let w = number_at(head, 24) as usize;
+    let w = number_at(head, 28) as usize;
     if a > one.len() {
         return false;
     }
@@ -454,11 +557,11 @@ fn held_so(head: &[u8], one: &[u8], two: &[u8], three: &[u8], four: &[u8], want:
     }
     answered_so(
         head,
-        &one[..a],
-        &two[..b],
-        &three[..c],
-        &four[..d],
-        &want[..w],
+        &one[0..a],
+        &two[0..b],
+        &three[0..c],
+        &four[0..d],
+        &want[0..w],
     )
 }
 
@@ -466,14 +569,14 @@ fn held_so(head: &[u8], one: &[u8], two: &[u8], three: &[u8], four: &[u8], want:
 fn read_part(part: &mut [u8], count: u32) {
     let n = count as usize;
     if n <= part.len() {
-        io::read_full(STDIN_FILENO, &mut part[..n]);
+        io::read_full(STDIN_FILENO, &mut part[0..n]);
     }
 }
 
 // Reads a call, and says whether it is answered as it is stored.
 fn replay_one() -> bool {
-    let mut head = [0u8; 68];
-    let mut one = [0u8; 1024];
+    let mut head = [0u8; 80];
+    let mut one = [0u8; 65664];
     let mut two = [0u8; 1024];
     let mut three = [0u8; 1024];
     let mut four = [0u8; 1024];
@@ -483,7 +586,7 @@ fn replay_one() -> bool {
     read_part(&mut two, number_at(&head, 12));
     read_part(&mut three, number_at(&head, 16));
     read_part(&mut four, number_at(&head, 20));
-    read_part(&mut want, number_at(&head, 24));
+    read_part(&mut want, number_at(&head, 28));
     held_so(&head, &one, &two, &three, &four, &want)
 }
 

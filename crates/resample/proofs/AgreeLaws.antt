@@ -3,8 +3,8 @@ use mathlib.Core.Path.{_∙_, _≡_, ap, ap₂, refl}
 use Prim.Native.Nat.{_*_, _+_, _-_, _<_, _≤_, suc, zero, ℕ}
 use native.Mathlib.Omega.{arith}
 use Rattle.image.proofs.FormLaws.{columns-some, rows-some}
-use Rattle.image.specs.Format.{columnsOf, rowsOf}
-use Rattle.image.specs.Picture.{Agree, Pic, sized}
+use Rattle.image.specs.Format.{columnsOf, rowsOf, sized}
+use Rattle.planes.specs.Picture.{Agree, Pic}
 use Rattle.image.specs.Sound.{FormSound}
 use Rattle.image.specs.declared.format.Form.{Form}
 use Rattle.resample.proofs.FootLaws.{foot-in, past-in}

@@ -11,11 +11,10 @@ use Rattle.laws.specs.Out.{done, fitted, refused}
 use Rattle.laws.specs.declared.Refusal.{Refusal}
 use Rattle.numbers.specs.Number.{numberBytes}
 use Rattle.image.proofs.RecordLaws.{length-data, record-lens, whole-sound}
-use Rattle.image.proofs.RoundTrip.{length-planeBytes, plane-agree}
-use Rattle.image.specs.Bytes.{dataOf, decode, headBytes, planeBytes, planeSize}
-use Rattle.image.specs.Format.{columnsOf, halved, hasAlpha, hasPart, isMono, rowsOf, sideOf}
-use Rattle.image.specs.Picture.{sized}
-use Rattle.image.specs.Record.{planeOf, recordOf}
+use Rattle.planes.proofs.RoundTrip.{length-planeBytes, plane-agree}
+use Rattle.image.specs.Record.{dataOf, planeOf, recordOf}
+use Rattle.planes.specs.Bytes.{decode, headBytes, planeBytes, planeSize}
+use Rattle.image.specs.Format.{columnsOf, halved, hasAlpha, hasPart, isMono, rowsOf, sideOf, sized, withAlpha}
 use Rattle.image.specs.Sound.{FormSound}
 use Rattle.image.specs.inner.Placed.{Sound}
 use Rattle.image.specs.declared.format.Form.{Form}
@@ -23,7 +22,7 @@ use Rattle.image.specs.declared.format.Part.{Part}
 use Rattle.image.specs.declared.format.Part.the-variants.{Alpha, Cb, Cr, Luma}
 use Rattle.image.specs.declared.record.Frame.{Frame}
 use Rattle.image.specs.declared.record.Plane.{Plane}
-use Rattle.resample.specs.Attach.{attachBytes, coverBytes, coverKept, keptPart, keptPlane, lumaForm, lumaOf, withAlpha}
+use Rattle.resample.specs.Attach.{attachBytes, alphaBytes, alphaKept, keptPart, keptPlane, lumaForm, lumaOf}
 use Rattle.resample.specs.inner.Kept.{KeptFits, Whole}
 use Rattle.resample.specs.Depth.{rescaled, toDepth}
 use Rattle.resample.specs.Nearest.{nearest}
@@ -56,16 +55,16 @@ kept-none s fr p h = pick-false _ _ _ h
 
 -- ---- the alpha plane
 
-pub cover-as-is : (m : Form) (t : List ℕ) (gr : Frame) → coverKept m (gr .form) ≡ true → coverBytes m t gr ≡ keptPlane t (gr .luma)
-unfolding coverBytes
+pub cover-as-is : (m : Form) (t : List ℕ) (gr : Frame) → alphaKept m (gr .form) ≡ true → alphaBytes m t gr ≡ keptPlane t (gr .luma)
+unfolding alphaBytes
 cover-as-is m t gr h = pick-true _ _ _ h
 
 -- the rule that draws it
 abbrev pub coverRule : Form → Form → Rule
 coverRule m n = Rule.Near (record { old = n .format .depth; new = m .format .depth })
 
-pub cover-drawn : (m : Form) (t : List ℕ) (gr : Frame) → coverKept m (gr .form) ≡ false → coverBytes m t gr ≡ planeBytes (redrawn (lumaForm m) (coverRule m (gr .form)) (decode t gr)) Luma
-unfolding coverBytes rescaled nearest lumaOf lumaForm toDepth sized redrawn ruleAt rowAt rowOf acrossOf downOf columnsOf rowsOf halved sideOf decode
+pub cover-drawn : (m : Form) (t : List ℕ) (gr : Frame) → alphaKept m (gr .form) ≡ false → alphaBytes m t gr ≡ planeBytes (redrawn (lumaForm m) (coverRule m (gr .form)) (decode t gr)) Luma
+unfolding alphaBytes rescaled nearest lumaOf lumaForm toDepth sized redrawn ruleAt rowAt rowOf acrossOf downOf columnsOf rowsOf halved sideOf decode
 cover-drawn m t gr h = pick-false _ _ _ h ∙ plane-agree (lumaForm m) _ _ Luma (λ x y k a b. refl)
 
 pub luma-sound : (m : Form) → FormSound m → FormSound (lumaForm m)
@@ -87,14 +86,14 @@ cover-fits m t gr k g = record {
     parts Cr h = cc
     parts Alpha h = cc
 
-pub length-cover : (m : Form) (t : List ℕ) (gr : Frame) → coverKept m (gr .form) ≡ false → length (coverBytes m t gr) ≡ planeSize (lumaForm m) Luma
+pub length-cover : (m : Form) (t : List ℕ) (gr : Frame) → alphaKept m (gr .form) ≡ false → length (alphaBytes m t gr) ≡ planeSize (lumaForm m) Luma
 unfolding redrawn
 length-cover m t gr h = ap length (cover-drawn m t gr h) ∙ length-planeBytes (redrawn (lumaForm m) (coverRule m (gr .form)) (decode t gr)) Luma
 
 -- ---- the whole record
 
 pub length-attach : (s : List ℕ) (fr : Frame) (t : List ℕ) (gr : Frame)
-    → length (attachBytes s fr t gr) ≡ length (headBytes (withAlpha (fr .form))) + (length (keptPart s fr Luma) + (length (keptPart s fr Cb) + (length (keptPart s fr Cr) + length (coverBytes (fr .form) t gr))))
+    → length (attachBytes s fr t gr) ≡ length (headBytes (withAlpha (fr .form) 1)) + (length (keptPart s fr Luma) + (length (keptPart s fr Cb) + (length (keptPart s fr Cr) + length (alphaBytes (fr .form) t gr))))
 unfolding attachBytes
 length-attach s fr t gr = simp length-append
 

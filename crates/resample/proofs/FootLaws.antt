@@ -1,34 +1,29 @@
 -- Laws of footprints: where they lie, how samples share them, and the weighed sums, which fit 64 bits.
 use mathlib.Core.Path.{_∙_, _≡_, ap, sym}
-use Prim.Native.Nat.{_*_, _+_, _-_, _/_, _<_, _^_, _≤_, suc, ℕ}
+use Prim.Native.Nat.{_*_, _+_, _-_, _/_, _<_, _^_, _≤_, max, min, suc, ℕ}
 use native.Mathlib.Nat.{add-mul, div-le-of-le-mul, div-lt-iff-lt-mul, div-mul-le-self, le-div-iff-mul-le, le-trans, mul-assoc, mul-comm, mul-le-mul, mul-le-mul-right, mul-left-comm, suc-mul, zero-add}
 use native.Mathlib.Omega.{arith}
 use lib.Dec.{leb, lit≤}
 use borrow.Author.Tests.{le-leb, lt-leb}
 use Rattle.laws.proofs.Order.{by-order, pick-false, pick-true}
 use Rattle.resample.specs.Area.{aroundOf, firstOf, footOf, pastOf, shareOf, sum, weighed, weightOf}
-use Rattle.resample.specs.inner.Sums.{FootIn}
-use Rattle.resample.specs.Rounded.{greatest, least}
 use Rattle.resample.specs.declared.area.Foot.{Foot}
+use Rattle.resample.specs.inner.Sums.{FootIn}
 
-pub least-case {ℓ} : {X : Type ℓ} (a b : ℕ) → (a ≤ b → least a b ≡ a → X) → (b < a → least a b ≡ b → X) → X
-unfolding least
-least-case a b f g = by-order b a (λ h. g h (pick-false _ _ _ (lt-leb a b h))) (λ h. f h (pick-true _ _ _ (le-leb a b h)))
+pub min-case {ℓ} : {X : Type ℓ} (a b : ℕ) → (a ≤ b → min a b ≡ a → X) → (b < a → min a b ≡ b → X) → X
+min-case a b f g = by-order b a (λ h. g h (omega arith)) (λ h. f h (omega arith))
 
-pub greatest-case {ℓ} : {X : Type ℓ} (a b : ℕ) → (a ≤ b → greatest a b ≡ b → X) → (b < a → greatest a b ≡ a → X) → X
-unfolding greatest
-greatest-case a b f g = by-order b a (λ h. g h (pick-false _ _ _ (lt-leb a b h))) (λ h. f h (pick-true _ _ _ (le-leb a b h)))
+pub max-case {ℓ} : {X : Type ℓ} (a b : ℕ) → (a ≤ b → max a b ≡ b → X) → (b < a → max a b ≡ a → X) → X
+max-case a b f g = by-order b a (λ h. g h (omega arith)) (λ h. f h (omega arith))
 
-pub least-left : (a b : ℕ) → a ≤ b → least a b ≡ a
-unfolding least
-least-left a b h = pick-true _ _ _ (le-leb a b h)
+pub min-left : (a b : ℕ) → a ≤ b → min a b ≡ a
+min-left a b h = omega arith
 
-pub least-right : (a b : ℕ) → b < a → least a b ≡ b
-unfolding least
-least-right a b h = pick-false _ _ _ (lt-leb a b h)
+pub min-right : (a b : ℕ) → b < a → min a b ≡ b
+min-right a b h = omega arith
 
-pub least-le : (a b : ℕ) → (least a b ≤ a) × (least a b ≤ b)
-least-le a b = least-case a b (λ h e. (omega (arith, e), omega (arith, e, h))) (λ h e. (omega (arith, e, h), omega (arith, e)))
+pub min-le : (a b : ℕ) → (min a b ≤ a) × (min a b ≤ b)
+min-le a b = (omega arith, omega arith)
 
 -- ---- a sample that a footprint touches
 
@@ -48,38 +43,38 @@ past-in f n j k h = inside-past (f .end) n j (k .inside) h
 
 -- how much of a footprint stands before sample j
 unfoldable pub before : Foot → ℕ → ℕ
-before f j = least (f .end) (256 * j) - f .start
+before f j = min (f .end) (256 * j) - f .start
 
 pub before-le : (f : Foot) (j : ℕ) → before f j ≤ f .end - f .start
 unfolding before
-before-le f j = let h = least-le (f .end) (256 * j) .0 in omega (arith, h)
+before-le f j = let h = min-le (f .end) (256 * j) .0 in omega (arith, h)
 
 module _ (f : Foot) (j : ℕ) (some : f .start < f .end) (low : firstOf f ≤ j) (high : j < pastOf f) where
   abbrev L : ℕ
-  L = least (f .end) (256 * j + 256)
+  L = min (f .end) (256 * j + 256)
 
   abbrev G : ℕ
-  G = greatest (f .start) (256 * j)
+  G = max (f .start) (256 * j)
 
   -- the end of its share: past the sample's first place and past the footprint's start
   end-is : (256 * j < L) × (f .start < L) × (L ≤ 256 * j + 256) × (L ≤ f .end)
   end-is =
       let t = touched f j low high in
-      let b = least-le (f .end) (256 * j + 256) in
-      least-case (f .end) (256 * j + 256)
+      let b = min-le (f .end) (256 * j + 256) in
+      min-case (f .end) (256 * j + 256)
       (λ h e. (omega (arith, e, t .0), omega (arith, e, some), b .1, b .0))
       (λ h e. (omega (arith, e), omega (arith, e, t .1), b .1, b .0))
 
   pub weight-some : G ≤ L
   weight-some =
       let k = end-is in
-      greatest-case (f .start) (256 * j) (λ h e. omega (arith, e, k .0)) (λ h e. omega (arith, e, k .1))
+      max-case (f .start) (256 * j) (λ h e. omega (arith, e, k .0)) (λ h e. omega (arith, e, k .1))
 
   pub weight-le : weightOf f j ≤ 256
   unfolding weightOf
   weight-le =
       let k = end-is in
-      greatest-case (f .start) (256 * j) (λ h e. omega (arith, e, k .2)) (λ h e. omega (arith, e, h, k .2))
+      max-case (f .start) (256 * j) (λ h e. omega (arith, e, k .2)) (λ h e. omega (arith, e, h, k .2))
 
   pub weight-step : before f j + weightOf f j ≡ before f (j + 1)
   unfolding before weightOf
@@ -88,8 +83,8 @@ module _ (f : Foot) (j : ℕ) (some : f .start < f .end) (low : firstOf f ≤ j)
       let t = touched f j low high in
       let n : 256 * (j + 1) ≡ 256 * j + 256 = omega arith in
       rw n
-      (least-case (f .end) (256 * j) (λ h e. absurd (off h (t .0)))
-      (λ h e. greatest-case (f .start) (256 * j) (λ g q. omega (arith, e, q, g, k .0)) (λ g q. omega (arith, e, q, g, k .1))))
+      (min-case (f .end) (256 * j) (λ h e. absurd (off h (t .0)))
+      (λ h e. max-case (f .start) (256 * j) (λ g q. omega (arith, e, q, g, k .0)) (λ g q. omega (arith, e, q, g, k .1))))
     where
       off : f .end ≤ 256 * j → 256 * j < f .end → ⊥
       off a b = omega arith
@@ -165,13 +160,13 @@ share-in from to k l h =
     let s : (a / to + 1) * to ≤ b = omega (arith, e, g, div-mul-le-self a to) in
     let m : b ≤ to * (256 * from) = rw (mul-assoc (k + 1) from 256, mul-comm 256 from) (mul-le-mul-right (from * 256) (omega arith)) in
     let o : a / to + 1 ≤ b / to = le-div-iff-mul-le z .1 s in
-    record { some = omega (arith, o); inside = div-le-of-le-mul to m }
+    record { positive = omega (arith, o); inside = div-le-of-le-mul to m }
 
 around-in : (from to k : ℕ) → 1 ≤ from → FootIn (aroundOf from to k) from
 unfolding aroundOf
 around-in from to k h = record {
-  some = omega arith;
-  inside = let l = least-le ((2 * k + 1) * from * 256 / (2 * to) - 128) (256 * (from - 1)) .1 in omega (arith, l);
+  positive = omega arith;
+  inside = let l = min-le ((2 * k + 1) * from * 256 / (2 * to) - 128) (256 * (from - 1)) .1 in omega (arith, l);
 }
 
 pub foot-in : (from to k : ℕ) → 1 ≤ from → k < to → FootIn (footOf from to k) from
@@ -191,8 +186,8 @@ whole-small across down columns rows a b h =
     let t : down .end - down .start ≤ 256 * rows = omega (arith, b .inside) in
     let m = mul-le-mul w t in
     let e : 256 * columns * (256 * rows) ≡ 65536 * (columns * rows) = squares columns rows in
-    let x : 1 ≤ across .end - across .start = omega (arith, a .some) in
-    let y : 1 ≤ down .end - down .start = omega (arith, b .some) in
+    let x : 1 ≤ across .end - across .start = omega (arith, a .positive) in
+    let y : 1 ≤ down .end - down .start = omega (arith, b .positive) in
     (mul-le-mul x y, omega (arith, m, e, h))
   where
     squares : (c r : ℕ) → 256 * c * (256 * r) ≡ 65536 * (c * r)

@@ -6,11 +6,11 @@ use native.Mathlib.Omega.{arith}
 use Rattle.laws.proofs.Order.{mul-below}
 use Rattle.image.proofs.FormLaws.{columns-some, rows-some}
 use Rattle.image.specs.Format.{columnsOf, rowsOf}
-use Rattle.image.specs.Picture.{Pic}
+use Rattle.planes.specs.Picture.{Pic}
 use Rattle.image.specs.Sound.{FormSound}
 use Rattle.image.specs.declared.format.Part.{Part}
 use Rattle.resample.proofs.AgreeLaws.{mean-cong}
-use Rattle.resample.proofs.FootLaws.{before, first-past, foot-in, least-left, least-le, weight-step}
+use Rattle.resample.proofs.FootLaws.{before, first-past, foot-in, min-left, min-le, weight-step}
 use Rattle.resample.specs.Area.{area, areaMean, firstOf, footOf, pastOf, sum, weighed, weightOf}
 use Rattle.resample.specs.Rounded.{rounded}
 use Rattle.resample.specs.declared.area.Foot.{Foot}
@@ -19,11 +19,11 @@ use Rattle.resample.specs.declared.area.Foot.{Foot}
 
 before-first : (f : Foot) → before f (firstOf f) ≡ 0
 unfolding before firstOf
-before-first f = omega (arith, least-le (f .end) (256 * (f .start / 256)) .1)
+before-first f = omega (arith, min-le (f .end) (256 * (f .start / 256)) .1)
 
 before-past : (f : Foot) → before f (pastOf f) ≡ f .end - f .start
 unfolding before pastOf
-before-past f = ap (λ (n : ℕ). n - f .start) (least-left (f .end) (256 * ((f .end + 255) / 256)) (omega arith))
+before-past f = ap (λ (n : ℕ). n - f .start) (min-left (f .end) (256 * ((f .end + 255) / 256)) (omega arith))
 
 -- what stands before a sample, and the samples from it on
 ahead : (f : Foot) (c : ℕ) → f .start < f .end → (n j : ℕ) → firstOf f ≤ j → j + n ≡ pastOf f → before f j * c + sum (λ i. c * weightOf f i) j n ≡ before f (pastOf f) * c
@@ -47,7 +47,7 @@ weighed-constant f c some =
 
 -- the weights of the footprint that an output sample k of `to` has in an axis of `from` samples sum to the length that it claims
 pub weights-whole : (from to k : ℕ) → 1 ≤ from → k < to → weighed (footOf from to k) (λ j. 1) ≡ footOf from to k .end - footOf from to k .start
-weights-whole from to k l h = let w = weighed-constant (footOf from to k) 1 (foot-in from to k l h .some) in omega (arith, w)
+weights-whole from to k l h = let w = weighed-constant (footOf from to k) 1 (foot-in from to k l h .positive) in omega (arith, w)
 
 -- ---- the mean of one value
 
@@ -78,4 +78,4 @@ unfolding area
 area-constant P w h c p ok one x y i j =
     let a = foot-in _ _ x (columns-some (P .form) ok p) i in
     let b = foot-in _ _ y (rows-some (P .form) ok p) j in
-    mean-cong _ _ (columnsOf (P .form) p) (rowsOf (P .form) p) (P .at p) (λ u v. c) a b one ∙ mean-constant _ _ c (a .some) (b .some)
+    mean-cong _ _ (columnsOf (P .form) p) (rowsOf (P .form) p) (P .at p) (λ u v. c) a b one ∙ mean-constant _ _ c (a .positive) (b .positive)

@@ -1,14 +1,14 @@
 -- Laws of nearest samples and of depths.
 use mathlib.Core.Path.{_≡_, refl}
-use Prim.Native.Nat.{_*_, _<_, _^_, _≤_, ℕ}
+use Prim.Native.Nat.{_*_, _<_, _≤_, min, ℕ}
 use native.Mathlib.Nat.{div-lt-iff-lt-mul, mul-comm, mul-div-cancel, mul-lt-mul-of-pos-right}
 use native.Mathlib.Omega.{arith}
-use lib.Pow.{pow-mono}
 use borrow.Author.Tests.{eq-eqb, ne-eqb}
 use Rattle.laws.proofs.Order.{pick-false, pick-true}
-use Rattle.resample.specs.Depth.{levelOf, topAt}
+use Rattle.image.specs.Format.{topAt}
+use Rattle.resample.specs.Depth.{levelOf}
 use Rattle.resample.specs.Nearest.{nearPlace}
-use Rattle.resample.specs.Rounded.{least, rounded}
+use Rattle.resample.specs.Rounded.{rounded}
 
 pub near-same : (n k : ℕ) → 1 ≤ n → nearPlace n n k ≡ k
 unfolding nearPlace
@@ -23,18 +23,11 @@ near-in from to k l h =
 
 -- ---- depths
 
-pub top-bounds : (depth : ℕ) → 8 ≤ depth → depth ≤ 16 → (255 ≤ topAt depth) × (topAt depth < 2 ^ 16)
-unfolding topAt
-top-bounds depth l h =
-    let a : 2 ^ 8 ≤ 2 ^ depth = pow-mono l in
-    let b : 2 ^ depth ≤ 2 ^ 16 = pow-mono h in
-    (omega arith, omega arith)
-
 -- an equal depth is the identity
 pub level-same : (d v : ℕ) → levelOf d d v ≡ v
 unfolding levelOf
 level-same d v = pick-true _ _ _ (eq-eqb d d refl)
 
-pub level-other : (old new v : ℕ) → (old ≡ new → ⊥) → levelOf old new v ≡ least (rounded (v * topAt new) (topAt old)) (topAt new)
+pub level-other : (old new v : ℕ) → (old ≡ new → ⊥) → levelOf old new v ≡ min (rounded (v * topAt new) (topAt old)) (topAt new)
 unfolding levelOf
 level-other old new v h = pick-false _ _ _ (ne-eqb old new h)

@@ -8,13 +8,13 @@ use native.Mathlib.Omega.{arith}
 use lib.ListN.{length}
 use Rattle.laws.proofs.Order.{mul-below}
 use Rattle.laws.proofs.Span.{length-span-all}
-use Rattle.image.proofs.ByteLaws.{length-samplesOf}
+use Rattle.planes.proofs.ByteLaws.{length-samplesOf}
 use Rattle.image.proofs.FormLaws.{bytes-few, columns-le, columns-some, height-le, rows-le, rows-some, width-le}
 use Rattle.image.proofs.RecordLaws.{sample-inside}
-use Rattle.image.proofs.RoundTrip.{plane-some}
-use Rattle.image.specs.Bytes.{dataOf, decode, planeBytes, planeHead, rowBytes, rowsBytes, samplesOf}
+use Rattle.planes.proofs.RoundTrip.{plane-some}
+use Rattle.image.specs.Record.{dataOf, planeOf}
+use Rattle.planes.specs.Bytes.{decode, planeBytes, planeHead, rowBytes, rowsBytes, samplesOf}
 use Rattle.image.specs.Format.{hasPart}
-use Rattle.image.specs.Record.{planeOf}
 use Rattle.image.specs.inner.Placed.{Sound}
 use Rattle.image.specs.declared.format.Form.{Form}
 use Rattle.image.specs.declared.format.Part.{Part}
@@ -24,7 +24,7 @@ use Rattle.resample.proofs.FootLaws.{foot-in, past-in}
 use Rattle.resample.proofs.PlaceLaws.{near-in}
 use Rattle.resample.specs.Area.{footOf, pastOf}
 use Rattle.resample.specs.inner.Sums.{AreaFits, RowSumFits}
-use Rattle.resample.specs.inner.Redraw.{AxisFits, RasterFits, RedrawFits, RowFits, RuleFits, acrossOf, downOf, rasterAt, rasterBytes, rasterOf, rasterRow, redrawn, rowOf, ruleAt}
+use Rattle.resample.specs.inner.Redraw.{AxisFits, RasterFits, RedrawFits, RuleRowFits, RuleFits, acrossOf, downOf, rasterAt, rasterBytes, rasterOf, rasterRow, redrawn, rowOf, ruleAt}
 use Rattle.resample.specs.declared.area.Foot.{Foot}
 use Rattle.resample.specs.declared.write.Axis.{Axis}
 use Rattle.resample.specs.declared.write.Raster.{Raster}
@@ -33,28 +33,28 @@ use Rattle.resample.specs.declared.write.Rule.{Rule}
 
 pub length-rasterRow : (d : List ℕ) (r : Raster) (row : RowRule) → RasterFits d r → length (rasterRow d r row) ≡ r .across .to * r .«to_bytes»
 unfolding rasterRow
-length-rasterRow d r row k = length-samplesOf (r .«to_bytes») (rasterAt d r row) (r .across .to) (k .toSome) (k .toFew)
+length-rasterRow d r row k = length-samplesOf (r .«to_bytes») (rasterAt d r row) (r .across .to) (k .toPositive) (k .toBounded)
 
 pub length-rasterBytes : (d : List ℕ) (r : Raster) → RasterFits d r → length (rasterBytes d r) ≡ r .down .to * (r .across .to * r .«to_bytes»)
 unfolding rasterBytes
 length-rasterBytes d r k = length-span-all _ (r .across .to * r .«to_bytes») (r .down .to) (λ y. length-rasterRow d r _ k)
 
 -- a row of a rule that fits
-pub row-fits : (k : Rule) (across down : Axis) (y : ℕ) → RuleFits k across down → AxisFits down → y < down .to → RowFits (rowOf k down y) across (down .from)
-unfolding RowFits RuleFits rowOf
-row-fits (Rule.Near k) across down y f a h = (f, near-in (down .from) (down .to) y (a .some) h)
-row-fits Rule.Area across down y f a h = (f .0, foot-in (down .from) (down .to) y (a .some) h, f .2)
+pub row-fits : (k : Rule) (across down : Axis) (y : ℕ) → RuleFits k across down → AxisFits down → y < down .to → RuleRowFits (rowOf k down y) across (down .from)
+unfolding RuleRowFits RuleFits rowOf
+row-fits (Rule.Near k) across down y f a h = (f, near-in (down .from) (down .to) y (a .positive) h)
+row-fits Rule.Area across down y f a h = (f .0, foot-in (down .from) (down .to) y (a .positive) h, f .2)
 
 -- the area of a row that fits
-pub area-fits : (d : List ℕ) (r : Raster) (f : Foot) (x : ℕ) → RasterFits d r → RowFits (RowRule.Area f) (r .across) (r .down .from) → x < r .across .to
+pub area-fits : (d : List ℕ) (r : Raster) (f : Foot) (x : ℕ) → RasterFits d r → RuleRowFits (RowRule.Area f) (r .across) (r .down .from) → x < r .across .to
     → AreaFits d (r .bytes) (r .stride) (footOf (r .across .from) (r .across .to) x) f
-unfolding RowFits
+unfolding RuleRowFits
 area-fits d r f x k g h = record {
   columns = r .across .from;
   rows = r .down .from;
-  some = k .some;
-  few = k .few;
-  wide = foot-in (r .across .from) (r .across .to) x (k .across .some) h;
+  positive = k .positive;
+  bounded = k .bounded;
+  wide = foot-in (r .across .from) (r .across .to) x (k .across .positive) h;
   tall = g .1;
   size = g .2;
   inside = k .inside;
@@ -66,8 +66,8 @@ one-of a b l = omega (arith, mul-below a b a 1 (omega arith) l)
 -- neither footprint is longer than the longest side
 pub area-ends : (d : List ℕ) (bytes stride : ℕ) (across down : Foot) → AreaFits d bytes stride across down → (across .end ≤ 2 ^ 38) × (down .end ≤ 2 ^ 38)
 area-ends d bytes stride across down k =
-    let a : 1 ≤ k .columns = omega (arith, k .wide .some, k .wide .inside) in
-    let b : 1 ≤ k .rows = omega (arith, k .tall .some, k .tall .inside) in
+    let a : 1 ≤ k .columns = omega (arith, k .wide .positive, k .wide .inside) in
+    let b : 1 ≤ k .rows = omega (arith, k .tall .positive, k .tall .inside) in
     let m = one-of (k .columns) (k .rows) b in
     let n = one-of (k .rows) (k .columns) a in
     (omega (arith, m, k .size, k .wide .inside), omega (arith, n, mul-comm (k .rows) (k .columns), k .size, k .tall .inside))
@@ -78,8 +78,8 @@ row-sum-fits d bytes stride across down y k h =
     let r : y < k .rows = past-in down (k .rows) y (k .tall) h in
     record {
       columns = k .columns;
-      some = k .some;
-      few = k .few;
+      positive = k .positive;
+      bounded = k .bounded;
       wide = k .wide;
       size = le-trans (one-of (k .columns) (k .rows) (omega arith)) (k .size);
       inside = λ x l. k .inside x y l r;
@@ -103,18 +103,18 @@ module _ (s : List ℕ) (fr : Frame) (n : Form) (k : Rule) (p : Part) (has : has
       let a = bytes-few (fr .form .format) in
       let b = bytes-few (n .format) in
       record {
-        some = a .0;
-        few = a .1;
-        toSome = b .0;
-        toFew = b .1;
+        positive = a .0;
+        bounded = a .1;
+        toPositive = b .0;
+        toBounded = b .1;
         across = record {
-          some = columns-some (fr .form) (fits .old) p;
+          positive = columns-some (fr .form) (fits .old) p;
           made = columns-some n (fits .new) p;
           old = le-trans (columns-le (fr .form) (fits .old) p) (width-le (fr .form) (fits .old));
           new = le-trans (columns-le n (fits .new) p) (width-le n (fits .new));
         };
         down = record {
-          some = rows-some (fr .form) (fits .old) p;
+          positive = rows-some (fr .form) (fits .old) p;
           made = rows-some n (fits .new) p;
           old = le-trans (rows-le (fr .form) (fits .old) p) (height-le (fr .form) (fits .old));
           new = le-trans (rows-le n (fits .new) p) (height-le n (fits .new));

@@ -1,11 +1,11 @@
 -- The runs in terms of the pictures that the writer draws.
-use mathlib.Core.Bool.{Bool, _&&_, false, true}
+use mathlib.Core.Bool.{Bool, _&&_, false, not, true}
 use mathlib.Core.List.{List}
 use mathlib.Core.Path.{_∙_, _≡_, ap, ap₂, refl, sym}
-use Prim.Native.Nat.{_<_, _^_, _≤_, ℕ}
+use Prim.Native.Nat.{_^_, _≤_, ℕ}
 use native.Mathlib.Nat.{le-trans, mul-le-mul}
 use lib.Dec.{eqb}
-use borrow.Author.Tests.{eq-eqb, le-ltb, lt-ltb, ltb-false, ne-eqb}
+use borrow.Author.Tests.{eq-eqb, ltb-false, ne-eqb}
 use Rattle.laws.proofs.Order.{apart, pick-false, pick-true, true-and}
 use Rattle.laws.proofs.Out.{done-same, refuse-done, refuse-no, refuse-yes, then-done, then-refused}
 use Rattle.laws.specs.Out.{done, fitted, reason, refused}
@@ -13,29 +13,27 @@ use Rattle.laws.specs.Pick.{pick}
 use Rattle.laws.specs.declared.Refusal.{Refusal}
 use Rattle.image.proofs.FormLaws.{columns-le, columns-some, rows-le, rows-some}
 use Rattle.image.proofs.RecordLaws.{whole-sound}
-use Rattle.image.proofs.RoundTrip.{drawn-as}
-use Rattle.image.specs.Bytes.{decode, encode}
-use Rattle.image.specs.Format.{columnsOf, halvesX, halvesY, hasAlpha, hasPart, isMono, rowsOf}
-use Rattle.image.specs.Picture.{Agree, Pic, sized}
+use Rattle.image.specs.Format.{columnsOf, halvesX, halvesY, hasAlpha, hasPart, isDepth, isMono, judgedSize, rowsOf, sized, hasSize}
 use Rattle.image.specs.Record.{recordOf}
-use Rattle.image.specs.Sound.{FormSound}
+use Rattle.image.specs.Sound.{FormSound, SizeSound}
 use Rattle.image.specs.declared.format.Form.{Form}
 use Rattle.image.specs.declared.format.Part.{Part}
 use Rattle.image.specs.declared.format.Part.the-variants.{Alpha, Cb, Cr, Luma}
 use Rattle.image.specs.declared.record.Frame.{Frame}
+use Rattle.image.specs.declared.size.Size.{Size}
+use Rattle.planes.proofs.RoundTrip.{drawn-as}
+use Rattle.planes.specs.Bytes.{decode, encode}
+use Rattle.planes.specs.Picture.{Agree, Pic}
 use Rattle.props.proofs.SizeLaws.{scale-sound}
 use Rattle.props.specs.Scale.{changed, scaleOf, withinOf}
-use Rattle.props.specs.Size.{judgedSize}
-use Rattle.props.specs.Sound.{SizeSound}
 use Rattle.props.specs.declared.iscl.Iscl.{Iscl}
-use Rattle.props.specs.declared.size.Size.{Size}
 use Rattle.resample.proofs.PlaceLaws.{level-same, near-same}
 use Rattle.resample.specs.Area.{area}
 use Rattle.resample.specs.Depth.{levelOf, rescaled, toDepth}
-use Rattle.resample.specs.Nearest.{nearest, sameSize}
-use Rattle.resample.specs.inner.Redraw.{RedrawFits, RuleFits, ScaleFits, acrossOf, downOf, redrawn, rowAt, rowOf, ruleAt}
+use Rattle.resample.specs.Nearest.{nearest}
 use Rattle.resample.specs.Run.{areaBytes, depthBytes, depthRun, isclRun, nearestBytes, nearestRun}
 use Rattle.resample.specs.declared.write.Rule.{Rule}
+use Rattle.resample.specs.inner.Redraw.{RedrawFits, RuleFits, ScaleFits, acrossOf, downOf, redrawn, rowAt, rowOf, ruleAt}
 
 -- the rule of another depth, or of the same
 abbrev pub nearRule : ℕ → ℕ → Rule
@@ -67,23 +65,19 @@ depth-fits m depth ok l h = record {
 }
 
 module _ (s : List ℕ) (fr : Frame) (taken : recordOf s ≡ done fr) (depth room : ℕ) where
-  pub depth-low : depth < 8 → depthRun s depth room ≡ refused (reason 6)
+  pub depth-outside : not (isDepth depth) ≡ true → depthRun s depth room ≡ refused (reason 6)
   unfolding depthRun
-  depth-low h = then-done _ taken ∙ refuse-yes _ _ (lt-ltb _ _ h)
+  depth-outside h = then-done _ taken ∙ refuse-yes _ _ h
 
-  pub depth-high : 8 ≤ depth → 16 < depth → depthRun s depth room ≡ refused (reason 6)
-  unfolding depthRun
-  depth-high l h = then-done _ taken ∙ refuse-no _ _ (le-ltb _ _ l) ∙ refuse-yes _ _ (lt-ltb _ _ h)
-
-  pub depth-same : 8 ≤ depth → depth ≤ 16 → depth ≡ fr .form .format .depth → depthRun s depth room ≡ fitted room s
+  pub depth-same : not (isDepth depth) ≡ false → depth ≡ fr .form .format .depth → depthRun s depth room ≡ fitted room s
   unfolding depthRun depthBytes
-  depth-same l h e = then-done _ taken ∙ refuse-no _ _ (le-ltb _ _ l) ∙ refuse-no _ _ (le-ltb _ _ h) ∙ ap (fitted room) (pick-true _ _ _ (eq-eqb _ _ e))
+  depth-same h e = then-done _ taken ∙ refuse-no _ _ h ∙ ap (fitted room) (pick-true _ _ _ (eq-eqb _ _ e))
 
-  pub depth-drawn : 8 ≤ depth → depth ≤ 16 → (depth ≡ fr .form .format .depth → ⊥)
+  pub depth-drawn : not (isDepth depth) ≡ false → (depth ≡ fr .form .format .depth → ⊥)
       → depthRun s depth room ≡ fitted room (encode (redrawn (toDepth (fr .form) depth) (nearRule (fr .form .format .depth) depth) (decode s fr)))
   unfolding depthRun depthBytes decode
-  depth-drawn l h e =
-      then-done _ taken ∙ refuse-no _ _ (le-ltb _ _ l) ∙ refuse-no _ _ (le-ltb _ _ h) ∙ ap (fitted room) (pick-false _ _ _ (ne-eqb _ _ e))
+  depth-drawn h e =
+      then-done _ taken ∙ refuse-no _ _ h ∙ ap (fitted room) (pick-false _ _ _ (ne-eqb _ _ e))
       ∙ drawn-as room _ _ (depth-agrees (decode s fr) depth (whole-sound s fr taken .0 .form))
 
 -- ---- another size
@@ -122,11 +116,11 @@ module _ (s : List ℕ) (fr : Frame) (taken : recordOf s ≡ done fr) (w h room 
   unfolding nearestRun
   nearest-refused e q = then-done _ taken ∙ then-refused _ q
 
-  pub nearest-same : (z : Size) → judgedSize w h ≡ done z → sameSize (fr .form) (z .width) (z .height) ≡ true → nearestRun s w h room ≡ fitted room s
+  pub nearest-same : (z : Size) → judgedSize w h ≡ done z → hasSize (fr .form) (z .width) (z .height) ≡ true → nearestRun s w h room ≡ fitted room s
   unfolding nearestRun nearestBytes
   nearest-same z q e = then-done _ taken ∙ then-done _ q ∙ ap (fitted room) (pick-true _ _ _ e)
 
-  pub nearest-drawn : (z : Size) → judgedSize w h ≡ done z → sameSize (fr .form) (z .width) (z .height) ≡ false
+  pub nearest-drawn : (z : Size) → judgedSize w h ≡ done z → hasSize (fr .form) (z .width) (z .height) ≡ false
       → nearestRun s w h room ≡ fitted room (encode (redrawn (sized (fr .form) (z .width) (z .height)) (nearRule (fr .form .format .depth) (fr .form .format .depth)) (decode s fr)))
   unfolding nearestRun nearestBytes decode
   nearest-drawn z q e = then-done _ taken ∙ then-done _ q ∙ ap (fitted room) (pick-false _ _ _ e) ∙ drawn-as room _ _ (near-agrees (decode s fr) (z .width) (z .height))
@@ -148,11 +142,11 @@ within-small z x y e =
     let f = refuse-done _ _ _ y (d .1) in
     rw (← done-same x y (f .1)) (ltb-false _ _ (b .0), ltb-false _ _ (c .0), ltb-false _ _ (d .0), ltb-false _ _ (f .0))
 
-same-own : (m : Form) → sameSize m (m .width) (m .height) ≡ true
-unfolding sameSize
+same-own : (m : Form) → hasSize m (m .width) (m .height) ≡ true
+unfolding hasSize
 same-own m = true-and _ _ (eq-eqb (m .width) (m .width) refl) (eq-eqb (m .height) (m .height) refl)
 
-changed-small : (m : Form) (x y : Size) → changed (record { width = m .width; height = m .height }) x ≡ done y → sameSize m (y .width) (y .height) ≡ false
+changed-small : (m : Form) (x y : Size) → changed (record { width = m .width; height = m .height }) x ≡ done y → hasSize m (y .width) (y .height) ≡ false
     → (m .width ≤ 2 ^ 26) × (m .height ≤ 2 ^ 26) × (y .width ≤ 2 ^ 26) × (y .height ≤ 2 ^ 26)
 unfolding changed
 changed-small m x y e n = go (eqb (x .width) (m .width) && eqb (x .height) (m .height)) e
@@ -163,12 +157,12 @@ changed-small m x y e n = go (eqb (x .width) (m .width) && eqb (x .height) (m .h
     go : (b : Bool) → pick b (done z) (withinOf z x) ≡ done y → (m .width ≤ 2 ^ 26) × (m .height ≤ 2 ^ 26) × (y .width ≤ 2 ^ 26) × (y .height ≤ 2 ^ 26)
     go true q =
         let i : z ≡ y = done-same z y (sym (pick-true true (done z) (withinOf z x) refl) ∙ q) in
-        let o : sameSize m (m .width) (m .height) ≡ false = ap (λ (v : Size). sameSize m (v .width) (v .height)) i ∙ n in
+        let o : hasSize m (m .width) (m .height) ≡ false = ap (λ (v : Size). hasSize m (v .width) (v .height)) i ∙ n in
         let f : true ≡ false = sym (same-own m) ∙ o in
         apart (cc)
     go false q = within-small z x y (sym (pick-false false (done z) (withinOf z x) refl) ∙ q)
 
-pub scale-small : (k : Iscl) (m : Form) (y : Size) → scaleOf k (m .width) (m .height) ≡ done y → sameSize m (y .width) (y .height) ≡ false
+pub scale-small : (k : Iscl) (m : Form) (y : Size) → scaleOf k (m .width) (m .height) ≡ done y → hasSize m (y .width) (y .height) ≡ false
     → (m .width ≤ 2 ^ 26) × (m .height ≤ 2 ^ 26) × (y .width ≤ 2 ^ 26) × (y .height ≤ 2 ^ 26)
 unfolding scaleOf
 scale-small k m y e n =
@@ -202,11 +196,11 @@ area-rule m z ok k f =
     }
 
 module _ (s : List ℕ) (fr : Frame) (z : Size) (room : ℕ) where
-  pub area-kept : sameSize (fr .form) (z .width) (z .height) ≡ true → fitted room (areaBytes s fr (z .width) (z .height)) ≡ fitted room s
+  pub area-kept : hasSize (fr .form) (z .width) (z .height) ≡ true → fitted room (areaBytes s fr (z .width) (z .height)) ≡ fitted room s
   unfolding areaBytes
   area-kept e = ap (fitted room) (pick-true _ _ _ e)
 
-  pub area-drawn : sameSize (fr .form) (z .width) (z .height) ≡ false
+  pub area-drawn : hasSize (fr .form) (z .width) (z .height) ≡ false
       → fitted room (areaBytes s fr (z .width) (z .height)) ≡ fitted room (encode (redrawn (sized (fr .form) (z .width) (z .height)) Rule.Area (decode s fr)))
   unfolding areaBytes decode
   area-drawn e = ap (fitted room) (pick-false _ _ _ e) ∙ drawn-as room _ _ (area-agrees (decode s fr) (z .width) (z .height))

@@ -6,10 +6,10 @@ use native.Mathlib.Omega.{arith}
 use borrow.Author.Tests.{le-leb}
 use Rattle.laws.proofs.Order.{pick-true}
 use Rattle.image.proofs.FormLaws.{columns-some, rows-some}
-use Rattle.image.specs.Format.{columnsOf, rowsOf}
-use Rattle.image.specs.Picture.{Agree, Pic, sized}
+use Rattle.image.specs.Format.{columnsOf, rowsOf, sized}
+use Rattle.planes.specs.Picture.{Agree, Pic}
 use Rattle.image.specs.Sound.{FormSound}
-use Rattle.resample.proofs.FootLaws.{greatest-case, least-left}
+use Rattle.resample.proofs.FootLaws.{max-case, min-left}
 use Rattle.resample.proofs.PlaceLaws.{level-same, near-same}
 use Rattle.resample.specs.Area.{area, areaMean, firstOf, footOf, pastOf, shareOf, sum, weighed, weightOf}
 use Rattle.resample.specs.Depth.{rescaled, toDepth}
@@ -42,8 +42,8 @@ one k = record { start = k * 256; end = (k + 1) * 256 }
 one-weight : (k : ℕ) → weightOf (one k) k ≡ 256
 unfolding weightOf
 one-weight k =
-    let e = least-left ((k + 1) * 256) (256 * k + 256) (omega arith) in
-    greatest-case (k * 256) (256 * k) (λ h g. omega (arith, e, g)) (λ h g. omega (arith, e, g))
+    let e = min-left ((k + 1) * 256) (256 * k + 256) (omega arith) in
+    max-case (k * 256) (256 * k) (λ h g. omega (arith, e, g)) (λ h g. omega (arith, e, g))
 
 one-weighed : (k : ℕ) (v : ℕ → ℕ) → weighed (one k) v ≡ v k * 256
 unfolding weighed firstOf pastOf sum

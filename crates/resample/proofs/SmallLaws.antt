@@ -5,9 +5,9 @@ use native.Mathlib.Nat.{div-lt-iff-lt-mul, mul-assoc, mul-comm, mul-le-mul, mul-
 use native.Mathlib.Omega.{arith}
 use lib.Dec.{lit≤}
 use Rattle.image.proofs.FormLaws.{bytes-cases, columns-some, rows-some}
-use Rattle.image.proofs.RoundTrip.{Small}
-use Rattle.image.specs.Format.{bytesOf, columnsOf, rowsOf}
-use Rattle.image.specs.Picture.{Pic, sized}
+use Rattle.planes.proofs.RoundTrip.{Small}
+use Rattle.image.specs.Format.{bytesOf, columnsOf, rowsOf, sized}
+use Rattle.planes.specs.Picture.{Pic}
 use Rattle.image.specs.Sound.{FormSound}
 use Rattle.resample.proofs.FootLaws.{Weighing, foot-in, past-in, weighing-done, weighing-start, weighing-step}
 use Rattle.resample.specs.Area.{area, areaMean, firstOf, pastOf, weighed}
@@ -15,19 +15,19 @@ use Rattle.resample.specs.inner.Sums.{FootIn}
 use Rattle.resample.specs.Rounded.{rounded}
 use Rattle.resample.specs.declared.area.Foot.{Foot}
 
--- ---- a mean is at most the greatest sample
+-- ---- a mean is at most the max sample
 
 weighing-all : (f : Foot) (n : ℕ) (v : ℕ → ℕ) (most : ℕ) → FootIn f n → ((i : ℕ) → i < n → v i ≤ most)
     → (left j acc : ℕ) → left ≡ pastOf f - j → Weighing f v most j acc → weighed f v ≤ (f .end - f .start) * most
 weighing-all f n v most k h zero j acc e w =
-    let d = weighing-done f v most (k .some) j acc w (omega (arith, e, w .high)) in
+    let d = weighing-done f v most (k .positive) j acc w (omega (arith, e, w .high)) in
     rw (d .0) at (d .1)
 weighing-all f n v most k h (suc left) j acc e w =
     let l : j < pastOf f = omega (arith, e) in
-    weighing-all f n v most k h left (j + 1) _ (omega (arith, e)) (weighing-step f v most (k .some) j acc w l (h j (past-in f n j k l)) _ refl)
+    weighing-all f n v most k h left (j + 1) _ (omega (arith, e)) (weighing-step f v most (k .positive) j acc w l (h j (past-in f n j k l)) _ refl)
 
 pub weighed-le : (f : Foot) (n : ℕ) (v : ℕ → ℕ) (most : ℕ) → FootIn f n → ((i : ℕ) → i < n → v i ≤ most) → weighed f v ≤ (f .end - f .start) * most
-weighed-le f n v most k h = weighing-all f n v most k h _ (firstOf f) 0 refl (weighing-start f v most (k .some))
+weighed-le f n v most k h = weighing-all f n v most k h _ (firstOf f) 0 refl (weighing-start f v most (k .positive))
 
 rounded-le : (n d most : ℕ) → 1 ≤ d → n ≤ d * most → rounded n d ≤ most
 unfolding rounded
@@ -40,8 +40,8 @@ pub mean-le : (across down : Foot) (columns rows : ℕ) (v : ℕ → ℕ → ℕ
     → ((x y : ℕ) → x < columns → y < rows → v x y ≤ most) → areaMean across down v ≤ most
 unfolding areaMean
 mean-le across down columns rows v most a b h =
-    let w : 1 ≤ across .end - across .start = omega (arith, a .some) in
-    let t : 1 ≤ down .end - down .start = omega (arith, b .some) in
+    let w : 1 ≤ across .end - across .start = omega (arith, a .positive) in
+    let t : 1 ≤ down .end - down .start = omega (arith, b .positive) in
     let s = weighed-le down rows _ ((across .end - across .start) * most) b (λ y j. weighed-le across columns _ most a (λ x i. h x y i j)) in
     let e : (down .end - down .start) * ((across .end - across .start) * most) ≡ (across .end - across .start) * (down .end - down .start) * most
     = mul-left-comm (down .end - down .start) (across .end - across .start) most ∙ sym (mul-assoc (across .end - across .start) (down .end - down .start) most) in

@@ -1,11 +1,11 @@
 -- Another size by means over footprints (document 01, iscl, `resize_area`): a box where there are fewer samples, linear between
 -- the two nearest centres where there are more; each plane between its own sizes. Lengths along an axis are in 256ths of a sample.
-use Prim.Native.Nat.{_*_, _+_, _-_, _/_, suc, zero, ℕ}
+use Prim.Native.Nat.{_*_, _+_, _-_, _/_, max, min, suc, zero, ℕ}
 use lib.Dec.{leb}
 use Rattle.laws.specs.Pick.{pick}
-use Rattle.image.specs.Format.{columnsOf, rowsOf}
-use Rattle.image.specs.Picture.{Pic, sized}
-use Rattle.resample.specs.Rounded.{greatest, least, rounded}
+use Rattle.image.specs.Format.{columnsOf, rowsOf, sized}
+use Rattle.planes.specs.Picture.{Pic}
+use Rattle.resample.specs.Rounded.{rounded}
 use Rattle.resample.specs.declared.area.Foot.{Foot}
 
 -- the part of an axis of `from` samples that sample k of `to` stands for. No more samples than there were: its share of the axis.
@@ -16,7 +16,7 @@ shareOf from to k = record { start = k * from * 256 / to; end = (k + 1) * from *
 
 unfoldable pub aroundOf : ℕ → ℕ → ℕ → Foot
 aroundOf from to k =
-    let start = least ((2 * k + 1) * from * 256 / (2 * to) - 128) (256 * (from - 1)) in
+    let start = min ((2 * k + 1) * from * 256 / (2 * to) - 128) (256 * (from - 1)) in
     record { start = start; end = start + 256 }
 
 unfoldable pub footOf : ℕ → ℕ → ℕ → Foot
@@ -24,7 +24,7 @@ footOf from to k = pick (leb to from) (shareOf from to k) (aroundOf from to k)
 
 -- how much of a footprint lies in sample j, from 256 × j to 256 × j + 256
 unfoldable pub weightOf : Foot → ℕ → ℕ
-weightOf f j = least (f .end) (256 * j + 256) - greatest (f .start) (256 * j)
+weightOf f j = min (f .end) (256 * j + 256) - max (f .start) (256 * j)
 
 -- f k + f (k + 1) + ..., n terms
 unfoldable pub sum : (ℕ → ℕ) → ℕ → ℕ → ℕ

@@ -7,21 +7,17 @@ use Prim.Native.Nat.{ℕ}
 use lib.Dec.{eqb}
 use Rattle.laws.specs.Pick.{pick}
 use Rattle.numbers.specs.Number.{numberBytes}
-use Rattle.image.specs.Bytes.{dataOf, decode, headBytes, planeBytes}
-use Rattle.image.specs.Format.{hasPart}
-use Rattle.image.specs.Picture.{Pic}
-use Rattle.image.specs.Record.{planeOf}
+use Rattle.image.specs.Format.{hasPart, hasSize, withAlpha}
+use Rattle.image.specs.Record.{dataOf, planeOf}
 use Rattle.image.specs.declared.format.Form.{Form}
 use Rattle.image.specs.declared.format.Part.{Part}
 use Rattle.image.specs.declared.format.Part.the-variants.{Cb, Cr, Luma}
 use Rattle.image.specs.declared.record.Frame.{Frame}
 use Rattle.image.specs.declared.record.Plane.{Plane}
+use Rattle.planes.specs.Bytes.{decode, headBytes, planeBytes}
+use Rattle.planes.specs.Picture.{Pic}
 use Rattle.resample.specs.Depth.{rescaled}
-use Rattle.resample.specs.Nearest.{nearest, sameSize}
-
--- the form with an alpha plane, whether it had one or not
-unfoldable pub withAlpha : Form → Form
-withAlpha m = record { width = m .width; height = m .height; format = record { chroma = m .format .chroma; depth = m .format .depth; alpha = 1 } }
+use Rattle.resample.specs.Nearest.{nearest}
 
 -- the form, and the picture, of the luma alone
 unfoldable pub lumaForm : Form → Form
@@ -38,14 +34,14 @@ unfoldable pub keptPart : List ℕ → Frame → Part → List ℕ
 keptPart s fr p = pick (hasPart (fr .form .format) p) (keptPlane s (planeOf fr p)) []
 
 -- the alpha plane for a picture of the form m
-unfoldable pub coverKept : Form → Form → Bool
-coverKept m n = sameSize n (m .width) (m .height) && eqb (m .format .depth) (n .format .depth)
+unfoldable pub alphaKept : Form → Form → Bool
+alphaKept m n = hasSize n (m .width) (m .height) && eqb (m .format .depth) (n .format .depth)
 
-unfoldable pub coverBytes : Form → List ℕ → Frame → List ℕ
-coverBytes m t gr =
-    pick (coverKept m (gr .form)) (keptPlane t (gr .luma))
+unfoldable pub alphaBytes : Form → List ℕ → Frame → List ℕ
+alphaBytes m t gr =
+    pick (alphaKept m (gr .form)) (keptPlane t (gr .luma))
     (planeBytes (rescaled (nearest (lumaOf (decode t gr)) (m .width) (m .height)) (m .format .depth)) Luma)
 
 unfoldable pub attachBytes : List ℕ → Frame → List ℕ → Frame → List ℕ
 attachBytes s fr t gr =
-    headBytes (withAlpha (fr .form)) ++ (keptPart s fr Luma ++ (keptPart s fr Cb ++ (keptPart s fr Cr ++ coverBytes (fr .form) t gr)))
+    headBytes (withAlpha (fr .form) 1) ++ (keptPart s fr Luma ++ (keptPart s fr Cb ++ (keptPart s fr Cr ++ alphaBytes (fr .form) t gr)))

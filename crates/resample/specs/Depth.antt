@@ -1,17 +1,15 @@
 -- Another depth (document 01, "Other operations", `rescale_depth`): round(v × new top / old top), capped at the new top; an equal
 -- depth is the sample as it is.
-use Prim.Native.Nat.{_*_, _-_, _^_, ℕ}
+use Prim.Native.Nat.{_*_, min, ℕ}
 use lib.Dec.{eqb}
 use Rattle.laws.specs.Pick.{pick}
-use Rattle.image.specs.Picture.{Pic}
+use Rattle.image.specs.Format.{topAt}
 use Rattle.image.specs.declared.format.Form.{Form}
-use Rattle.resample.specs.Rounded.{least, rounded}
-
-unfoldable pub topAt : ℕ → ℕ
-topAt depth = 2 ^ depth - 1
+use Rattle.planes.specs.Picture.{Pic}
+use Rattle.resample.specs.Rounded.{rounded}
 
 unfoldable pub levelOf : ℕ → ℕ → ℕ → ℕ
-levelOf old new v = pick (eqb old new) v (least (rounded (v * topAt new) (topAt old)) (topAt new))
+levelOf old new v = pick (eqb old new) v (min (rounded (v * topAt new) (topAt old)) (topAt new))
 
 -- the form with another depth
 unfoldable pub toDepth : Form → ℕ → Form

@@ -2,13 +2,9 @@
 use mathlib.Core.Bool.{Bool, _&&_}
 use Prim.Native.Nat.{_*_, _/_, ℕ}
 use lib.Dec.{eqb}
-use Rattle.image.specs.Format.{columnsOf, rowsOf}
-use Rattle.image.specs.Picture.{Pic, sized}
+use Rattle.image.specs.Format.{columnsOf, rowsOf, sized}
+use Rattle.planes.specs.Picture.{Pic}
 use Rattle.image.specs.declared.format.Form.{Form}
-
--- whether a size is the picture's own
-unfoldable pub sameSize : Form → ℕ → ℕ → Bool
-sameSize m w h = eqb (m .width) w && eqb (m .height) h
 
 -- the sample, of so many that there were, that stands for sample k of so many that there are to be
 unfoldable pub nearPlace : ℕ → ℕ → ℕ → ℕ

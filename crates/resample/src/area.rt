@@ -3,10 +3,9 @@ ghost use mathlib.Core.Path.{_≡_};
 ghost use Prim.Native.Nat.{_-_, _*_, _<_, _≤_, _^_};
 ghost use lib.ListN.{length};
 ghost use Rattle.laws.specs.Out.{answerOf, fitted, written};
-ghost use Rattle.image.specs.Bytes.{sampleIn};
+ghost use Rattle.planes.specs.Bytes.{sampleIn};
 ghost use Rattle.resample.specs.Area.{footOf, firstOf, pastOf, weightOf, weighed, areaMean};
 ghost use Rattle.resample.specs.inner.Sums.{AreaFits, RowSumFits};
-ghost use Rattle.resample.specs.Rounded.{greatest, least};
 ghost use Rattle.image.specs.inner.Placed.{Sound};
 ghost use Rattle.resample.specs.inner.Redraw.{ScaleFits};
 ghost use Rattle.resample.specs.Run.{areaBytes, isclRun};
@@ -14,43 +13,15 @@ use crate::write::Axis;
 use crate::write::Rule;
 use image::Frame;
 use image::FrameRead;
+use image::Size;
+use image::SizeAnswer;
 use laws::Answer;
 use props::Iscl;
-use props::Size;
-use props::SizeAnswer;
 
 // A part of an axis, in 256ths of a sample.
 pub struct Foot {
     pub start: usize,
     pub end: usize,
-}
-
-fn least(a: usize, b: usize) -> usize
-    ensures { λ r. ⌜ r ≡ least a b ⌝ }
-{
-    if a <= b {
-        return a;
-    }
-    b
-}
-
-fn greatest(a: usize, b: usize) -> usize
-    ensures { λ r. ⌜ r ≡ greatest a b ⌝ }
-{
-    if a <= b {
-        return b;
-    }
-    a
-}
-
-// a - b, or 0 where b is larger.
-fn above(a: usize, b: usize) -> usize
-    ensures { λ r. ⌜ r ≡ a - b ⌝ }
-{
-    if a <= b {
-        return 0;
-    }
-    a - b
 }
 
 // The footprint of sample k: its share of the axis where there are to be no more samples than there were; else the width of
@@ -68,7 +39,7 @@ pub fn footprint(a: Axis, k: usize) -> Foot
         };
     }
     let centre = (2 * k + 1) * from * 256 / (2 * to);
-    let start = least(above(centre, 128), 256 * (from - 1));
+    let start = numbers::min(numbers::saturating_sub(centre, 128), 256 * (from - 1));
     Foot {
         start,
         end: start + 256,
@@ -80,7 +51,7 @@ fn weight(f: Foot, j: usize) -> usize
     requires { ⌜ (f .start < f .end) × (f .end ≤ 2 ^ 40) × (firstOf f ≤ j) × (j < pastOf f) ⌝ }
     ensures { λ r. ⌜ (r ≡ weightOf f j) × (r ≤ 256) ⌝ }
 {
-    least(f.end, 256 * j + 256) - greatest(f.start, 256 * j)
+    numbers::min(f.end, 256 * j + 256) - numbers::max(f.start, 256 * j)
 }
 
 // The samples of row y under a footprint, each times its weight.
@@ -92,7 +63,7 @@ fn row_sum(plane: &[u8], bytes: usize, stride: usize, f: Foot, y: usize) -> usiz
     let mut sum: usize = 0;
     let mut j = f.start / 256;
     while j < past {
-        sum += image::sample(plane, bytes, stride, j, y) as usize * weight(f, j);
+        sum += planes::sample(plane, bytes, stride, j, y) as usize * weight(f, j);
         j += 1;
     }
     sum
@@ -122,8 +93,8 @@ pub fn resize_area(record: &[u8], fr: Frame, z: Size, out: &mut [u8]) -> Answer
         × (now (out .exit) ≡ written (fitted (length (now (out .entry))) (areaBytes (now («record» .entry)) fr (z .width) (z .height))) (now (out .entry))) ⌝ }
 {
     let m = fr.form;
-    if crate::write::same_size(m, z) {
-        return image::hand_back(record, out);
+    if m.has_size(z.width, z.height) {
+        return planes::hand_back(record, out);
     }
     crate::write::draw(record, fr, m.sized(z.width, z.height), Rule::Area, out)
 }

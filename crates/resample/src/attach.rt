@@ -5,7 +5,7 @@ ghost use lib.ListN.{length};
 ghost use Rattle.laws.specs.Out.{answerOf, written};
 ghost use Rattle.laws.specs.Puts.{puts};
 ghost use Rattle.image.specs.Sound.{FormSound};
-ghost use Rattle.resample.specs.Attach.{withAlpha, lumaForm, keptPlane, keptPart, coverKept, coverBytes, attachBytes};
+ghost use Rattle.resample.specs.Attach.{lumaForm, keptPlane, keptPart, alphaKept, alphaBytes, attachBytes};
 ghost use Rattle.resample.specs.inner.Kept.{KeptFits, Whole};
 ghost use Rattle.resample.specs.Run.{attachRun};
 use crate::depth::Depths;
@@ -18,26 +18,9 @@ use image::PixelFormat;
 use image::Plane;
 use laws::Answer;
 use laws::Refusal;
-use props::Size;
-
-// The form with an alpha plane.
-fn with_alpha(m: Form) -> Form
-    ensures { λ r. ⌜ r ≡ withAlpha m ⌝ }
-{
-    let f = m.format;
-    Form {
-        width: m.width,
-        height: m.height,
-        format: PixelFormat {
-            chroma: f.chroma,
-            depth: f.depth,
-            alpha: 1,
-        },
-    }
-}
 
 // The form of a luma plane alone for a picture of a form.
-fn cover_form(m: Form) -> Form
+fn alpha_form(m: Form) -> Form
     ensures { λ r. ⌜ r ≡ lumaForm m ⌝ }
 {
     let f = m.format;
@@ -53,18 +36,12 @@ fn cover_form(m: Form) -> Form
 }
 
 // Whether a luma plane serves as it stands.
-fn cover_kept(m: Form, n: Form) -> bool
-    ensures { λ r. ⌜ r ≡ coverKept m n ⌝ }
+fn alpha_kept(m: Form, n: Form) -> bool
+    ensures { λ r. ⌜ r ≡ alphaKept m n ⌝ }
 {
     let f = m.format;
     let g = n.format;
-    if crate::write::same_size(
-        n,
-        Size {
-            width: m.width,
-            height: m.height,
-        },
-    ) {
+    if n.has_size(m.width, m.height) {
         return f.depth == g.depth;
     }
     false
@@ -77,7 +54,7 @@ fn keep_plane(out: &mut [u8], at: usize, s: &[u8], q: Plane) -> usize
 {
     let a = numbers::write_number(out, at, q.stride as u32);
     let b = numbers::write_number(out, a, q.len as u32);
-    image::copy_row(out, b, image::plane_data(s, q))
+    planes::copy_row(out, b, planes::plane_data(s, q))
 }
 
 // How many bytes a plane takes as it stands.
@@ -115,12 +92,12 @@ fn part_size(s: &[u8], fr: Frame, part: Part) -> usize
 }
 
 // Writes the alpha plane of a picture of a form, from a record's luma.
-fn write_cover(out: &mut [u8], at: usize, m: Form, t: &[u8], gr: Frame) -> usize
-    requires { ⌜ FormSound m × Whole (now t) gr × (at + length (coverBytes m (now t) gr) ≤ length (now out)) ⌝ }
-    ensures { λ r. ⌜ (r ≡ at + length (coverBytes m (now (t .entry)) gr)) × (now (out .exit) ≡ puts (now (out .entry)) at (coverBytes m (now (t .entry)) gr)) ⌝ }
+fn write_alpha(out: &mut [u8], at: usize, m: Form, t: &[u8], gr: Frame) -> usize
+    requires { ⌜ FormSound m × Whole (now t) gr × (at + length (alphaBytes m (now t) gr) ≤ length (now out)) ⌝ }
+    ensures { λ r. ⌜ (r ≡ at + length (alphaBytes m (now (t .entry)) gr)) × (now (out .exit) ≡ puts (now (out .entry)) at (alphaBytes m (now (t .entry)) gr)) ⌝ }
 {
     let n = gr.form;
-    if cover_kept(m, n) {
+    if alpha_kept(m, n) {
         return keep_plane(out, at, t, gr.luma);
     }
     let f = m.format;
@@ -129,18 +106,18 @@ fn write_cover(out: &mut [u8], at: usize, m: Form, t: &[u8], gr: Frame) -> usize
         old: g.depth,
         new: f.depth,
     });
-    crate::write::write_plane(out, at, t, gr, cover_form(m), rule, Part::Luma)
+    crate::write::write_plane(out, at, t, gr, alpha_form(m), rule, Part::Luma)
 }
 
-fn cover_size(m: Form, t: &[u8], gr: Frame) -> usize
+fn alpha_size(m: Form, t: &[u8], gr: Frame) -> usize
     requires { ⌜ FormSound m × Whole (now t) gr ⌝ }
-    ensures { λ r. ⌜ (r ≡ length (coverBytes m (now (t .entry)) gr)) × (r < 2 ^ 33) ⌝ }
+    ensures { λ r. ⌜ (r ≡ length (alphaBytes m (now (t .entry)) gr)) × (r < 2 ^ 33) ⌝ }
 {
     let n = gr.form;
-    if cover_kept(m, n) {
+    if alpha_kept(m, n) {
         return kept_size(t, gr.luma);
     }
-    image::plane_size(cover_form(m), Part::Luma)
+    planes::plane_size(alpha_form(m), Part::Luma)
 }
 
 fn attached_size(s: &[u8], fr: Frame, t: &[u8], gr: Frame) -> usize
@@ -148,11 +125,11 @@ fn attached_size(s: &[u8], fr: Frame, t: &[u8], gr: Frame) -> usize
     ensures { λ r. ⌜ r ≡ length (attachBytes (now (s .entry)) fr (now (t .entry)) gr) ⌝ }
 {
     let m = fr.form;
-    let head = image::head_size(with_alpha(m));
+    let head = planes::head_size(m.with_alpha(1));
     let luma = part_size(s, fr, Part::Luma);
     let cb = part_size(s, fr, Part::Cb);
     let cr = part_size(s, fr, Part::Cr);
-    head + luma + cb + cr + cover_size(m, t, gr)
+    head + luma + cb + cr + alpha_size(m, t, gr)
 }
 
 fn write_attached(out: &mut [u8], s: &[u8], fr: Frame, t: &[u8], gr: Frame) -> usize
@@ -161,11 +138,11 @@ fn write_attached(out: &mut [u8], s: &[u8], fr: Frame, t: &[u8], gr: Frame) -> u
         × (now (out .exit) ≡ puts (now (out .entry)) 0 (attachBytes (now (s .entry)) fr (now (t .entry)) gr)) ⌝ }
 {
     let m = fr.form;
-    let a = image::write_head(out, 0, with_alpha(m));
+    let a = planes::write_head(out, 0, m.with_alpha(1));
     let b = keep_part(out, a, s, fr, Part::Luma);
     let c = keep_part(out, b, s, fr, Part::Cb);
     let d = keep_part(out, c, s, fr, Part::Cr);
-    write_cover(out, d, m, t, gr)
+    write_alpha(out, d, m, t, gr)
 }
 
 // The master's picture with another record's luma as its alpha. Refusals: the master's, the alpha record's, 17.

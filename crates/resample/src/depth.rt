@@ -1,9 +1,8 @@
 // Another depth: each sample in proportion to the top.
 ghost use mathlib.Core.Path.{_≡_};
-ghost use Prim.Native.Nat.{_<_, _≤_, _^_};
 ghost use lib.ListN.{length};
 ghost use Rattle.laws.specs.Out.{answerOf, written};
-ghost use Rattle.resample.specs.Depth.{topAt, levelOf};
+ghost use Rattle.resample.specs.Depth.{levelOf};
 ghost use Rattle.resample.specs.inner.Depths.{DepthsFit};
 ghost use Rattle.resample.specs.Run.{depthRun};
 use crate::write::Rule;
@@ -19,14 +18,6 @@ pub struct Depths {
     pub new: u32,
 }
 
-// The largest sample of a depth.
-fn top_at(depth: u32) -> usize
-    requires { ⌜ (8 ≤ depth) × (depth ≤ 16) ⌝ }
-    ensures { λ r. ⌜ (r ≡ topAt depth) × (255 ≤ r) × (r < 2 ^ 16) ⌝ }
-{
-    ((1u32 << depth) - 1) as usize
-}
-
 impl Depths {
     // The sample of the new depth: v * new top / old top to the nearest whole number, at most the new top.
     pub fn level(self, v: u16) -> u16
@@ -36,8 +27,8 @@ impl Depths {
         if self.old == self.new {
             return v;
         }
-        let old = top_at(self.old);
-        let new = top_at(self.new);
+        let old = PixelFormat::top_at(self.old) as usize;
+        let new = PixelFormat::top_at(self.new) as usize;
         let level = (v as usize * new + old / 2) / old;
         if level > new {
             return new as u16;
@@ -54,16 +45,13 @@ pub fn rescale_depth(record: &[u8], depth: u32, out: &mut [u8]) -> Answer
     match image::parse_record(record) {
         FrameRead::Refused(e) => Answer::Refused(e),
         FrameRead::Read(f) => {
-            if depth < 8 {
-                return Answer::Refused(Refusal::DEPTH);
-            }
-            if depth > 16 {
+            if !PixelFormat::is_depth(depth) {
                 return Answer::Refused(Refusal::DEPTH);
             }
             let m = f.form;
             let g = m.format;
             if depth == g.depth {
-                return image::hand_back(record, out);
+                return planes::hand_back(record, out);
             }
             let form = Form {
                 width: m.width,

@@ -1,6 +1,6 @@
 // Another size, each sample the nearest one at or before its place.
 ghost use mathlib.Core.Path.{_≡_};
-ghost use Prim.Native.Nat.{_*_, _<_, _≤_, _^_};
+ghost use Prim.Native.Nat.{_<_, _≤_, _^_};
 ghost use lib.ListN.{length};
 ghost use Rattle.laws.specs.Out.{answerOf, written};
 ghost use Rattle.resample.specs.Nearest.{nearPlace};
@@ -9,9 +9,9 @@ use crate::depth::Depths;
 use crate::write::Axis;
 use crate::write::Rule;
 use image::FrameRead;
+use image::Size;
+use image::SizeAnswer;
 use laws::Answer;
-use props::Size;
-use props::SizeAnswer;
 
 // Which of the samples that there were stands for sample k.
 pub fn nearest_place(a: Axis, k: usize) -> usize
@@ -37,8 +37,8 @@ pub fn resize_nearest(record: &[u8], width: u32, height: u32, out: &mut [u8]) ->
             SizeAnswer::Refused(e) => Answer::Refused(e),
             SizeAnswer::Size(z) => {
                 let m = f.form;
-                if crate::write::same_size(m, z) {
-                    return image::hand_back(record, out);
+                if m.has_size(z.width, z.height) {
+                    return planes::hand_back(record, out);
                 }
                 let g = m.format;
                 let rule = Rule::Near(Depths {

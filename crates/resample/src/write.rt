@@ -4,10 +4,9 @@ ghost use Prim.Native.Nat.{_+_, _*_, _<_, _≤_};
 ghost use lib.ListN.{length};
 ghost use Rattle.laws.specs.Out.{answerOf, written, fitted};
 ghost use Rattle.laws.specs.Puts.{puts};
-ghost use Rattle.image.specs.Bytes.{decode, planeBytes, encode};
+ghost use Rattle.planes.specs.Bytes.{decode, planeBytes, encode};
 ghost use Rattle.image.specs.inner.Placed.{Sound};
-ghost use Rattle.resample.specs.Nearest.{sameSize};
-ghost use Rattle.resample.specs.inner.Redraw.{rowOf, rasterAt, rasterRow, rasterOf, rasterBytes, redrawn, RuleFits, RowFits, AxisFits, RasterFits, RedrawFits};
+ghost use Rattle.resample.specs.inner.Redraw.{rowOf, rasterAt, rasterRow, rasterOf, rasterBytes, redrawn, RuleFits, RuleRowFits, AxisFits, RasterFits, RedrawFits};
 use crate::area::Foot;
 use crate::depth::Depths;
 use image::Form;
@@ -15,7 +14,6 @@ use image::Frame;
 use image::Part;
 use laws::Answer;
 use laws::Refusal;
-use props::Size;
 
 // Along one axis of a plane: how many samples there were, and how many there are to be.
 pub struct Axis {
@@ -68,7 +66,7 @@ fn row_rule(r: Raster, y: usize) -> RowRule
 
 // Sample x of a row.
 fn row_sample(plane: &[u8], r: Raster, row: RowRule, x: usize) -> u16
-    requires { ⌜ RasterFits (now plane) r × RowFits row (r .across) (r .down .from) × (x < r .across .to) ⌝ }
+    requires { ⌜ RasterFits (now plane) r × RuleRowFits row (r .across) (r .down .from) × (x < r .across .to) ⌝ }
     ensures { λ v. ⌜ v ≡ rasterAt (now (plane .entry)) r row x ⌝ }
 {
     let across = r.across;
@@ -76,7 +74,7 @@ fn row_sample(plane: &[u8], r: Raster, row: RowRule, x: usize) -> u16
         RowRule::Near(k) => {
             let depths = k.depths;
             let u = crate::nearest::nearest_place(across, x);
-            depths.level(image::sample(plane, r.bytes, r.stride, u, k.y))
+            depths.level(planes::sample(plane, r.bytes, r.stride, u, k.y))
         }
         RowRule::Area(down) => crate::area::area_sample(
             plane,
@@ -90,7 +88,7 @@ fn row_sample(plane: &[u8], r: Raster, row: RowRule, x: usize) -> u16
 
 // Writes a row of the new plane, and returns the place past it.
 fn write_row(out: &mut [u8], at: usize, plane: &[u8], r: Raster, row: RowRule) -> usize
-    requires { ⌜ RasterFits (now plane) r × RowFits row (r .across) (r .down .from) × (at + r .across .to * r .«to_bytes» ≤ length (now out)) ⌝ }
+    requires { ⌜ RasterFits (now plane) r × RuleRowFits row (r .across) (r .down .from) × (at + r .across .to * r .«to_bytes» ≤ length (now out)) ⌝ }
     ensures { λ e. ⌜ (e ≡ at + r .across .to * r .«to_bytes») × (now (out .exit) ≡ puts (now (out .entry)) at (rasterRow (now (plane .entry)) r row)) ⌝ }
 {
     let across = r.across;
@@ -98,7 +96,7 @@ fn write_row(out: &mut [u8], at: usize, plane: &[u8], r: Raster, row: RowRule) -
     let mut i = at;
     let mut x: usize = 0;
     while x < n {
-        i = image::put_sample(out, i, r.to_bytes, row_sample(plane, r, row, x));
+        i = planes::put_sample(out, i, r.to_bytes, row_sample(plane, r, row, x));
         x += 1;
     }
     i
@@ -158,10 +156,10 @@ pub fn write_plane(
 {
     let g = form.format;
     if g.has(part) {
-        let first = image::write_plane_head(out, at, form, part);
+        let first = planes::write_plane_head(out, at, form, part);
         let q = fr.plane(part);
         let r = plane_raster(fr.form, form, q.stride, part, rule);
-        return write_rows(out, first, image::plane_data(s, q), r);
+        return write_rows(out, first, planes::plane_data(s, q), r);
     }
     at
 }
@@ -172,7 +170,7 @@ fn write_record(out: &mut [u8], s: &[u8], fr: Frame, form: Form, rule: Rule) -> 
     ensures { λ e. ⌜ (e ≡ length (encode (redrawn form rule (decode (now (s .entry)) fr))))
         × (now (out .exit) ≡ puts (now (out .entry)) 0 (encode (redrawn form rule (decode (now (s .entry)) fr)))) ⌝ }
 {
-    let a = image::write_head(out, 0, form);
+    let a = planes::write_head(out, 0, form);
     let b = write_plane(out, a, s, fr, form, rule, Part::Luma);
     let c = write_plane(out, b, s, fr, form, rule, Part::Cb);
     let d = write_plane(out, c, s, fr, form, rule, Part::Cr);
@@ -185,18 +183,8 @@ pub fn draw(record: &[u8], fr: Frame, form: Form, rule: Rule, out: &mut [u8]) ->
     ensures { λ r. ⌜ (r ≡ answerOf (fitted (length (now (out .entry))) (encode (redrawn form rule (decode (now («record» .entry)) fr)))))
         × (now (out .exit) ≡ written (fitted (length (now (out .entry))) (encode (redrawn form rule (decode (now («record» .entry)) fr)))) (now (out .entry))) ⌝ }
 {
-    if out.len() < image::record_size(form) {
+    if out.len() < planes::record_size(form) {
         return Answer::Refused(Refusal::ROOM);
     }
     Answer::Wrote(write_record(out, record, fr, form, rule))
-}
-
-// Whether a size is the picture's own.
-pub fn same_size(m: Form, z: Size) -> bool
-    ensures { λ r. ⌜ r ≡ sameSize m (z .width) (z .height) ⌝ }
-{
-    if m.width == z.width {
-        return m.height == z.height;
-    }
-    false
 }

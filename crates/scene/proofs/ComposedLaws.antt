@@ -12,37 +12,41 @@ use Rattle.laws.proofs.Order.{by-order, by-test, pick-both, pick-false, pick-le
 use Rattle.laws.proofs.Out.{then-done}
 use Rattle.laws.specs.Out.{done}
 use Rattle.laws.specs.Pick.{pick}
+use Rattle.laws.specs.Puts.{Bytes}
 use Rattle.numbers.specs.Number.{onNumber, readNumber}
 use Rattle.numbers.specs.declared.NumberRead.the-variants.{Number}
-use Rattle.image.proofs.ByteLaws.{data-bytes, sample-small}
 use Rattle.image.proofs.FormLaws.{bytes-cases, bytes-few}
-use Rattle.image.proofs.RoundTrip.{Tame}
 use Rattle.image.proofs.TrayLaws.{frames-length}
-use Rattle.image.specs.Bytes.{Bytes, dataOf, decode, sampleIn}
-use Rattle.image.specs.Format.{bytesOf, hasPart, middleOf, topOf}
-use Rattle.image.specs.Picture.{Pic, as444, full, pixel, promote}
-use Rattle.image.specs.Record.{planeOf}
+use Rattle.image.specs.Format.{as444, bytesOf, hasPart, middleOf, topOf}
+use Rattle.image.specs.Record.{dataOf, planeOf}
 use Rattle.image.specs.Sound.{FormSound}
+use Rattle.image.specs.Tray.{noForm, noFrame}
 use Rattle.image.specs.declared.format.Form.{Form}
 use Rattle.image.specs.declared.format.Part.{Part}
 use Rattle.image.specs.declared.format.Part.the-variants.{Alpha, Cb, Cr, Luma}
 use Rattle.image.specs.declared.format.PixelFormat.{PixelFormat}
 use Rattle.image.specs.declared.record.Frame.{Frame}
+use Rattle.planes.proofs.ByteLaws.{data-bytes, sample-small}
+use Rattle.planes.proofs.RoundTrip.{InRange}
+use Rattle.planes.specs.Bytes.{decode, pictureIn, sampleIn}
+use Rattle.planes.specs.Picture.{Pic, full, pixel, promote}
 use Rattle.fill.specs.declared.Colour.{Colour}
 use Rattle.derived.proofs.Taken.{overlay-fill}
 use Rattle.grid.proofs.Composed.{canvas-depth}
 use Rattle.grid.proofs.GridLaws.{tiles-taken}
 use Rattle.grid.specs.Cell.{tilePic}
 use Rattle.grid.specs.Mosaic.{gridPic, mosaicAt, opaqueAt}
-use Rattle.grid.specs.inner.Ready.{TilesTaken}
-use Rattle.grid.specs.Run.{framesIn, gridOn, noFrame, tileIn}
+use Rattle.grid.specs.Run.{framesIn, gridOn}
 use Rattle.grid.specs.Tiles.{canvasForm, countOf, tilesAt, tilesOf}
 use Rattle.grid.specs.declared.tiles.Tiles.{Tiles}
+use Rattle.grid.specs.inner.Ready.{TilesTaken}
 use Rattle.overlay.proofs.RunLaws.{plan-taken, took}
 use Rattle.overlay.proofs.Sentences.{fill-low}
-use Rattle.overlay.specs.Overlay.{overlayForm, overlayPic, placeAt, settle, settled}
-use Rattle.overlay.specs.inner.Plan.{planAt, planOf}
-use Rattle.overlay.specs.Run.{Inputs, composed, composedForm, firstFormat, inputsAt}
+use Rattle.inputs.specs.Layers.{overlayForm}
+use Rattle.overlay.specs.Overlay.{overlayPic, placeAt, unpremultiply, finalSample}
+use Rattle.inputs.specs.Inputs.{Inputs, composedForm, firstFormat, inputsAt}
+use Rattle.overlay.specs.Run.{composed}
+use Rattle.inputs.specs.inner.Plan.{planAt, planOf}
 
 -- ---- what fits the bytes of a sample of a depth
 
@@ -107,7 +111,7 @@ tile-fits false P p x y h k = pick-both (Fits (P .form .format .depth)) (hasPart
 -- ---- the grid
 
 none-depth : noFrame .form .format .depth ≡ 0
-unfolding noFrame
+unfolding noFrame noForm
 none-depth = refl
 
 module _ (tray : List ℕ) (t : Tiles) (ok : TilesTaken tray t) (small : Bytes tray) where
@@ -123,17 +127,17 @@ module _ (tray : List ℕ) (t : Tiles) (ok : TilesTaken tray t) (small : Bytes t
       (λ h. let d = ok .alike i h .depth in omega arith)
       (λ h. let d = none-depth in rw (List·getD-eq-default (framesIn tray t) noFrame {n = i} (omega arith)) (omega arith))
 
-  tile-in-fits : (i : ℕ) (b : Bool) (p : Part) (x y : ℕ) → Fits (canvas .format .depth) (opaqueAt (tilePic b (tileIn tray (framesIn tray t) i)) p x y)
-  unfolding tileIn decode
+  tile-in-fits : (i : ℕ) (b : Bool) (p : Part) (x y : ℕ) → Fits (canvas .format .depth) (opaqueAt (tilePic b (pictureIn tray (framesIn tray t) i)) p x y)
+  unfolding pictureIn decode
   tile-in-fits i b p x y =
       let fr = getD (framesIn tray t) i noFrame in
       let d = depth-of i in
       let c = ok .canvas .high in
       fit-more _ _ _ d (tile-fits b (decode tray fr) p x y (omega arith) (λ u v. decode-fits tray fr small p u v))
 
-  taken-tame : Tame (gridOn tray t)
+  taken-in-range : InRange (gridOn tray t)
   unfolding gridOn gridPic mosaicAt
-  taken-tame =
+  taken-in-range =
       record {
         sound = ok .canvas;
         small = λ p h x y i j. fit-bytes (canvas .format) _ (tile-in-fits _ _ p _ _);
@@ -143,8 +147,8 @@ tiles-at : (body tray : List ℕ) (n at : ℕ) (t : Tiles) → readNumber tray 0
 unfolding tilesOf onNumber
 tiles-at body tray n at t c e = rw c e
 
-pub grid-tame : (body tray : List ℕ) (n at : ℕ) (t : Tiles) → Bytes body → Bytes tray → readNumber tray 0 ≡ Number n at → tilesAt body tray n at ≡ done t → Tame (gridOn tray t)
-grid-tame body tray n at t small bytes c e = taken-tame tray t (tiles-taken body tray t small (tiles-at body tray n at t c e)) bytes
+pub grid-in-range : (body tray : List ℕ) (n at : ℕ) (t : Tiles) → Bytes body → Bytes tray → readNumber tray 0 ≡ Number n at → tilesAt body tray n at ≡ done t → InRange (gridOn tray t)
+grid-in-range body tray n at t small bytes c e = taken-in-range tray t (tiles-taken body tray t small (tiles-at body tray n at t c e)) bytes
 
 -- ---- the overlay
 
@@ -156,17 +160,17 @@ unfolding planAt planOf
 form-taken body tray list colour n at q c e = plan-taken body tray list colour 0 n at c (planOf body tray list at q) (then-done _ e) .sound .form
 
 -- a sample is the fill's, or lying to top
-settled-low : (top : ℕ) (p : Part) (fill v a : ℕ) → fill ≤ top → settled top p fill v a ≤ top
-unfolding settled settle
+settled-low : (top : ℕ) (p : Part) (fill v a : ℕ) → fill ≤ top → finalSample top p fill v a ≤ top
+unfolding finalSample unpremultiply
 settled-low top Luma fill v a h = pick-le _ fill _ top h (omega arith)
 settled-low top Cb fill v a h = pick-le _ fill _ top h (omega arith)
 settled-low top Cr fill v a h = pick-le _ fill _ top h (omega arith)
 settled-low top Alpha fill v a h = omega arith
 
-pub overlay-tame : (body tray premultiplied : List ℕ) (colour : Colour) (n at : ℕ) (q : Inputs) → Bytes body → readNumber tray 0 ≡ Number n at → inputsAt body tray premultiplied n at ≡ done q
-    → Tame (composed body tray premultiplied colour q)
+pub overlay-in-range : (body tray premultiplied : List ℕ) (colour : Colour) (n at : ℕ) (q : Inputs) → Bytes body → readNumber tray 0 ≡ Number n at → inputsAt body tray premultiplied n at ≡ done q
+    → InRange (composed body tray premultiplied colour q)
 unfolding composed overlayPic placeAt composedForm overlayForm topOf
-overlay-tame body tray premultiplied colour n at q small c e =
+overlay-in-range body tray premultiplied colour n at q small c e =
     let m = form-taken body tray premultiplied colour n at q c e in
     let d = firstFormat (q .frames) .depth in
     let low = fill-low (q .descriptor .«canvas_fill») d colour (inputs-fill body tray premultiplied n at q small e) (m .low) (m .high) in

@@ -1,5 +1,5 @@
 pub mod ComposedLaws
 pub mod AfterLaws
-pub mod CarryLaws
-pub mod CourseLaws
+pub mod ApplyLaws
+pub mod ChainPlanLaws
 pub mod SceneLaws

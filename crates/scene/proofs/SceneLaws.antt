@@ -12,16 +12,16 @@ use borrow.Author.Tests.{le-ltb, ltb-false}
 use Rattle.laws.proofs.Out.{Same, alike, andThen-done, both, done-same, not-done, refuse-done, refuse-no, refused-back, same-left, then-done, then-refuse, then-refused}
 use Rattle.laws.proofs.Puts.{length-puts, puts-start}
 use Rattle.laws.specs.Out.{Out, andThen, answerOf, done, reason, refuse, refused}
-use Rattle.laws.specs.Puts.{puts}
+use Rattle.laws.specs.Puts.{puts, Bytes}
 use Rattle.laws.specs.declared.Answer.{Answer}
 use Rattle.laws.specs.declared.Answer.the-variants.{Refused}
 use Rattle.laws.specs.declared.Refusal.{Refusal}
 use Rattle.numbers.specs.Number.{onNumber, readNumber}
 use Rattle.numbers.specs.declared.NumberRead.{NumberRead}
-use Rattle.image.proofs.RoundTrip.{Tame, length-encode}
-use Rattle.image.specs.Bytes.{Bytes, encode, sizeOf}
+use Rattle.planes.proofs.RoundTrip.{InRange, length-encode}
+use Rattle.planes.specs.Bytes.{encode, sizeOf}
 use Rattle.image.specs.Format.{topOf}
-use Rattle.image.specs.Picture.{Pic}
+use Rattle.planes.specs.Picture.{Pic}
 use Rattle.image.specs.declared.format.Form.{Form}
 use Rattle.image.specs.declared.record.Frame.{Frame}
 use Rattle.fill.specs.declared.Colour.{Colour}
@@ -36,22 +36,26 @@ use Rattle.grid.specs.inner.Ready.{TilesTaken}
 use Rattle.grid.specs.Run.{gridOn}
 use Rattle.grid.specs.Tiles.{canvasForm, tilesAt, tilesOf}
 use Rattle.grid.specs.declared.tiles.Tiles.{Tiles}
-use Rattle.overlay.proofs.FrameLaws.{frames-from}
+use Rattle.inputs.proofs.FrameLaws.{frames-from}
 use Rattle.overlay.proofs.RunLaws.{Took, frames-are, plan-sound, planPic, took}
-use Rattle.overlay.specs.inner.Block.{PlanSound, framesFrom}
-use Rattle.overlay.specs.Overlay.{overlayForm, overlayPic, some}
-use Rattle.overlay.specs.inner.Plan.{planAt, planOf}
-use Rattle.overlay.specs.Run.{Inputs, alphaAbove, composed, composedForm, fillFor, firstFormat, inputsAt, layersOf}
-use Rattle.overlay.specs.declared.inputs.Plan.{Plan}
-use Rattle.scene.proofs.CarryLaws.{Carried, chain-carried}
-use Rattle.scene.proofs.ComposedLaws.{grid-tame, overlay-tame}
-use Rattle.scene.proofs.CourseLaws.{Leads, course-drawn, lies-even}
-use Rattle.scene.specs.inner.Carry.{Finished, Ready, bytesIn, chainBytes, lies, lying, recordAfter}
-use Rattle.scene.specs.Chain.{Drawn, begun, chainDrawn}
-use Rattle.scene.specs.inner.Course.{courseOf, heldFor, heldOf}
+use Rattle.overlay.specs.inner.Block.{PlanSound}
+use Rattle.image.specs.inner.Frames.{framesFrom}
+use Rattle.inputs.specs.Layers.{overlayForm, layersOf}
+use Rattle.overlay.specs.Overlay.{overlayPic}
+use Rattle.laws.specs.Any.{any}
+use Rattle.inputs.specs.inner.Plan.{planAt, planOf}
+use Rattle.inputs.specs.Inputs.{Inputs, alphaAbove, composedForm, firstFormat, inputsAt}
+use Rattle.overlay.specs.Run.{composed, fillFor}
+use Rattle.inputs.specs.declared.read.Plan.{Plan}
+use Rattle.scene.proofs.ApplyLaws.{Carried, chain-carried}
+use Rattle.scene.proofs.ComposedLaws.{grid-in-range, overlay-in-range}
+use Rattle.scene.proofs.ChainPlanLaws.{Leads, plan-drawn, lies-even}
+use Rattle.scene.specs.inner.Apply.{Finished, Ready, bytesIn, chainBytes, lies, lying, recordAfter}
+use Rattle.scene.specs.Chain.{Drawn, firstDrawn, chainDrawn}
+use Rattle.scene.specs.inner.ChainPlan.{chainPlanOf, currentFor, currentOf}
 use Rattle.scene.specs.Scene.{gridDrawn, gridScene, outputOf, overlayDrawn, overlayScene, roomFor, spareOf}
-use Rattle.scene.specs.declared.carry.Held.{Held}
-use Rattle.scene.specs.declared.course.Course.{Course}
+use Rattle.scene.specs.declared.apply.Current.{Current}
+use Rattle.scene.specs.declared.chain_plan.ChainPlan.{ChainPlan}
 
 -- ---- what is answered and written
 
@@ -76,7 +80,7 @@ unfoldable pub sceneOn : List PropertyEntry → Bool → Pic → ℕ → ℕ →
 sceneOn es flag P output spare = andThen (chainDrawn es flag P) (roomFor output spare)
 
 -- where a form's record lies, and what the chain on its picture comes to
-record Planned (es : List PropertyEntry) (flag : Bool) (P : Pic) (m : Form) (output spare : ℕ) (h : Held) : Type 0 where
+record Planned (es : List PropertyEntry) (flag : Bool) (P : Pic) (m : Form) (output spare : ℕ) (h : Current) : Type 0 where
   drawn : Drawn
   run : chainDrawn es flag P ≡ done drawn
   over : drawn .longest ≤ output
@@ -84,16 +88,16 @@ record Planned (es : List PropertyEntry) (flag : Bool) (P : Pic) (m : Form) (out
   size : h .size ≡ sizeOf m
   side : h .inside ≡ lies flag es
 
-module _ (es : List PropertyEntry) (flag : Bool) (P : Pic) (k : Tame P) (m : Form) (same : m ≡ P .form) (output spare : ℕ) where
-  by-forms : Same Leads (courseOf es flag m) (chainDrawn es flag P)
-  by-forms = rw same (course-drawn es flag P k)
+module _ (es : List PropertyEntry) (flag : Bool) (P : Pic) (k : InRange P) (m : Form) (same : m ≡ P .form) (output spare : ℕ) where
+  by-forms : Same Leads (chainPlanOf es flag m) (chainDrawn es flag P)
+  by-forms = rw same (plan-drawn es flag P k)
 
   -- 17 by forms is 17 by pictures
-  room-refused : (c : Course) (d : Drawn) (r : Refusal) → Leads c d → heldFor output spare m c ≡ refused r → roomFor output spare d ≡ refused r
-  unfolding heldFor roomFor refuse
+  room-refused : (c : ChainPlan) (d : Drawn) (r : Refusal) → Leads c d → currentFor output spare m c ≡ refused r → roomFor output spare d ≡ refused r
+  unfolding currentFor roomFor refuse
   room-refused c d r l = rw (l .longest) (go (ltb output (d .longest)) (ltb spare (d .longest)))
     where
-      held : Held
+      held : Current
       held = record { size = sizeOf m; inside = c .even }
 
       go : (t u : Bool) → refuse t 17 (refuse u 17 (done held)) ≡ refused r → refuse t 17 (refuse u 17 (done (encode (d .pic)))) ≡ refused r
@@ -101,16 +105,16 @@ module _ (es : List PropertyEntry) (flag : Bool) (P : Pic) (k : Tame P) (m : For
       go false true q = cc
       go false false q = not-done r _ (sym q)
 
-  pub held-refused : (r : Refusal) → heldOf es flag m output spare ≡ refused r → sceneOn es flag P output spare ≡ refused r
-  unfolding heldOf sceneOn andThen
+  pub held-refused : (r : Refusal) → currentOf es flag m output spare ≡ refused r → sceneOn es flag P output spare ≡ refused r
+  unfolding currentOf sceneOn andThen
   held-refused r = go _ _ by-forms
     where
-      go : (o : Out Course) (u : Out Drawn) → Same Leads o u → andThen o (heldFor output spare m) ≡ refused r → andThen u (roomFor output spare) ≡ refused r
+      go : (o : Out ChainPlan) (u : Out Drawn) → Same Leads o u → andThen o (currentFor output spare m) ≡ refused r → andThen u (roomFor output spare) ≡ refused r
       go _ _ alike q = cc
       go _ _ (both {a = c} {b = d} l) q = room-refused c d r l q
 
-  held-planned : (h : Held) → heldOf es flag m output spare ≡ done h → Planned es flag P m output spare h
-  unfolding heldOf heldFor
+  held-planned : (h : Current) → currentOf es flag m output spare ≡ done h → Planned es flag P m output spare h
+  unfolding currentOf currentFor
   held-planned h q =
       let a = andThen-done _ _ h q in
       let b = refuse-done _ 17 _ h (a .2) in
@@ -122,23 +126,23 @@ module _ (es : List PropertyEntry) (flag : Bool) (P : Pic) (k : Tame P) (m : For
         run = d .1;
         over = rw (← d .2 .longest) (ltb-false _ _ (b .0));
         under = rw (← d .2 .longest) (ltb-false _ _ (c .0));
-        size = sym (ap (λ (z : Held). z .size) i);
-        side = sym (ap (λ (z : Held). z .inside) i) ∙ lies-even flag es m (a .0) (a .1);
+        size = sym (ap (λ (z : Current). z .size) i);
+        side = sym (ap (λ (z : Current). z .inside) i) ∙ lies-even flag es m (a .0) (a .1);
       }
 
-  module _ (h : Held) (p : Planned es flag P m output spare h) where
+  module _ (h : Current) (p : Planned es flag P m output spare h) where
     planned-done : sceneOn es flag P output spare ≡ done (encode (p .drawn .pic))
     unfolding sceneOn roomFor
     planned-done = then-done _ (p .run) ∙ refuse-no _ _ (le-ltb _ _ (p .over)) ∙ refuse-no _ _ (le-ltb _ _ (p .under))
 
     planned-carried : Carried output spare flag es P (length (encode P)) (p .drawn)
-    unfolding chainDrawn begun
+    unfolding chainDrawn firstDrawn
     planned-carried = chain-carried output spare flag es P (length (encode P)) (p .drawn) k (omega arith) (p .run) (p .over) (p .under)
 
 -- ---- the composed record in one of the buffers
 
-module _ (s : List ℕ) (g : Chain) (judged : Judged s g) (flag : Bool) (P : Pic) (k : Tame P) (m : Form) (same : m ≡ P .form) (output spare : List ℕ) (h : Held)
-    (e : heldOf (judged .entries) flag m (length output) (length spare) ≡ done h) where
+module _ (s : List ℕ) (g : Chain) (judged : Judged s g) (flag : Bool) (P : Pic) (k : InRange P) (m : Form) (same : m ≡ P .form) (output spare : List ℕ) (h : Current)
+    (e : currentOf (judged .entries) flag m (length output) (length spare) ≡ done h) where
   abbrev es : List PropertyEntry
   es = judged .entries
 
@@ -213,7 +217,7 @@ module _ (s : List ℕ) (g : Chain) (judged : Judged s g) (flag : Bool) (P : Pic
 pub record GridKnown (body tray chain : List ℕ) (flag : Bool) (h : Chain) (t : Tiles) : Type 0 where
   pub judged : Judged chain h
   pub taken : TilesTaken tray t
-  pub tame : Tame (gridOn tray t)
+  pub inRange : InRange (gridOn tray t)
   pub is : (output spare : ℕ) → gridScene body tray chain flag output spare ≡ sceneOn (judged .entries) flag (gridOn tray t) output spare
 
 pub grid-form : (tray : List ℕ) (t : Tiles) (m : Form) → m ≡ canvasForm (t .desc) (t .tile) (t .alpha) → m ≡ gridOn tray t .form
@@ -252,7 +256,7 @@ module _ (body tray chain : List ℕ) (flag : Bool) where
       grid-read b d t q = record {
         judged = judged-chain chain 0 h e .0;
         taken = tiles-taken body tray t b q;
-        tame = grid-tame body tray n at t b d counted (tiles-at ∙ q);
+        inRange = grid-in-range body tray n at t b d counted (tiles-at ∙ q);
         is = λ output spare. ap (λ z. andThen z (roomFor output spare)) (grid-counted ∙ then-done _ (judged-chain chain 0 h e .1) ∙ then-done _ (tiles-at ∙ q));
       }
 
@@ -262,9 +266,9 @@ module _ (body tray chain : List ℕ) (flag : Bool) where
 pub record OverlayKnown (body tray chain : List ℕ) (flag : Bool) (list : List ℕ) (colour : Colour) (n at : ℕ) (h : Chain) (plan : Plan) : Type 0 where
   pub judged : Judged chain h
   pub sound : PlanSound body list plan
-  pub tame : Tame (planPic body tray list colour plan)
+  pub inRange : InRange (planPic body tray list colour plan)
   pub is : (output spare : ℕ) → overlayScene body tray chain flag list colour output spare
-      ≡ refuse (some (alphaAbove tray (topOf (plan .form .format))) (framesFrom n tray at)) 16 (sceneOn (judged .entries) flag (planPic body tray list colour plan) output spare)
+      ≡ refuse (any (alphaAbove tray (topOf (plan .form .format))) (framesFrom n tray at)) 16 (sceneOn (judged .entries) flag (planPic body tray list colour plan) output spare)
 
 pub plan-form : (body tray list : List ℕ) (colour : Colour) (plan : Plan) → plan .form ≡ planPic body tray list colour plan .form
 unfolding overlayPic
@@ -278,7 +282,7 @@ module _ (body tray chain : List ℕ) (flag : Bool) (list : List ℕ) (colour : 
   module _ (n at : ℕ) (counted : readNumber tray 0 ≡ NumberRead.Number n at) where
     overlay-counted : overlayDrawn body tray chain flag list colour
         ≡ andThen (chainAt chain 0) (λ es. andThen (inputsAt body tray list n at) (λ q.
-        refuse (some (alphaAbove tray (topOf (firstFormat (q .frames)))) (q .frames)) 16 (chainDrawn es flag (composed body tray list colour q))))
+        refuse (any (alphaAbove tray (topOf (firstFormat (q .frames)))) (q .frames)) 16 (chainDrawn es flag (composed body tray list colour q))))
     unfolding overlayDrawn onNumber
     overlay-counted = rw counted
 
@@ -311,7 +315,7 @@ module _ (body tray chain : List ℕ) (flag : Bool) (list : List ℕ) (colour : 
           record {
             judged = j .0;
             sound = plan-sound body tray list n at q k;
-            tame = rw (← pic-is q k) (overlay-tame body tray list colour n at q b counted i);
+            inRange = rw (← pic-is q k) (overlay-in-range body tray list colour n at q b counted i);
             is = λ output spare.
                 ap (λ z. andThen z (roomFor output spare)) (overlay-counted ∙ then-done _ (j .1) ∙ then-done _ i)
                 ∙ then-refuse _ 16 (chainDrawn (j .0 .entries) flag (composed body tray list colour q)) (roomFor output spare)

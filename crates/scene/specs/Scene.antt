@@ -6,14 +6,15 @@ use lib.Dec.{ltb}
 use lib.ListN.{length, replicate}
 use Rattle.laws.specs.Out.{Out, andThen, done, refuse, refused}
 use Rattle.numbers.specs.Number.{onNumber, readNumber}
-use Rattle.image.specs.Bytes.{encode}
+use Rattle.planes.specs.Bytes.{encode}
 use Rattle.image.specs.Format.{topOf}
 use Rattle.fill.specs.declared.Colour.{Colour}
 use Rattle.props.specs.Chain.{chainAt}
 use Rattle.grid.specs.Run.{gridOn}
 use Rattle.grid.specs.Tiles.{tilesAt}
-use Rattle.overlay.specs.Overlay.{some}
-use Rattle.overlay.specs.Run.{alphaAbove, composed, firstFormat, inputsAt}
+use Rattle.laws.specs.Any.{any}
+use Rattle.inputs.specs.Inputs.{alphaAbove, firstFormat, inputsAt}
+use Rattle.overlay.specs.Run.{composed}
 use Rattle.scene.specs.Chain.{Drawn, chainDrawn}
 
 -- ---- the picture runs: 5 tray count unreadable; the chain's form; then body, tiles, chain entries in turn
@@ -30,7 +31,7 @@ overlayDrawn body tray chain essentialOnly premultiplied colour =
     onNumber (readNumber tray 0) (λ n at.
     andThen (chainAt chain 0) (λ es.
     andThen (inputsAt body tray premultiplied n at) (λ q.
-    refuse (some (alphaAbove tray (topOf (firstFormat (q .frames)))) (q .frames)) 16
+    refuse (any (alphaAbove tray (topOf (firstFormat (q .frames)))) (q .frames)) 16
     (chainDrawn es essentialOnly (composed body tray premultiplied colour q)))))
 
 -- ---- 17 output or spare shorter than the longest of the composed and step records

@@ -1,3 +1,3 @@
 -- What only proofs and the contracts of inner functions cite: no public promise does.
-pub mod Carry
-pub mod Course
+pub mod Apply
+pub mod ChainPlan

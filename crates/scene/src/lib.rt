@@ -1,22 +1,22 @@
 // The scene calls (document 01, "The scene call"): a grid or an overlay composed, then a chain of transforms, from bytes to a record
 // in the lent output. All refusals are found before anything is written.
-mod carry;
-mod course;
+mod apply;
+mod chain_plan;
 mod plan;
 
 ghost use mathlib.Core.Path.{_≡_};
 ghost use lib.ListN.{length};
 ghost use Rattle.laws.specs.Out.{answerOf};
 ghost use Rattle.scene.specs.Scene.{gridScene, overlayScene, outputOf, spareOf};
-use crate::carry::finish_scene;
-use crate::plan::HeldRead;
+use crate::apply::finish_scene;
+use crate::plan::CurrentRead;
 use crate::plan::plan_scene;
 use fill::Colour;
 use grid::TilesRead;
+use inputs::PlanRead;
 use laws::Answer;
 use laws::Refusal;
 use numbers::NumberRead;
-use overlay::PlanRead;
 use props::ChainRead;
 
 // A grid, then a chain. Refusals: 5 a tray count that cannot be read; the chain's form; the body's; the tiles'; the entries' in turn;
@@ -43,8 +43,8 @@ pub fn grid_scene(
             TilesRead::Read(t) => {
                 let form = grid::canvas_form(t.desc, t.tile, t.alpha);
                 match plan_scene(chain, c, essential_only, form, output.len(), spare.len()) {
-                    HeldRead::Refused(e) => Answer::Refused(e),
-                    HeldRead::Held(held) => {
+                    CurrentRead::Refused(e) => Answer::Refused(e),
+                    CurrentRead::Current(held) => {
                         if held.inside {
                             grid::draw_grid(output, tray, t);
                             return finish_scene(chain, c, essential_only, output, spare, held);
@@ -82,17 +82,17 @@ pub fn overlay_scene(
     };
     match props::check_chain(chain, 0) {
         ChainRead::Refused(e) => Answer::Refused(e),
-        ChainRead::Read(c) => match overlay::read_inputs(body, tray, premultiplied, count, first) {
+        ChainRead::Read(c) => match inputs::read_inputs(body, tray, premultiplied, count, first) {
             PlanRead::Refused(e) => Answer::Refused(e),
             PlanRead::Read(plan) => {
                 let form = plan.form;
                 let format = form.format;
-                if overlay::alpha_above(tray, first, count, format.top()) {
+                if inputs::alpha_above(tray, first, count, format.top()) {
                     return Answer::Refused(Refusal::OPACITY);
                 }
                 match plan_scene(chain, c, essential_only, form, output.len(), spare.len()) {
-                    HeldRead::Refused(e) => Answer::Refused(e),
-                    HeldRead::Held(held) => {
+                    CurrentRead::Refused(e) => Answer::Refused(e),
+                    CurrentRead::Current(held) => {
                         if held.inside {
                             overlay::draw_overlay(output, body, tray, premultiplied, plan, colour);
                             return finish_scene(chain, c, essential_only, output, spare, held);

@@ -5,16 +5,16 @@ ghost use Rattle.laws.specs.Out.{andThen};
 ghost use Rattle.image.specs.Sound.{FormSound};
 ghost use Rattle.props.specs.Chain.{entriesAt};
 ghost use Rattle.props.specs.inner.Judged.{Judged};
-ghost use Rattle.scene.specs.inner.Course.{heldOf, heldOut};
-use crate::carry::Held;
-use crate::course::CourseRead;
-use crate::course::plan_chain;
+ghost use Rattle.scene.specs.inner.ChainPlan.{currentOf, currentOut};
+use crate::apply::Current;
+use crate::chain_plan::ChainPlanRead;
+use crate::chain_plan::plan_chain;
 use image::Form;
 use laws::Refusal;
 use props::Chain;
 
-pub(crate) enum HeldRead {
-    Held(Held),
+pub(crate) enum CurrentRead {
+    Current(Current),
     Refused(Refusal),
 }
 
@@ -28,21 +28,21 @@ pub(crate) fn plan_scene(
     m: Form,
     output: usize,
     spare: usize,
-) -> HeldRead
+) -> CurrentRead
     requires { ⌜ Judged (now s) chain × FormSound m ⌝ }
-    ensures { λ r. ⌜ heldOut r ≡ andThen (entriesAt (chain .count) (now (s .entry)) (chain .first)) (λ es. heldOf es «essential_only» m output spare) ⌝ }
+    ensures { λ r. ⌜ currentOut r ≡ andThen (entriesAt (chain .count) (now (s .entry)) (chain .first)) (λ es. currentOf es «essential_only» m output spare) ⌝ }
 {
     match plan_chain(s, chain, essential_only, m) {
-        CourseRead::Refused(e) => HeldRead::Refused(e),
-        CourseRead::Course(k) => {
+        ChainPlanRead::Refused(e) => CurrentRead::Refused(e),
+        ChainPlanRead::ChainPlan(k) => {
             if output < k.longest {
-                return HeldRead::Refused(Refusal::ROOM);
+                return CurrentRead::Refused(Refusal::ROOM);
             }
             if spare < k.longest {
-                return HeldRead::Refused(Refusal::ROOM);
+                return CurrentRead::Refused(Refusal::ROOM);
             }
-            HeldRead::Held(Held {
-                size: image::record_size(m),
+            CurrentRead::Current(Current {
+                size: planes::record_size(m),
                 inside: k.even,
             })
         }

@@ -12,8 +12,8 @@ use Rattle.laws.proofs.Span.{span-cong}
 use Rattle.laws.specs.Out.{done, reason, refused}
 use Rattle.laws.specs.declared.Answer.the-variants.{Wrote}
 use Rattle.image.proofs.RecordLaws.{whole-sound}
-use Rattle.image.proofs.RoundTrip.{encode-back}
-use Rattle.image.specs.Bytes.{encode, sampleBytes, samplesOf, sizeOf, tightAt}
+use Rattle.planes.proofs.RoundTrip.{encode-back}
+use Rattle.planes.specs.Bytes.{encode, sampleBytes, samplesOf, sizeOf, tightAt}
 use Rattle.image.specs.Format.{bytesOf, hasPart, isMono}
 use Rattle.image.specs.Sound.{FormSound}
 use Rattle.image.specs.declared.format.Form.{Form}
@@ -21,10 +21,11 @@ use Rattle.image.specs.declared.format.Part.{Part}
 use Rattle.derived.specs.inner.Sound.{GridSound}
 use Rattle.session.specs.declared.state.Canvas.{Canvas}
 use Rattle.derived.specs.declared.grid.GridDescriptor.{GridDescriptor}
-use Rattle.grid.proofs.CellLaws.{rows-cong}
+use Rattle.paste.proofs.RowLaws.{rows-cong}
 use Rattle.grid.proofs.Suited.{suits-bytes, suits-canvas, suits-rows, tile-bytes, tile-parts, tile-sample, tilePic-form}
-use Rattle.grid.specs.Cell.{cellOf, storeCell, storePart, storeRows, storeTile, tileForm, tilePic}
-use Rattle.grid.specs.inner.Rows.{Suits}
+use Rattle.grid.specs.Cell.{cellOf, storeCell, storePart, storeTile, tileForm, tilePic}
+use Rattle.paste.specs.Stored.{storeRows}
+use Rattle.grid.specs.inner.Rows.{FitsCanvas}
 use Rattle.grid.specs.Tiles.{canvasForm, countOf, promotesOf}
 use Rattle.grid.specs.declared.cell.Cell.{Cell}
 use Rattle.session.proofs.StateLaws.{place-suits}
@@ -35,12 +36,12 @@ use Rattle.session.specs.declared.canvas.Called.{Called}
 
 -- ---- what it asks: what a record of the blank tile asks
 
-pub blank-suits : (g : GridDescriptor) (t : Form) (n : ℕ) → GridSound g → FormSound t → sizeOf (canvasForm g t 1) ≤ n → Suits (encode (blankPic t)) (tightAt t 0) (canvasForm g t 1) (promotesOf g t) n
+pub blank-suits : (g : GridDescriptor) (t : Form) (n : ℕ) → GridSound g → FormSound t → sizeOf (canvasForm g t 1) ≤ n → FitsCanvas (encode (blankPic t)) (tightAt t 0) (canvasForm g t 1) (promotesOf g t) n
 unfolding blankPic
 blank-suits g t n ok m room =
     place-suits g t _ (tightAt t 0) n ok (whole-sound _ (tightAt t 0) (encode-back (blankPic t) m) .0) (unfold tightAt in record { tile = m; chroma = refl; depth = refl }) room
 
-module _ (c t : Form) (b : Bool) (n : ℕ) (ok : Suits (encode (blankPic t)) (tightAt t 0) c b n) (p : Part) where
+module _ (c t : Form) (b : Bool) (n : ℕ) (ok : FitsCanvas (encode (blankPic t)) (tightAt t 0) c b n) (p : Part) where
   pub blank-tile : FormSound t
   unfolding tightAt
   blank-tile = ok .sound .form

@@ -13,43 +13,45 @@ use Rattle.laws.specs.Out.{done}
 use Rattle.laws.specs.Pick.{pick}
 use Rattle.image.proofs.FormLaws.{columns-some, rows-some}
 use Rattle.image.proofs.RecordLaws.{whole-sound}
-use Rattle.image.proofs.RoundTrip.{plane-agree}
-use Rattle.image.specs.Bytes.{decode, headBytes, planeBytes, sizeOf, tightAt}
-use Rattle.image.specs.Format.{columnsOf, hasAlpha, hasPart, rowsOf, topOf}
-use Rattle.image.specs.Picture.{Agree, Pic}
+use Rattle.image.specs.Format.{columnsOf, hasAlpha, hasPart, hasSize, rowsOf, topOf, withAlpha}
 use Rattle.image.specs.Record.{recordOf}
 use Rattle.image.specs.Sound.{FormSound}
-use Rattle.image.specs.inner.Placed.{Sound}
+use Rattle.image.specs.Tray.{noForm}
 use Rattle.image.specs.declared.format.Form.{Form}
 use Rattle.image.specs.declared.format.Part.{Part}
 use Rattle.image.specs.declared.format.Part.the-variants.{Alpha, Cb, Cr, Luma}
 use Rattle.image.specs.declared.format.PixelFormat.{PixelFormat}
 use Rattle.image.specs.declared.record.Frame.{Frame}
+use Rattle.image.specs.inner.Placed.{Sound}
+use Rattle.planes.proofs.RoundTrip.{plane-agree}
+use Rattle.planes.specs.Bytes.{decode, headBytes, planeBytes, sizeOf, tightAt}
+use Rattle.planes.specs.Picture.{Agree, Pic}
 use Rattle.derived.specs.Grid.{gridOf}
-use Rattle.session.specs.declared.state.Canvas.{Canvas}
 use Rattle.derived.specs.declared.grid.GridDescriptor.{GridDescriptor}
 use Rattle.grid.proofs.Composed.{below, canvas-alpha-is, canvas-columns, canvas-depth, columns-same, promotes-colour, rows-same-form}
 use Rattle.grid.proofs.MosaicLaws.{pastes, pastes-at, pastes-form}
 use Rattle.grid.proofs.PasteLaws.{Meets, pasteTile}
 use Rattle.grid.proofs.Suited.{suits-bytes, suits-canvas, tile-alpha, tile-parts, tile-sample, tile-sound, tilePic-form}
 use Rattle.grid.specs.Cell.{tileForm, tilePic}
-use Rattle.grid.specs.inner.Rows.{Suits}
-use Rattle.grid.specs.Mosaic.{among, laid, plainAt, plainPic, tileIndex}
+use Rattle.grid.specs.Mosaic.{among, plainAt, plainPic, tileIndex}
+use Rattle.paste.specs.Stored.{headed}
+use Rattle.grid.specs.Tiles.{canvasForm, spansCanvas, promotesOf, sameLayout}
 use Rattle.grid.specs.inner.Ready.{Alike}
-use Rattle.grid.specs.Tiles.{canvasForm, coversOf, promotesOf, sameLayout, sameSize, withAlpha}
+use Rattle.grid.specs.inner.Rows.{FitsCanvas}
 use Rattle.session.proofs.BlankLaws.{blank-suits}
 use Rattle.session.proofs.DrawLaws.{begun-later}
 use Rattle.session.proofs.KeepLaws.{Blanking, Placing, accept-first, accept-later, bare-state, blank-taken, place-taken, state-covers, wide-tile}
 use Rattle.session.proofs.SequenceLaws.{begun-laid, drawn-laid}
 use Rattle.session.proofs.StateLaws.{Accepted, TileHeld, accept-done, place-suits, state-grid, state-tile}
 use Rattle.session.specs.Sequence.{Call, alphaNumber, blank, callAll, callOf, callsRun, cellAt, cellIn, drawnAt, drawnPic, firstTile, leftAt, leftBytes, leftPic, pictureOf, place, shownIn}
-use Rattle.session.specs.Session.{Drawn, begun, blankAt, blankOf, blankPic, blankedAs, drawnOn, markedOn, placeOf, placedAs, reservedForm, sessionOf}
-use Rattle.session.specs.State.{acceptOf, hasTile, noForm, openOf, stateOk}
+use Rattle.session.specs.Session.{CanvasAfter, begun, blankAt, blankOf, blankPic, blankedAs, drawnOn, markedOn, placeOf, placedAs, reservedForm, sessionOf}
+use Rattle.session.specs.State.{acceptOf, hasTile, openOf, stateOk}
+use Rattle.session.specs.declared.state.Canvas.{Canvas}
 
 -- ---- what an accepted call draws
 
 accept-alike : (s : Canvas) (m t : Form) → acceptOf s m ≡ done t → Alike t m
-unfolding acceptOf sameSize sameLayout
+unfolding acceptOf hasSize sameLayout
 accept-alike s m t e =
     by-test (hasTile s)
     (λ h.
@@ -64,7 +66,7 @@ accept-alike s m t e =
     let q : m ≡ t = done-same _ t (u .1) in
     rw (← q) (record { width = refl; height = refl; chroma = refl; depth = refl }))
 
-suits-meets : (s : List ℕ) (fr : Frame) (c : Form) (b : Bool) (n : ℕ) → Suits s fr c b n → Meets (tileForm b (fr .form)) c
+suits-meets : (s : List ℕ) (fr : Frame) (c : Form) (b : Bool) (n : ℕ) → FitsCanvas s fr c b n → Meets (tileForm b (fr .form)) c
 suits-meets s fr c b n k = record {
   sound = k .canvas;
   parts = λ p h. suits-canvas s fr c b n k p (sym (tile-parts b (fr .form) (k .colour) p) ∙ h);
@@ -72,31 +74,31 @@ suits-meets s fr c b n k = record {
 }
 
 -- a tile T in a cell: what it asks holds, and what it changes
-record Draws (s : Canvas) (c : Call) (d : List ℕ) (x : Drawn) : Type 0 where
+record Draws (s : Canvas) (c : Call) (d : List ℕ) (x : CanvasAfter) : Type 0 where
   t : Form
   T : Pic
   is : T ≡ pictureOf t c
   desc : x .canvas .desc ≡ s .desc
   tile : x .canvas .tile ≡ t
   sound : FormSound t
-  covers : coversOf (s .desc) t ≡ true
+  covers : spansCanvas (s .desc) t ≡ true
   alike : Alike t (T .form)
   meets : Meets (tileForm (promotesOf (s .desc) t) (T .form)) (reservedForm (s .desc) t)
   first : hasTile s ≡ false → t ≡ firstTile c []
   held : hasTile s ≡ true → s .tile ≡ t
-  few : s .alpha ≤ 1
+  bounded : s .alpha ≤ 1
   alpha : x .canvas .alpha ≡ pick (hasAlpha (T .form .format)) 1 (s .alpha)
   number : (cs : List Call) → s .alpha ≡ alphaNumber cs → x .canvas .alpha ≡ alphaNumber (c ∷ cs)
   room : sizeOf (reservedForm (s .desc) t) ≤ length d
   buffer : x .buffer ≡ drawnOn (s .desc) t (cellIn c) (T .form) T (begun (not (hasTile s)) (reservedForm (s .desc) t) d)
 
-draws-as : {s : Canvas} {c : Call} {d : List ℕ} {x y : Drawn} → x ≡ y → Draws s c d x → Draws s c d y
+draws-as : {s : Canvas} {c : Call} {d : List ℕ} {x y : CanvasAfter} → x ≡ y → Draws s c d x → Draws s c d y
 draws-as e k = rw e at k
 
 few-of : (s : Canvas) → stateOk s ≡ true → s .alpha ≤ 1
 few-of s e = by-test (hasTile s) (λ h. state-tile s e h .alpha) (λ h. let z = bare-state s e h .0 in omega arith)
 
-place-draws : (s : Canvas) (i : ℕ) (bytes d : List ℕ) (x : Drawn) → placeOf s i bytes d ≡ done x → Draws s (place i bytes) d x
+place-draws : (s : Canvas) (i : ℕ) (bytes d : List ℕ) (x : CanvasAfter) → placeOf s i bytes d ≡ done x → Draws s (place i bytes) d x
 place-draws s i bytes d x e = draws-as (k .same) drawn
   where
     k : Placing s i bytes d x
@@ -114,11 +116,11 @@ place-draws s i bytes d x e = draws-as (k .same) drawn
     accepted : Accepted (fr .form) (k .tile)
     accepted = accept-done s (fr .form) (k .tile) (k .sound) (sound .form) (k .accepted)
 
-    covered : coversOf (s .desc) (k .tile) ≡ true
+    covered : spansCanvas (s .desc) (k .tile) ≡ true
     covered =
         by-test (hasTile s)
-        (λ h. ap (coversOf (s .desc)) (sym (accept-later s _ _ h (k .accepted))) ∙ state-covers s (k .sound) h)
-        (λ h. let u = accept-first s _ _ h (k .accepted) in ap (coversOf (s .desc)) (sym (u .1)) ∙ u .0)
+        (λ h. ap (spansCanvas (s .desc)) (sym (accept-later s _ _ h (k .accepted))) ∙ state-covers s (k .sound) h)
+        (λ h. let u = accept-first s _ _ h (k .accepted) in ap (spansCanvas (s .desc)) (sym (u .1)) ∙ u .0)
 
     shown : decode bytes fr ≡ pictureOf (k .tile) (place i bytes)
     shown = unfold pictureOf shownIn in ap (shownIn bytes) (sym (k .here))
@@ -146,7 +148,7 @@ place-draws s i bytes d x e = draws-as (k .same) drawn
           meets = rw form-is (unfold reservedForm in suits-meets bytes fr _ _ _ (place-suits (s .desc) (k .tile) bytes fr _ (state-grid s (k .sound)) sound accepted (unfold reservedForm in k .room)));
           first = λ h. sym (accept-first s _ _ h (k .accepted) .1) ∙ form-first;
           held = λ h. accept-later s _ _ h (k .accepted);
-          few = few-of s (k .sound);
+          bounded = few-of s (k .sound);
           alpha = rw form-is refl;
           number = number;
           room = k .room;
@@ -158,7 +160,7 @@ blank-number : (f : PixelFormat) (a : ℕ) → f .alpha ≤ a → a ≤ 1 → a 
 unfolding hasAlpha
 blank-number f a l m = by-equal (f .alpha) 0 (λ z. sym (pick-false _ _ _ (ap not (eq-eqb _ _ z)))) (λ d. let o : a ≡ 1 = omega arith in o ∙ sym (pick-true _ _ _ (ap not (ne-eqb _ _ d))))
 
-blank-draws : (s : Canvas) (i : ℕ) (d : List ℕ) (x : Drawn) → blankOf s i d ≡ done x → Draws s (blank i) d x
+blank-draws : (s : Canvas) (i : ℕ) (d : List ℕ) (x : CanvasAfter) → blankOf s i d ≡ done x → Draws s (blank i) d x
 blank-draws s i d x e = draws-as (k .same) drawn
   where
     k : Blanking s i d x
@@ -185,28 +187,28 @@ blank-draws s i d x e = draws-as (k .same) drawn
           meets = unfold reservedForm tightAt in suits-meets _ (tightAt (s .tile) 0) _ _ _ (blank-suits (s .desc) (s .tile) _ (state-grid s (k .sound)) (held .tile) (unfold reservedForm in k .room));
           first = λ h. absurd (no (sym h ∙ k .tiled));
           held = λ h. refl;
-          few = held .alpha;
+          bounded = held .alpha;
           alpha = blank-number (s .tile .format) (s .alpha) (held .least) (held .alpha);
           number = λ cs q. unfold alphaNumber in q;
           room = k .room;
           buffer = ap (drawnOn (s .desc) (s .tile) i (s .tile) (blankPic (s .tile))) (sym (begun-later _ _ d (ap not (k .tiled))));
         }
 
-call-draws : (c : Call) (e x : Drawn) → callOf c e ≡ done x → Draws (e .canvas) c (e .buffer) x
+call-draws : (c : Call) (e x : CanvasAfter) → callOf c e ≡ done x → Draws (e .canvas) c (e .buffer) x
 unfolding callOf
 call-draws (place i bytes) e x q = place-draws (e .canvas) i bytes (e .buffer) x q
 call-draws (blank i) e x q = blank-draws (e .canvas) i (e .buffer) x q
 
 -- ---- one cell more
 
-laid-agree : (h : List ℕ) (P Q : Pic) → Agree P Q → laid h P ≡ laid h Q
-unfolding laid
-laid-agree h P Q a = go ∙ ap (λ (m : Form). laid h (record { form = m; at = Q .at })) (a .form)
+laid-agree : (h : List ℕ) (P Q : Pic) → Agree P Q → headed h P ≡ headed h Q
+unfolding headed
+laid-agree h P Q a = go ∙ ap (λ (m : Form). headed h (record { form = m; at = Q .at })) (a .form)
   where
     each : (p : Part) → planeBytes P p ≡ planeBytes (record { form = P .form; at = Q .at }) p
     each p = plane-agree (P .form) (P .at) (Q .at) p (λ x y t c d. a .reads p t x y c d)
 
-    go : laid h P ≡ laid h (record { form = P .form; at = Q .at })
+    go : headed h P ≡ headed h (record { form = P .form; at = Q .at })
     go = rw (each Luma, each Cb, each Cr, each Alpha)
 
 only : (b : Bool) → pick b true false ≡ b
@@ -214,7 +216,7 @@ unfolding pick
 only true = refl
 only false = refl
 
-module _ (g : GridDescriptor) (t : Form) (sound : FormSound t) (covers : coversOf g t ≡ true) (c : Call) (cs : List Call) (alike : Alike t (pictureOf t c .form)) where
+module _ (g : GridDescriptor) (t : Form) (sound : FormSound t) (covers : spansCanvas g t ≡ true) (c : Call) (cs : List Call) (alike : Alike t (pictureOf t c .form)) where
   abbrev b : Bool
   b = promotesOf g t
 
@@ -244,7 +246,7 @@ module _ (g : GridDescriptor) (t : Form) (sound : FormSound t) (covers : coversO
     some-y = rows-some (tileForm b t) (tile-sound b t sound) p
 
     wide : g .«output_width» ≤ t .width * g .columns
-    wide = unfold coversOf in leb-true _ _ (and-true _ _ (unfold coversOf in covers) .0)
+    wide = unfold spansCanvas in leb-true _ _ (and-true _ _ (unfold spansCanvas in covers) .0)
 
     column : x / w < g .columns
     column =
@@ -277,22 +279,28 @@ module _ (g : GridDescriptor) (t : Form) (sound : FormSound t) (covers : coversO
 
 -- the buffer: the record with its alpha number a, the reserved plane, and what lay past it
 abbrev held-as : GridDescriptor → Form → ℕ → List Call → List ℕ → List ℕ
-held-as g t a cs d = laid (headBytes (withAlpha (reservedForm g t) a)) (leftPic g t cs) ++ drop (sizeOf (reservedForm g t)) d
+held-as g t a cs d = headed (headBytes (withAlpha (reservedForm g t) a)) (leftPic g t cs) ++ drop (sizeOf (reservedForm g t)) d
 
-more : (s : Canvas) (c : Call) (cs : List Call) (d d₀ : List ℕ) (x : Drawn) (k : Draws s c d x) → begun (not (hasTile s)) (reservedForm (s .desc) (k .t)) d ≡ held-as (s .desc) (k .t) (s .alpha) cs d₀
+more : (s : Canvas) (c : Call) (cs : List Call) (d d₀ : List ℕ) (x : CanvasAfter) (k : Draws s c d x) → begun (not (hasTile s)) (reservedForm (s .desc) (k .t)) d ≡ held-as (s .desc) (k .t) (s .alpha) cs d₀
     → x .buffer ≡ held-as (x .canvas .desc) (x .canvas .tile) (x .canvas .alpha) (c ∷ cs) d₀
 more s c cs d d₀ x k begins =
     k .buffer
     ∙ ap (drawnOn (s .desc) (k .t) (cellIn c) (k .T .form) (k .T)) begins
-    ∙ drawn-laid (s .desc) (k .t) (k .T .form) (cellIn c) (s .alpha) (k .T) (leftPic (s .desc) (k .t) cs) _ (unfold leftPic in refl) (rw (tilePic-form (promotesOf (s .desc) (k .t)) (k .T)) (k .meets)) (k .few)
-    ∙ ap (λ (T : Pic). laid (headBytes (withAlpha (reservedForm (s .desc) (k .t)) (pick (hasAlpha (k .T .form .format)) 1 (s .alpha)))) (pasteTile (tilePic (promotesOf (s .desc) (k .t)) T) (cellIn c % s .desc .columns) (cellIn c / s .desc .columns) (leftPic (s .desc) (k .t) cs)) ++ drop (sizeOf (reservedForm (s .desc) (k .t))) d₀) (k .is)
-    ∙ ap (λ (q : List ℕ). q ++ drop (sizeOf (reservedForm (s .desc) (k .t))) d₀) (laid-agree _ _ _ (pasted-agree (s .desc) (k .t) (k .sound) (k .covers) c cs (rw (← (k .is)) (k .alike))))
+    ∙ drawn-laid (s .desc) (k .t) (k .T .form) (cellIn c) (s .alpha) (k .T) (leftPic (s .desc) (k .t) cs) _ (unfold leftPic in refl)
+    (rw (tilePic-form (promotesOf (s .desc) (k .t)) (k .T)) (k .meets)) (k .bounded)
+    ∙ ap (λ (T : Pic).
+    headed (headBytes (withAlpha (reservedForm (s .desc) (k .t)) (pick (hasAlpha (k .T .form .format)) 1 (s .alpha))))
+    (pasteTile (tilePic (promotesOf (s .desc) (k .t)) T) (cellIn c % s .desc .columns) (cellIn c / s .desc .columns) (leftPic (s .desc) (k .t) cs))
+    ++ drop (sizeOf (reservedForm (s .desc) (k .t))) d₀)
+    (k .is)
+    ∙ ap (λ (q : List ℕ). q ++ drop (sizeOf (reservedForm (s .desc) (k .t))) d₀)
+    (laid-agree _ _ _ (pasted-agree (s .desc) (k .t) (k .sound) (k .covers) c cs (rw (← (k .is)) (k .alike))))
     ∙ ap (λ (a : ℕ). held-as (s .desc) (k .t) a (c ∷ cs) d₀) (sym (k .alpha))
     ∙ ap₂ (λ (g : GridDescriptor) (t : Form). held-as g t (x .canvas .alpha) (c ∷ cs) d₀) (sym (k .desc)) (sym (k .tile))
 
 -- ---- calls in turn
 
-record After (g : GridDescriptor) (c : Call) (cs : List Call) (d : List ℕ) (e : Drawn) : Type 0 where
+record After (g : GridDescriptor) (c : Call) (cs : List Call) (d : List ℕ) (e : CanvasAfter) : Type 0 where
   desc : e .canvas .desc ≡ g
   tile : e .canvas .tile ≡ firstTile c cs
   tiled : hasTile (e .canvas) ≡ true
@@ -303,7 +311,7 @@ has-form : (s : Canvas) (t : Form) → s .tile ≡ t → FormSound t → hasTile
 unfolding hasTile
 has-form s t e k = ap (λ (m : Form). not (eqb (m .width) 0)) e ∙ wide-tile t k
 
-after-first : (c : Call) (s : Canvas) (d : List ℕ) (x : Drawn) → hasTile s ≡ false → s .alpha ≡ 0 → Draws s c d x → After (s .desc) c [] d x
+after-first : (c : Call) (s : Canvas) (d : List ℕ) (x : CanvasAfter) → hasTile s ≡ false → s .alpha ≡ 0 → Draws s c d x → After (s .desc) c [] d x
 after-first c s d x bare none k = record {
   desc = k .desc;
   tile = k .tile ∙ k .first bare;
@@ -325,9 +333,9 @@ after-first c s d x bare none k = record {
     begins =
         ap (λ (q : Bool). begun q C d) (ap not bare)
         ∙ begun-laid C d one (k .room)
-        ∙ ap₂ (λ (n : ℕ) (P : Pic). laid (headBytes (withAlpha C n)) P ++ drop (sizeOf C) d) (sym none) plain
+        ∙ ap₂ (λ (n : ℕ) (P : Pic). headed (headBytes (withAlpha C n)) P ++ drop (sizeOf C) d) (sym none) plain
 
-after-more : (g : GridDescriptor) (c c₁ : Call) (cs : List Call) (d : List ℕ) (e x : Drawn) → After g c₁ cs d e → Draws (e .canvas) c (e .buffer) x → After g c (c₁ ∷ cs) d x
+after-more : (g : GridDescriptor) (c c₁ : Call) (cs : List Call) (d : List ℕ) (e x : CanvasAfter) → After g c₁ cs d e → Draws (e .canvas) c (e .buffer) x → After g c (c₁ ∷ cs) d x
 after-more g c c₁ cs d e x before k = record {
   desc = k .desc ∙ before .desc;
   tile = unfold firstTile in k .tile ∙ sym (k .held (before .tiled)) ∙ before .tile;
@@ -342,7 +350,7 @@ after-more g c c₁ cs d e x before k = record {
         ∙ before .buffer
         ∙ ap (λ (t : Form). held-as (e .canvas .desc) t (e .canvas .alpha) (c₁ ∷ cs) d) (k .held (before .tiled))
 
-after-all : (c : Call) (cs : List Call) (s : Canvas) (d : List ℕ) (x : Drawn) → hasTile s ≡ false → s .alpha ≡ 0 → callAll (c ∷ cs) (record { canvas = s; buffer = d }) ≡ done x → After (s .desc) c cs d x
+after-all : (c : Call) (cs : List Call) (s : Canvas) (d : List ℕ) (x : CanvasAfter) → hasTile s ≡ false → s .alpha ≡ 0 → callAll (c ∷ cs) (record { canvas = s; buffer = d }) ≡ done x → After (s .desc) c cs d x
 unfolding callAll
 after-all c [] s d x bare none e =
     let a = andThen-done _ _ x e in
@@ -362,7 +370,7 @@ open-bare body g s e q =
 -- record and the reserved alpha plane, and past them what lay there. Each place shows the last tile that was drawn in its cell and has
 -- the plane: a cell that is placed or blanked again is overwritten, and a tile without alpha, or a blank where the first tile has none,
 -- leaves the alpha there.
-pub calls-leave : (body d : List ℕ) (g : GridDescriptor) (c : Call) (cs : List Call) (x : Drawn) → gridOf body ≡ done g → callsRun body (c ∷ cs) d ≡ done x
+pub calls-leave : (body d : List ℕ) (g : GridDescriptor) (c : Call) (cs : List Call) (x : CanvasAfter) → gridOf body ≡ done g → callsRun body (c ∷ cs) d ≡ done x
     → (x .buffer ≡ leftBytes g (firstTile c cs) (c ∷ cs) ++ drop (sizeOf (reservedForm g (firstTile c cs))) d) × (x .canvas .desc ≡ g) × (x .canvas .tile ≡ firstTile c cs) × (x .canvas .alpha ≡ alphaNumber (c ∷ cs))
 unfolding callsRun
 calls-leave body d g c cs x e q =
@@ -382,7 +390,7 @@ calls-leave body d g c cs x e q =
     with-a g t a = unfold canvasForm reservedForm withAlpha in refl
 
     as-left : (g : GridDescriptor) (t : Form) (a : ℕ) (cs : List Call) (d : List ℕ) → a ≡ alphaNumber cs → held-as g t a cs d ≡ leftBytes g t cs ++ drop (sizeOf (reservedForm g t)) d
-    as-left g t a cs d q = unfold leftBytes in ap (λ (m : Form). laid (headBytes m) (leftPic g t cs) ++ drop (sizeOf (reservedForm g t)) d) (with-a g t a ∙ ap (canvasForm g t) q)
+    as-left g t a cs d q = unfold leftBytes in ap (λ (m : Form). headed (headBytes m) (leftPic g t cs) ++ drop (sizeOf (reservedForm g t)) d) (with-a g t a ∙ ap (canvasForm g t) q)
 
 -- ---- what one call leaves over those before it, in document 01's words
 

@@ -14,23 +14,24 @@ use Rattle.laws.proofs.Order.{apart, by-equal, by-test, pick-both, pick-false, 
 use Rattle.laws.proofs.Out.{refuse-no, then-done}
 use Rattle.laws.specs.Out.{Out, andThen, done}
 use Rattle.laws.specs.Pick.{pick}
+use Rattle.laws.specs.Puts.{Bytes}
 use Rattle.image.proofs.FormLaws.{columns-some, rows-some}
 use Rattle.image.proofs.RecordLaws.{whole-sound}
-use Rattle.image.proofs.RoundTrip.{encode-agree, length-encode}
-use Rattle.image.specs.Bytes.{Bytes, decode, encode, headBytes, planeBytes, planeHead, planeSize, rowBytes, rowsBytes, sizeOf}
-use Rattle.image.specs.Format.{bytesOf, columnsOf, cover, halfX, halfY, halvesX, halvesY, hasAlpha, hasPart, isMono, rowSize, rowsOf, topOf}
-use Rattle.image.specs.Picture.{Agree, Pic, as444, needs444, sized}
+use Rattle.image.specs.Format.{as444, bytesOf, columnsOf, cover, halfX, halfY, halvesX, halvesY, hasAlpha, hasPart, hasSize, isMono, needs444, rowSize, rowsOf, sized, topOf, withAlpha}
 use Rattle.image.specs.Record.{recordOf}
 use Rattle.image.specs.Sound.{FormSound}
+use Rattle.image.specs.Tray.{noForm, noFrame}
 use Rattle.image.specs.declared.format.Form.{Form}
 use Rattle.image.specs.declared.format.Part.{Part}
 use Rattle.image.specs.declared.format.Part.the-variants.{Alpha, Cb, Cr, Luma}
 use Rattle.image.specs.declared.format.PixelFormat.{PixelFormat}
 use Rattle.image.specs.declared.record.Frame.{Frame}
+use Rattle.planes.proofs.RoundTrip.{encode-agree, length-encode}
+use Rattle.planes.specs.Bytes.{decode, encode, headBytes, pictureIn, planeBytes, planeHead, planeSize, rowBytes, rowsBytes, sizeOf}
+use Rattle.planes.specs.Picture.{Agree, Pic}
 use Rattle.derived.proofs.Taken.{grid-taken}
-use Rattle.derived.specs.inner.Sound.{GridSound}
-use Rattle.session.specs.declared.state.Canvas.{Canvas}
 use Rattle.derived.specs.declared.grid.GridDescriptor.{GridDescriptor}
+use Rattle.derived.specs.inner.Sound.{GridSound}
 use Rattle.grid.proofs.CellLaws.{length-storePart}
 use Rattle.grid.proofs.Composed.{canvas-alpha-is, column-in, columns-of, grid-agree, grid-fits, index-in, plain-form, rows-of}
 use Rattle.grid.proofs.GridLaws.{TilesFrom, tiles-from, tiles-taken}
@@ -40,12 +41,13 @@ use Rattle.grid.proofs.PasteLaws.{Meets, pasteTile}
 use Rattle.grid.proofs.Suited.{covered-column, covered-row, suits-bytes, suits-canvas, tile-parts, tile-sample, tile-sound, tilePic-form}
 use Rattle.grid.proofs.TilesLaws.{count-some}
 use Rattle.grid.specs.Cell.{storeTile, tileForm, tilePic}
-use Rattle.grid.specs.inner.Rows.{Suits}
-use Rattle.grid.specs.Mosaic.{among, laid, plainAt, plainPic, tileIndex}
-use Rattle.grid.specs.inner.Ready.{Alike, TilesTaken}
-use Rattle.grid.specs.Run.{framesIn, gridOn, gridRun, noFrame, tileIn}
-use Rattle.grid.specs.Tiles.{canvasForm, countOf, coversOf, promotesOf, sameLayout, sameSize, tilesOf, withAlpha}
+use Rattle.grid.specs.Mosaic.{among, plainAt, plainPic, tileIndex}
+use Rattle.paste.specs.Stored.{headed}
+use Rattle.grid.specs.Run.{framesIn, gridOn, gridRun}
+use Rattle.grid.specs.Tiles.{canvasForm, countOf, spansCanvas, promotesOf, sameLayout, tilesOf}
 use Rattle.grid.specs.declared.tiles.Tiles.{Tiles}
+use Rattle.grid.specs.inner.Ready.{Alike, TilesTaken}
+use Rattle.grid.specs.inner.Rows.{FitsCanvas}
 use Rattle.session.proofs.DrawLaws.{begun-later, length-begun, length-told, place-done}
 use Rattle.session.proofs.KeepLaws.{open-ok, place-ok, wide-tile}
 use Rattle.session.proofs.MarkLaws.{all-of, mark-marks, none-marked}
@@ -53,8 +55,9 @@ use Rattle.session.proofs.SequenceLaws.{alpha-small, alphaAfter, begun-
 use Rattle.session.proofs.StateLaws.{count-small, place-suits}
 use Rattle.session.specs.Marks.{allMarked, isMarked, markOf, noMarks}
 use Rattle.session.specs.Sequence.{placeAll, sessionRun}
-use Rattle.session.specs.Session.{Drawn, alphaTold, begun, drawnOn, finishOf, markedOn, placeOf, placedAs, reservedForm, sessionOf}
-use Rattle.session.specs.State.{acceptOf, hasTile, noForm, openOf, stateOk}
+use Rattle.session.specs.Session.{CanvasAfter, alphaTold, begun, drawnOn, finishOf, markedOn, placeOf, placedAs, reservedForm, sessionOf}
+use Rattle.session.specs.State.{acceptOf, hasTile, openOf, stateOk}
+use Rattle.session.specs.declared.state.Canvas.{Canvas}
 
 -- ---- forms of one size, chroma and depth fix the same canvas
 
@@ -79,8 +82,8 @@ unfolding drawnOn reservedForm
 alike-drawn g t m i n T d k =
     ap₂ (λ (c : Form) (b : Bool). storeTile c (tilePic b T) (i % g .columns) (i / g .columns) (alphaTold c n d)) (alike-canvas g t m 1 k) (alike-promotes g t m k)
 
-alike-covers : (g : GridDescriptor) (t m : Form) → Alike t m → g .«output_width» ≤ t .width * g .columns → g .«output_height» ≤ t .height * g .rows → coversOf g m ≡ true
-unfolding coversOf
+alike-covers : (g : GridDescriptor) (t m : Form) → Alike t m → g .«output_width» ≤ t .width * g .columns → g .«output_height» ≤ t .height * g .rows → spansCanvas g m ≡ true
+unfolding spansCanvas
 alike-covers g t m k x y =
     let a : g .«output_width» ≤ m .width * g .columns = rw (k .width) x in
     let b : g .«output_height» ≤ m .height * g .rows = rw (k .height) y in
@@ -92,12 +95,12 @@ length-drawn g t i m T d = length-storePart _ _ _ _ Alpha _ ∙ length-storePart
 
 -- ---- a tile that is accepted
 
-pub take-first : (s : Canvas) (m : Form) → hasTile s ≡ false → coversOf (s .desc) m ≡ true → acceptOf s m ≡ done m
+pub take-first : (s : Canvas) (m : Form) → hasTile s ≡ false → spansCanvas (s .desc) m ≡ true → acceptOf s m ≡ done m
 unfolding acceptOf
 take-first s m h c = pick-false (hasTile s) _ _ h ∙ refuse-no _ _ (ap not c)
 
 pub take-later : (s : Canvas) (t m : Form) → hasTile s ≡ true → Alike t (s .tile) → Alike t m → acceptOf s m ≡ done (s .tile)
-unfolding acceptOf sameSize sameLayout
+unfolding acceptOf hasSize sameLayout
 take-later s t m h k l =
     pick-true (hasTile s) _ _ h
     ∙ refuse-no _ _ (ap not (true-and _ _ (eq-eqb _ _ (l .width ∙ sym (k .width))) (eq-eqb _ _ (l .height ∙ sym (k .height)))))
@@ -124,23 +127,23 @@ none-alpha : (P : Pic) → planeBytes (reform P 0) Alpha ≡ []
 unfolding planeBytes hasPart hasAlpha withAlpha
 none-alpha P = pick-false _ _ _ refl
 
-laid-none : (P : Pic) (rest : List ℕ) → laid (headBytes (withAlpha (P .form) 0)) P ++ rest ≡ encode (reform P 0) ++ (planeBytes P Alpha ++ rest)
-unfolding laid encode
+laid-none : (P : Pic) (rest : List ℕ) → headed (headBytes (withAlpha (P .form) 0)) P ++ rest ≡ encode (reform P 0) ++ (planeBytes P Alpha ++ rest)
+unfolding headed encode
 laid-none P rest =
     let k = colour-planes P 0 in
     let z = none-alpha P in
     simp (k .0, k .1, k .2, z, append-assoc, append-nil)
 
-laid-some : (P : Pic) (rest : List ℕ) → P .form .format .alpha ≡ 1 → laid (headBytes (withAlpha (P .form) 1)) P ++ rest ≡ encode (reform P 1) ++ rest
+laid-some : (P : Pic) (rest : List ℕ) → P .form .format .alpha ≡ 1 → headed (headBytes (withAlpha (P .form) 1)) P ++ rest ≡ encode (reform P 1) ++ rest
 laid-some P rest e =
     let q : withAlpha (P .form) 1 ≡ P .form = ap (withAlpha (P .form)) (sym e) ∙ own-alpha (P .form) in
-    ap (λ (m : Form). laid (headBytes m) P ++ rest) q ∙ as-is ∙ ap (λ (m : Form). encode (record { form = m; at = P .at }) ++ rest) (sym q)
+    ap (λ (m : Form). headed (headBytes m) P ++ rest) q ∙ as-is ∙ ap (λ (m : Form). encode (record { form = m; at = P .at }) ++ rest) (sym q)
   where
-    as-is : laid (headBytes (P .form)) P ++ rest ≡ encode P ++ rest
-    as-is = unfold laid encode in refl
+    as-is : headed (headBytes (P .form)) P ++ rest ≡ encode P ++ rest
+    as-is = unfold headed encode in refl
 
 -- the start of the buffer is the record
-start-record : (P : Pic) (a : ℕ) (rest : List ℕ) → P .form .format .alpha ≡ 1 → a ≤ 1 → take (sizeOf (withAlpha (P .form) a)) (laid (headBytes (withAlpha (P .form) a)) P ++ rest) ≡ encode (reform P a)
+start-record : (P : Pic) (a : ℕ) (rest : List ℕ) → P .form .format .alpha ≡ 1 → a ≤ 1 → take (sizeOf (withAlpha (P .form) a)) (headed (headBytes (withAlpha (P .form) a)) P ++ rest) ≡ encode (reform P a)
 start-record P a rest e l =
     by-equal a 0
     (λ z. rw z (ap (take (sizeOf (withAlpha (P .form) 0))) (laid-none P rest) ∙ take-at _ _ _ (length-encode (reform P 0))))
@@ -236,7 +239,7 @@ tile-seen f h e = no (sym h ∙ tile-opaque f e)
 -- ---- a grid's tiles, and records that show them
 
 module _ (body tray : List ℕ) (t : Tiles) (ok : TilesTaken tray t) (grid : GridSound (t .desc)) (source : TilesFrom body tray t) (R : ℕ → List ℕ) (F : ℕ → Frame)
-    (taken : (i : ℕ) → i < countOf (t .desc) → recordOf (R i) ≡ done (F i)) (same : (i : ℕ) → i < countOf (t .desc) → Agree (decode (R i) (F i)) (tileIn tray (framesIn tray t) i)) where
+    (taken : (i : ℕ) → i < countOf (t .desc) → recordOf (R i) ≡ done (F i)) (same : (i : ℕ) → i < countOf (t .desc) → Agree (decode (R i) (F i)) (pictureIn tray (framesIn tray t) i)) where
   abbrev g : GridDescriptor
   g = t .desc
 
@@ -258,7 +261,7 @@ module _ (body tray : List ℕ) (t : Tiles) (ok : TilesTaken tray t) (grid : Gri
   T i = tilePic b (S i)
 
   form-of : (i : ℕ) → i < countOf g → F i .form ≡ frame i .form
-  unfolding decode tileIn
+  unfolding decode pictureIn
   form-of i l = same i l .form
 
   decode-form : (i : ℕ) → F i .form ≡ S i .form
@@ -275,7 +278,7 @@ module _ (body tray : List ℕ) (t : Tiles) (ok : TilesTaken tray t) (grid : Gri
   one : C .format .alpha ≡ 1
   one = unfold reservedForm in canvas-alpha-is g (t .tile) 1
 
-  suits : (i : ℕ) → i < countOf g → Suits (R i) (F i) C b (sizeOf C)
+  suits : (i : ℕ) → i < countOf g → FitsCanvas (R i) (F i) C b (sizeOf C)
   unfolding reservedForm
   suits i l =
       let k = alike-of i l in
@@ -303,11 +306,11 @@ module _ (body tray : List ℕ) (t : Tiles) (ok : TilesTaken tray t) (grid : Gri
     alike : Alike (t .tile) u
     tile : FormSound u
     alpha : a ≡ alphaAfter S js 0
-    buffer : d ≡ laid (headBytes (withAlpha C a)) (pastes T (g .columns) js (plainPic C)) ++ rest
+    buffer : d ≡ headed (headBytes (withAlpha C a)) (pastes T (g .columns) js (plainPic C)) ++ rest
     room : sizeOf C ≤ length d
 
   -- what a place comes to
-  record Gone (js rest : List ℕ) (o : Out Drawn) : Type 0 where
+  record Gone (js rest : List ℕ) (o : Out CanvasAfter) : Type 0 where
     u : Form
     a : ℕ
     ms : List ℕ
@@ -320,12 +323,12 @@ module _ (body tray : List ℕ) (t : Tiles) (ok : TilesTaken tray t) (grid : Gri
 
   -- one cell more, beside a state that takes it
   step : (js rest : List ℕ) (v : Form) (a : ℕ) (ms d : List ℕ) (j : ℕ) (u : Form) → j < countOf g → stateOk (state v a ms) ≡ true → length ms ≡ 1024 → ((i : ℕ) → isMarked ms i ≡ among i js) → acceptOf (state v a ms) (F j .form) ≡ done u
-      → Alike (t .tile) u → FormSound u → a ≡ alphaAfter S js 0 → begun (not (hasTile (state v a ms))) C d ≡ laid (headBytes (withAlpha C a)) (pastes T (g .columns) js (plainPic C)) ++ rest → sizeOf C ≤ length d
+      → Alike (t .tile) u → FormSound u → a ≡ alphaAfter S js 0 → begun (not (hasTile (state v a ms))) C d ≡ headed (headBytes (withAlpha C a)) (pastes T (g .columns) js (plainPic C)) ++ rest → sizeOf C ≤ length d
       → Gone (j ∷ js) rest (placeOf (state v a ms) j (R j) d)
   step js rest v a ms d j u l sound long marked accepted alike tile alpha started room =
       record { u = u; a = a′; ms = markOf ms j; d = x .buffer; done-with = here; going = record { sound = kept .0; long = kept .1; marked = marks; alike = alike; tile = tile; alpha = number; buffer = drawn; room = rw still room } }
     where
-      x : Drawn
+      x : CanvasAfter
       x = placedAs (state v a ms) j (R j) d (F j) u
 
       a′ : ℕ
@@ -366,10 +369,10 @@ module _ (body tray : List ℕ) (t : Tiles) (ok : TilesTaken tray t) (grid : Gri
       reserved : reservedForm g u ≡ C
       reserved = unfold reservedForm in alike-canvas g (t .tile) u 1 alike
 
-      pasted : laid (headBytes (withAlpha C a′)) (pasteTile (T j) (j % g .columns) (j / g .columns) P) ++ rest ≡ laid (headBytes (withAlpha C a′)) (pastes T (g .columns) (j ∷ js) (plainPic C)) ++ rest
+      pasted : headed (headBytes (withAlpha C a′)) (pasteTile (T j) (j % g .columns) (j / g .columns) P) ++ rest ≡ headed (headBytes (withAlpha C a′)) (pastes T (g .columns) (j ∷ js) (plainPic C)) ++ rest
       pasted = unfold pastes in refl
 
-      drawn : x .buffer ≡ laid (headBytes (withAlpha C a′)) (pastes T (g .columns) (j ∷ js) (plainPic C)) ++ rest
+      drawn : x .buffer ≡ headed (headBytes (withAlpha C a′)) (pastes T (g .columns) (j ∷ js) (plainPic C)) ++ rest
       drawn =
           shape
           ∙ ap (λ (c : Form). drawnOn g u j (F j .form) (S j) (begun (not (hasTile (state v a ms))) c d)) reserved
@@ -400,7 +403,7 @@ module _ (body tray : List ℕ) (t : Tiles) (ok : TilesTaken tray t) (grid : Gri
       bare : hasTile (state noForm 0 noMarks) ≡ false
       bare = unfold hasTile noForm in refl
 
-      begins : begun (not (hasTile (state noForm 0 noMarks))) C d ≡ laid (headBytes (withAlpha C 0)) (pastes T (g .columns) [] (plainPic C)) ++ drop (sizeOf C) d
+      begins : begun (not (hasTile (state noForm 0 noMarks))) C d ≡ headed (headBytes (withAlpha C 0)) (pastes T (g .columns) [] (plainPic C)) ++ drop (sizeOf C) d
       begins = ap (λ (q : Bool). begun q C d) (ap not bare) ∙ begun-laid C d one room ∙ (unfold pastes in refl)
 
   -- a later one
@@ -412,7 +415,7 @@ module _ (body tray : List ℕ) (t : Tiles) (ok : TilesTaken tray t) (grid : Gri
       tiled : hasTile (state u a ms) ≡ true
       tiled = unfold hasTile in wide-tile u (k .tile)
 
-  gone-as : {js rest : List ℕ} {o p : Out Drawn} → p ≡ o → Gone js rest o → Gone js rest p
+  gone-as : {js rest : List ℕ} {o p : Out CanvasAfter} → p ≡ o → Gone js rest o → Gone js rest p
   gone-as e k = rw e k
 
   -- all of them
@@ -429,11 +432,11 @@ module _ (body tray : List ℕ) (t : Tiles) (ok : TilesTaken tray t) (grid : Gri
   canvas = canvasForm g (t .tile) (t .alpha)
 
   abbrev T₀ : ℕ → Pic
-  T₀ i = tilePic b (tileIn tray (framesIn tray t) i)
+  T₀ i = tilePic b (pictureIn tray (framesIn tray t) i)
 
   agrees : (i : ℕ) → i < countOf g → Agree (T i) (T₀ i)
   unfolding decode
-  agrees i l = tile-agree b (S i) (tileIn tray (framesIn tray t) i) (suits i l .colour) (same i l)
+  agrees i l = tile-agree b (S i) (pictureIn tray (framesIn tray t) i) (suits i l .colour) (same i l)
 
   canvas-as : withAlpha C (t .alpha) ≡ canvas
   unfolding reservedForm canvasForm withAlpha
@@ -561,8 +564,8 @@ module _ (body tray : List ℕ) (t : Tiles) (ok : TilesTaken tray t) (grid : Gri
         form : canvasForm g u a ≡ withAlpha (P .form) a
         form = alike-canvas g (t .tile) u a (k .alike) ∙ with-a ∙ ap (λ (m : Form). withAlpha m a) (sym (on-plain js))
 
-        buffer : d ≡ laid (headBytes (withAlpha (P .form) a)) P ++ rest
-        buffer = k .buffer ∙ ap (λ (m : Form). laid (headBytes (withAlpha m a)) P ++ rest) (sym (on-plain js))
+        buffer : d ≡ headed (headBytes (withAlpha (P .form) a)) P ++ rest
+        buffer = k .buffer ∙ ap (λ (m : Form). headed (headBytes (withAlpha m a)) P ++ rest) (sym (on-plain js))
 
         record-is : take (sizeOf (canvasForm g u a)) d ≡ encode (gridOn tray t)
         record-is =
@@ -576,7 +579,7 @@ module _ (body tray : List ℕ) (t : Tiles) (ok : TilesTaken tray t) (grid : Gri
 -- likes, each with a record that shows the tile of its index in the tray, and finishes, comes to what composite_grid comes to over
 -- body and tray, in a buffer that holds the canvas's record and its reserved alpha plane.
 pub any-order-composes : (body tray : List ℕ) (t : Tiles) → Bytes body → tilesOf body tray ≡ done t → (R : ℕ → List ℕ) (F : ℕ → Frame) → ((i : ℕ) → i < countOf (t .desc) → recordOf (R i) ≡ done (F i))
-    → ((i : ℕ) → i < countOf (t .desc) → Agree (decode (R i) (F i)) (tileIn tray (framesIn tray t) i)) → (js : List ℕ) → ((i : ℕ) → among i js ≡ ltb i (countOf (t .desc))) → (d : List ℕ) → sizeOf (reservedForm (t .desc) (t .tile)) ≤ length d
+    → ((i : ℕ) → i < countOf (t .desc) → Agree (decode (R i) (F i)) (pictureIn tray (framesIn tray t) i)) → (js : List ℕ) → ((i : ℕ) → among i js ≡ ltb i (countOf (t .desc))) → (d : List ℕ) → sizeOf (reservedForm (t .desc) (t .tile)) ≤ length d
     → sessionRun body R js d ≡ gridRun body tray (length d)
 any-order-composes body tray t small e R F taken same js cells d room = go js cells ∙ sym (grid-fits body tray (length d) t e fits)
   where

@@ -17,7 +17,7 @@ use Rattle.laws.specs.declared.Answer.the-variants.{Refused, Wrote}
 use Rattle.laws.specs.declared.Refusal.{Refusal}
 use Rattle.numbers.proofs.Number.{bytes-last}
 use Rattle.numbers.specs.Number.{numberBytes}
-use Rattle.image.specs.Bytes.{decode, headBytes, sizeOf}
+use Rattle.planes.specs.Bytes.{decode, headBytes, sizeOf}
 use Rattle.image.specs.Format.{hasAlpha}
 use Rattle.image.specs.Record.{recordOf}
 use Rattle.image.specs.declared.format.Form.{Form}
@@ -29,17 +29,17 @@ use Rattle.grid.specs.Cell.{storeTile, tilePic}
 use Rattle.grid.specs.Mosaic.{canvasBytes}
 use Rattle.grid.specs.Tiles.{canvasForm, countOf, promotesOf}
 use Rattle.session.specs.Marks.{allMarked, markOf}
-use Rattle.session.specs.Session.{Drawn, alphaPlace, alphaTold, begun, calledOf, drawnBuffer, drawnCall, drawnOn, finishOf, lengthAnswer, markedOn, placeOf, placedAs, reservedForm, sessionOf}
+use Rattle.session.specs.Session.{CanvasAfter, alphaPlace, alphaTold, begun, calledOf, drawnBuffer, drawnCall, drawnOn, finishOf, lengthAnswer, markedOn, placeOf, placedAs, reservedForm, sessionOf}
 use Rattle.session.specs.State.{acceptOf, hasTile, noCanvas, openOf, stateOk}
 use Rattle.session.specs.declared.canvas.Called.{Called}
 
 -- ---- what a call comes to
 
-pub drawn-refused : (s : Canvas) (o : Out Drawn) (r : Refusal) (d : List ℕ) (c : Called) → o ≡ refused r → c ≡ record { canvas = s; answer = Refused r } → (c ≡ drawnCall s o) × (d ≡ drawnBuffer d o)
+pub drawn-refused : (s : Canvas) (o : Out CanvasAfter) (r : Refusal) (d : List ℕ) (c : Called) → o ≡ refused r → c ≡ record { canvas = s; answer = Refused r } → (c ≡ drawnCall s o) × (d ≡ drawnBuffer d o)
 unfolding drawnCall drawnBuffer calledOf andThen
 drawn-refused s o r d c e q = rw e (q, refl)
 
-pub drawn-done : (s : Canvas) (o : Out Drawn) (x : Drawn) (d d′ : List ℕ) (c : Called) → o ≡ done x → c ≡ record { canvas = x .canvas; answer = Wrote 0 } → d′ ≡ x .buffer → (c ≡ drawnCall s o) × (d′ ≡ drawnBuffer d o)
+pub drawn-done : (s : Canvas) (o : Out CanvasAfter) (x : CanvasAfter) (d d′ : List ℕ) (c : Called) → o ≡ done x → c ≡ record { canvas = x .canvas; answer = Wrote 0 } → d′ ≡ x .buffer → (c ≡ drawnCall s o) × (d′ ≡ drawnBuffer d o)
 unfolding drawnCall drawnBuffer calledOf andThen
 drawn-done s o x d d′ c e q b = rw e (q, b)
 

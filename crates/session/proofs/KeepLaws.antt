@@ -10,46 +10,42 @@ use lib.ListN.{getD, length, length-replicate, replicate}
 use lib.Pow.{pow-pos}
 use borrow.Author.Tests.{eqb-true, le-leb, leb-false, ltb-false, ne-eqb, not-false, not-true}
 use Rattle.laws.proofs.Order.{and-true, by-equal, by-test, mul-below, pick-both, pick-false, pick-le, pick-true, true-and}
-use Rattle.laws.proofs.Out.{andThen-done, done-same, refuse-done}
+use Rattle.laws.proofs.Out.{andThen-done, done-same, done-yes, refuse-done}
 use Rattle.laws.specs.Out.{done}
 use Rattle.laws.specs.Pick.{pick}
-use Rattle.image.proofs.RecordLaws.{whole-sound}
-use Rattle.image.specs.Bytes.{Bytes, sizeOf}
+use Rattle.laws.specs.Puts.{Bytes}
+use Rattle.image.proofs.RecordLaws.{form-taken, size-taken, whole-sound}
 use Rattle.image.specs.Format.{hasAlpha}
 use Rattle.image.specs.Record.{recordOf}
 use Rattle.image.specs.Sound.{FormSound}
+use Rattle.image.specs.Tray.{noForm}
 use Rattle.image.specs.declared.format.Form.{Form}
 use Rattle.image.specs.declared.format.PixelFormat.{PixelFormat}
 use Rattle.image.specs.declared.record.Frame.{Frame}
+use Rattle.planes.specs.Bytes.{sizeOf}
 use Rattle.derived.proofs.Taken.{grid-taken}
 use Rattle.derived.specs.Grid.{gridOf}
-use Rattle.derived.specs.inner.Sound.{CanvasSound, GridSound}
-use Rattle.session.specs.declared.state.Canvas.{Canvas}
 use Rattle.derived.specs.declared.grid.GridDescriptor.{GridDescriptor}
-use Rattle.grid.specs.Tiles.{countOf, coversOf}
+use Rattle.derived.specs.inner.Sound.{GridSound}
+use Rattle.grid.specs.Tiles.{countOf, spansCanvas}
 use Rattle.session.proofs.MarkLaws.{any-get, any-none, any-some, clear-all, clear-get, length-mark, mark-clear, mark-some, zero-words}
 use Rattle.session.proofs.StateLaws.{count-small, state-grid, state-parts, state-tile}
 use Rattle.session.specs.Marks.{anyWord, clearFrom, markOf, noMarks}
-use Rattle.session.specs.Session.{Drawn, blankOf, blankedAs, markedOn, placeOf, placedAs, reservedForm, sessionOf}
-use Rattle.session.specs.State.{acceptOf, bareOk, formOk, gridOk, hasTile, noForm, openOf, sidesOk, stateOk, tiledOk}
+use Rattle.session.specs.Session.{CanvasAfter, blankOf, blankedAs, markedOn, placeOf, placedAs, reservedForm, sessionOf}
+use Rattle.session.specs.State.{acceptOf, bareOk, formOk, gridOk, hasTile, openOf, stateOk, tiledOk}
+use Rattle.session.specs.declared.state.Canvas.{Canvas}
 
 -- ---- what is sound passes its test
-
-sides-ok : (w h : ℕ) → CanvasSound w h → sidesOk w h ≡ true
-unfolding sidesOk
-sides-ok w h k = true-and _ _ (le-leb _ _ (k .wide)) (true-and _ _ (le-leb _ _ (k .tall)) (le-leb _ _ (k .area)))
 
 pub grid-ok : (g : GridDescriptor) → GridSound g → gridOk g ≡ true
 unfolding gridOk
 grid-ok g k =
-    true-and _ _ (le-leb _ _ (k .someRows))
-    (true-and _ _ (le-leb _ _ (k .fewRows)) (true-and _ _ (le-leb _ _ (k .someColumns)) (true-and _ _ (le-leb _ _ (k .fewColumns)) (sides-ok _ _ (k .canvas)))))
+    true-and _ _ (le-leb _ _ (k .positiveRows))
+    (true-and _ _ (le-leb _ _ (k .boundedRows)) (true-and _ _ (le-leb _ _ (k .positiveColumns)) (true-and _ _ (le-leb _ _ (k .boundedColumns)) (done-yes _ _ (size-taken _ (k .canvas))))))
 
 pub form-ok : (m : Form) → FormSound m → formOk m ≡ true
 unfolding formOk
-form-ok m k =
-    true-and _ _ (le-leb _ _ (k .chroma))
-    (true-and _ _ (le-leb _ _ (k .low)) (true-and _ _ (le-leb _ _ (k .high)) (true-and _ _ (le-leb _ _ (k .alpha)) (sides-ok _ _ (record { wide = k .wide; tall = k .tall; area = k .area })))))
+form-ok m k = done-yes _ m (form-taken m k)
 
 -- ---- start
 
@@ -73,7 +69,7 @@ start-ok body s small e =
 pub record Ready (s : Canvas) (t : Form) : Type 0 where
   pub grid : GridSound (s .desc)
   pub tile : FormSound t
-  pub covers : coversOf (s .desc) t ≡ true
+  pub covers : spansCanvas (s .desc) t ≡ true
   pub clear : (i : ℕ) → countOf (s .desc) / 64 ≤ i → i < 1024 → getD (s .marks) i 0 / 2 ^ (countOf (s .desc) - i * 64) ≡ 0
 
 pub wide-tile : (t : Form) → FormSound t → not (eqb (t .width) 0) ≡ true
@@ -120,11 +116,11 @@ drawn-ok s i t a n k l small least = (sound, long)
         let h : pick (hasTile u) (tiledOk u) (bareOk u) ≡ true = pick-true (hasTile u) (tiledOk u) (bareOk u) (has-tile s i t a (k .tile)) ∙ tiled in
         state-whole u g h
 
-tiled-parts : (s : Canvas) → tiledOk s ≡ true → (coversOf (s .desc) (s .tile) ≡ true) × (clearFrom (s .marks) (countOf (s .desc)) (countOf (s .desc) / 64) (1024 - countOf (s .desc) / 64) ≡ true) × (anyWord (s .marks) 0 1024 ≡ true)
+tiled-parts : (s : Canvas) → tiledOk s ≡ true → (spansCanvas (s .desc) (s .tile) ≡ true) × (clearFrom (s .marks) (countOf (s .desc)) (countOf (s .desc) / 64) (1024 - countOf (s .desc) / 64) ≡ true) × (anyWord (s .marks) 0 1024 ≡ true)
 unfolding tiledOk
 tiled-parts s k =
     let a = and-true (formOk (s .tile)) _ k in
-    let b = and-true (coversOf (s .desc) (s .tile)) _ (a .1) in
+    let b = and-true (spansCanvas (s .desc) (s .tile)) _ (a .1) in
     let c = and-true (leb (s .alpha) 1) _ (b .1) in
     let d = and-true (leb (s .tile .format .alpha) (s .alpha)) _ (c .1) in
     let e = and-true (clearFrom (s .marks) (countOf (s .desc)) (countOf (s .desc) / 64) (1024 - countOf (s .desc) / 64)) _ (d .1) in
@@ -153,10 +149,10 @@ ready-tiled s e h =
     tiled : tiledOk s ≡ true
     tiled = sym (pick-true (hasTile s) (tiledOk s) (bareOk s) h) ∙ state-parts s e .1
 
-    parts : (coversOf (s .desc) (s .tile) ≡ true) × (clearFrom (s .marks) (countOf (s .desc)) (countOf (s .desc) / 64) (1024 - countOf (s .desc) / 64) ≡ true) × (anyWord (s .marks) 0 1024 ≡ true)
+    parts : (spansCanvas (s .desc) (s .tile) ≡ true) × (clearFrom (s .marks) (countOf (s .desc)) (countOf (s .desc) / 64) (1024 - countOf (s .desc) / 64) ≡ true) × (anyWord (s .marks) 0 1024 ≡ true)
     parts = tiled-parts s tiled
 
-pub state-covers : (s : Canvas) → stateOk s ≡ true → hasTile s ≡ true → coversOf (s .desc) (s .tile) ≡ true
+pub state-covers : (s : Canvas) → stateOk s ≡ true → hasTile s ≡ true → spansCanvas (s .desc) (s .tile) ≡ true
 state-covers s e h = ready-tiled s e h .covers
 
 pub state-marked : (s : Canvas) → stateOk s ≡ true → hasTile s ≡ true → anyWord (s .marks) 0 1024 ≡ true
@@ -169,7 +165,7 @@ bare-state s e h = (bare-parts s bare .0, λ i l. any-get (s .marks) 0 1024 (bar
     bare : bareOk s ≡ true
     bare = sym (pick-false (hasTile s) (tiledOk s) (bareOk s) h) ∙ state-parts s e .1
 
-ready-bare : (s : Canvas) (m : Form) → stateOk s ≡ true → hasTile s ≡ false → FormSound m → coversOf (s .desc) m ≡ true → Ready s m
+ready-bare : (s : Canvas) (m : Form) → stateOk s ≡ true → hasTile s ≡ false → FormSound m → spansCanvas (s .desc) m ≡ true → Ready s m
 ready-bare s m e h k c =
     record {
       grid = state-grid s e;
@@ -181,7 +177,7 @@ ready-bare s m e h k c =
 -- ---- place
 
 -- what an accepted place says
-pub record Placing (s : Canvas) (i : ℕ) (bytes d : List ℕ) (x : Drawn) : Type 0 where
+pub record Placing (s : Canvas) (i : ℕ) (bytes d : List ℕ) (x : CanvasAfter) : Type 0 where
   pub sound : stateOk s ≡ true
   pub inside : i < countOf (s .desc)
   pub frame : Frame
@@ -191,7 +187,7 @@ pub record Placing (s : Canvas) (i : ℕ) (bytes d : List ℕ) (x : Drawn) : Typ
   pub room : sizeOf (reservedForm (s .desc) tile) ≤ length d
   pub same : placedAs s i bytes d frame tile ≡ x
 
-pub place-taken : (s : Canvas) (i : ℕ) (bytes d : List ℕ) (x : Drawn) → placeOf s i bytes d ≡ done x → Placing s i bytes d x
+pub place-taken : (s : Canvas) (i : ℕ) (bytes d : List ℕ) (x : CanvasAfter) → placeOf s i bytes d ≡ done x → Placing s i bytes d x
 unfolding placeOf
 place-taken s i bytes d x e =
     let a = refuse-done _ 5 _ x e in
@@ -205,7 +201,7 @@ pub accept-later : (s : Canvas) (m t : Form) → hasTile s ≡ true → acceptOf
 unfolding acceptOf
 accept-later s m t h e = done-same _ t (refuse-done _ 14 _ t (refuse-done _ 13 _ t (sym (pick-true (hasTile s) _ _ h) ∙ e) .1) .1)
 
-pub accept-first : (s : Canvas) (m t : Form) → hasTile s ≡ false → acceptOf s m ≡ done t → (coversOf (s .desc) m ≡ true) × (m ≡ t)
+pub accept-first : (s : Canvas) (m t : Form) → hasTile s ≡ false → acceptOf s m ≡ done t → (spansCanvas (s .desc) m ≡ true) × (m ≡ t)
 unfolding acceptOf
 accept-first s m t h e = let u = refuse-done _ 12 _ t (sym (pick-false (hasTile s) _ _ h) ∙ e) in (not-false _ (u .0), done-same m t (u .1))
 
@@ -216,7 +212,7 @@ alpha-first f a l = by-equal (f .alpha) 0 (λ z. omega arith) (λ d. rw (pick-tr
 alpha-keeps : (f : PixelFormat) (a n : ℕ) → n ≤ a → a ≤ 1 → n ≤ pick (hasAlpha f) 1 a
 alpha-keeps f a n l m = pick-both (λ (v : ℕ). n ≤ v) (hasAlpha f) 1 a (omega arith) l
 
-pub place-ok : (s : Canvas) (i : ℕ) (bytes d : List ℕ) (x : Drawn) → length (s .marks) ≡ 1024 → placeOf s i bytes d ≡ done x → (stateOk (x .canvas) ≡ true) × (length (x .canvas .marks) ≡ 1024)
+pub place-ok : (s : Canvas) (i : ℕ) (bytes d : List ℕ) (x : CanvasAfter) → length (s .marks) ≡ 1024 → placeOf s i bytes d ≡ done x → (stateOk (x .canvas) ≡ true) × (length (x .canvas .marks) ≡ 1024)
 place-ok s i bytes d x n e = rw (← (k .same)) (unfold placedAs in by-test (hasTile s) later first)
   where
     k : Placing s i bytes d x
@@ -243,14 +239,14 @@ place-ok s i bytes d x n e = rw (← (k .same)) (unfold placedAs in by-test (has
 -- ---- blank
 
 -- what an accepted blank says
-pub record Blanking (s : Canvas) (i : ℕ) (d : List ℕ) (x : Drawn) : Type 0 where
+pub record Blanking (s : Canvas) (i : ℕ) (d : List ℕ) (x : CanvasAfter) : Type 0 where
   pub sound : stateOk s ≡ true
   pub tiled : hasTile s ≡ true
   pub inside : i < countOf (s .desc)
   pub room : sizeOf (reservedForm (s .desc) (s .tile)) ≤ length d
   pub same : blankedAs s i d ≡ x
 
-pub blank-taken : (s : Canvas) (i : ℕ) (d : List ℕ) (x : Drawn) → blankOf s i d ≡ done x → Blanking s i d x
+pub blank-taken : (s : Canvas) (i : ℕ) (d : List ℕ) (x : CanvasAfter) → blankOf s i d ≡ done x → Blanking s i d x
 unfolding blankOf
 blank-taken s i d x e =
     let a = refuse-done _ 5 _ x e in
@@ -259,7 +255,7 @@ blank-taken s i d x e =
     let f = refuse-done _ 17 _ x (c .1) in
     record { sound = not-false _ (a .0); tiled = not-false _ (b .0); inside = leb-false _ _ (c .0); room = ltb-false _ _ (f .0); same = done-same _ x (f .1) }
 
-pub blank-ok : (s : Canvas) (i : ℕ) (d : List ℕ) (x : Drawn) → length (s .marks) ≡ 1024 → blankOf s i d ≡ done x → (stateOk (x .canvas) ≡ true) × (length (x .canvas .marks) ≡ 1024)
+pub blank-ok : (s : Canvas) (i : ℕ) (d : List ℕ) (x : CanvasAfter) → length (s .marks) ≡ 1024 → blankOf s i d ≡ done x → (stateOk (x .canvas) ≡ true) × (length (x .canvas .marks) ≡ 1024)
 blank-ok s i d x n e =
     let k = blank-taken s i d x e in
     let t = state-tile s (k .sound) (k .tiled) in
@@ -306,8 +302,8 @@ numbers-small s e = by-test (hasTile s) tiled bare
         let m = t .tile in
         let k = side-small _ _ (m .wide) (m .tall) (m .area) in
         record {
-          rows = omega (arith, g .fewRows);
-          columns = omega (arith, g .fewColumns);
+          rows = omega (arith, g .boundedRows);
+          columns = omega (arith, g .boundedColumns);
           wide = sides .0;
           tall = sides .1;
           tileWide = k .0;
@@ -323,8 +319,8 @@ numbers-small s e = by-test (hasTile s) tiled bare
         let z = bare-zero s h (sym (pick-false (hasTile s) (tiledOk s) (bareOk s) h) ∙ state-parts s e .1) in
         let a = bare-state s e h .0 in
         record {
-          rows = omega (arith, g .fewRows);
-          columns = omega (arith, g .fewColumns);
+          rows = omega (arith, g .boundedRows);
+          columns = omega (arith, g .boundedColumns);
           wide = sides .0;
           tall = sides .1;
           tileWide = omega (arith, z .0);

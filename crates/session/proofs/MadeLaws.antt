@@ -14,24 +14,26 @@ use lib.Pow.{pow-lt, pow-mono, pow-pos}
 use lib.Seq.{ext-getD, getD-set-other, getD-set-same}
 use borrow.Author.Tests.{eq-eqb, eqb-false, eqb-true, le-ltb, lt-ltb, ne-eqb}
 use Rattle.laws.proofs.Order.{apart, by-equal, by-order, by-test, pick-both, pick-false, pick-true}
-use Rattle.laws.proofs.Out.{andThen-done, done-same, refuse-no, then-done}
+use Rattle.laws.proofs.Out.{andThen-done, done-same, then-done}
 use Rattle.laws.specs.Out.{done, refuse}
 use Rattle.laws.specs.Pick.{pick}
+use Rattle.laws.specs.Puts.{Bytes}
 use Rattle.numbers.specs.Field.{bigEndian, fieldAt, onField}
-use Rattle.image.proofs.RoundTrip.{encode-back}
-use Rattle.image.specs.Bytes.{Bytes, encode, sizeOf, tightAt}
-use Rattle.image.specs.Format.{hasAlpha}
+use Rattle.image.proofs.RecordLaws.{size-taken}
+use Rattle.image.specs.Format.{hasAlpha, sides, withAlpha}
 use Rattle.image.specs.Record.{recordOf}
-use Rattle.image.specs.Sound.{FormSound}
+use Rattle.image.specs.Sound.{FormSound, SizeSound}
+use Rattle.image.specs.Tray.{noForm}
 use Rattle.image.specs.declared.format.Form.{Form}
+use Rattle.planes.proofs.RoundTrip.{encode-back}
+use Rattle.planes.specs.Bytes.{encode, sizeOf, tightAt}
 use Rattle.derived.proofs.FieldLaws.{field-inside}
 use Rattle.derived.specs.Canvas.{canvasAt, fieldBytes, startOf}
 use Rattle.derived.specs.Grid.{gridAt, gridOf}
-use Rattle.derived.specs.inner.Sound.{CanvasSound, GridSound}
-use Rattle.session.specs.declared.state.Canvas.{Canvas}
 use Rattle.derived.specs.declared.grid.GridDescriptor.{GridDescriptor}
+use Rattle.derived.specs.inner.Sound.{GridSound}
+use Rattle.grid.specs.Tiles.{canvasForm, countOf, spansCanvas}
 use Rattle.grid.specs.inner.Ready.{Alike}
-use Rattle.grid.specs.Tiles.{canvasForm, countOf, coversOf, withAlpha}
 use Rattle.session.proofs.BlankLaws.{blank-done}
 use Rattle.session.proofs.ComposeLaws.{length-drawn, take-first, take-later}
 use Rattle.session.proofs.DrawLaws.{length-begun, place-done}
@@ -40,8 +42,9 @@ use Rattle.session.proofs.MarkLaws.{any-none, length-mark, mark-marks, 
 use Rattle.session.proofs.StateLaws.{TileHeld, count-small, state-grid, state-parts, state-tile}
 use Rattle.session.specs.Marks.{anyWord, bitOf, isMarked, markOf, noMarks}
 use Rattle.session.specs.Sequence.{Call, MadeBy, blank, callAll, callOf, callsRun, place}
-use Rattle.session.specs.Session.{Drawn, blankPic, blankedAs, markedOn, placedAs, sessionOf}
-use Rattle.session.specs.State.{acceptOf, bareOk, hasTile, noForm, openOf, stateOk, tiledOk}
+use Rattle.session.specs.Session.{CanvasAfter, blankPic, blankedAs, markedOn, placedAs, sessionOf}
+use Rattle.session.specs.State.{acceptOf, bareOk, hasTile, openOf, stateOk, tiledOk}
+use Rattle.session.specs.declared.state.Canvas.{Canvas}
 
 -- ---- words and marks by their bits
 
@@ -107,7 +110,7 @@ marked-words s i ok l k =
     let w : i / 64 < length (s .marks) = rw (k .long) (omega (arith, few)) in
     record { long = length-mark (s .marks) i ∙ k .long; words = mark-words (s .marks) i w (k .words) }
 
-call-keeps : (c : Call) (e x : Drawn) → Words (e .canvas .marks) → callOf c e ≡ done x → (stateOk (x .canvas) ≡ true) × Words (x .canvas .marks)
+call-keeps : (c : Call) (e x : CanvasAfter) → Words (e .canvas .marks) → callOf c e ≡ done x → (stateOk (x .canvas) ≡ true) × Words (x .canvas .marks)
 unfolding callOf
 call-keeps (place i bytes) e x w q =
     let k = place-taken (e .canvas) i bytes (e .buffer) x q in
@@ -116,7 +119,7 @@ call-keeps (blank i) e x w q =
     let k = blank-taken (e .canvas) i (e .buffer) x q in
     (blank-ok (e .canvas) i (e .buffer) x (w .long) q .0, rw (← (k .same)) (unfold blankedAs markedOn in marked-words (e .canvas) i (k .sound) (k .inside) w))
 
-calls-keep : (cs : List Call) (e x : Drawn) → stateOk (e .canvas) ≡ true → Words (e .canvas .marks) → callAll cs e ≡ done x → (stateOk (x .canvas) ≡ true) × Words (x .canvas .marks)
+calls-keep : (cs : List Call) (e x : CanvasAfter) → stateOk (e .canvas) ≡ true → Words (e .canvas .marks) → callAll cs e ≡ done x → (stateOk (x .canvas) ≡ true) × Words (x .canvas .marks)
 unfolding callAll
 calls-keep [] e x ok w q = rw (← (done-same e x q)) (ok, w)
 calls-keep (c ∷ cs) e x ok w q =
@@ -171,14 +174,11 @@ one-byte : (s : List ℕ) (at n : ℕ) → getD s (at + 0) 0 ≡ n - 1 → 1 ≤
 unfolding bigEndian
 one-byte s at n e l = omega (arith, e)
 
-canvas-read : (s : List ℕ) (w h : ℕ) → length s ≡ 12 → bigEndian s 4 4 ≡ w → bigEndian s 8 4 ≡ h → CanvasSound w h → canvasAt s 4 4 ≡ done (record { width = w; height = h; next = record { at = 12 } })
+canvas-read : (s : List ℕ) (w h : ℕ) → length s ≡ 12 → bigEndian s 4 4 ≡ w → bigEndian s 8 4 ≡ h → SizeSound (sides w h) → canvasAt s 4 4 ≡ done (record { width = w; height = h; next = record { at = 12 } })
 unfolding canvasAt onField
 canvas-read s w h n ew eh k =
     rw (field-inside s 4 4 (omega (arith, n)), field-inside s 8 4 (omega (arith, n)), ew, eh)
-    (refuse-no 3 _ (ne-eqb w 0 (λ z. no-side w z (k .wide))) ∙ refuse-no 3 _ (ne-eqb h 0 (λ z. no-side h z (k .tall))) ∙ refuse-no 4 _ (le-ltb _ _ (k .area)))
-  where
-    no-side : (n : ℕ) → n ≡ 0 → 1 ≤ n → ⊥
-    no-side n z l = omega arith
+    (then-done _ (size-taken (sides w h) k))
 
 grid-read : (s : List ℕ) (w h : ℕ) → length s ≡ 12 → startOf s ≡ done (record { bytes = 4; next = record { at = 2 } }) → canvasAt s 4 4 ≡ done (record { width = w; height = h; next = record { at = 12 } })
     → gridOf s ≡ done (record { rows = bigEndian s 2 1 + 1; columns = bigEndian s 3 1 + 1; «output_width» = w; «output_height» = h })
@@ -195,7 +195,7 @@ body-reads g k =
     grid-read (body-of g) (g .«output_width») (g .«output_height») refl (start-read g)
     (canvas-read (body-of g) (g .«output_width») (g .«output_height») refl (four (body-of g) 4 (g .«output_width») refl refl refl refl) (four (body-of g) 8 (g .«output_height») refl refl refl refl) (k .canvas))
     ∙ ap₂ (λ (r c : ℕ). done (record { rows = r; columns = c; «output_width» = g .«output_width»; «output_height» = g .«output_height» }))
-    (one-byte (body-of g) 2 (g .rows) refl (k .someRows)) (one-byte (body-of g) 3 (g .columns) refl (k .someColumns))
+    (one-byte (body-of g) 2 (g .rows) refl (k .positiveRows)) (one-byte (body-of g) 3 (g .columns) refl (k .positiveColumns))
 
 small-list : (b : ℕ) (s : List ℕ) → b < 256 → Bytes s → Bytes (b ∷ s)
 unfolding Bytes
@@ -211,7 +211,7 @@ body-small g k =
     let l = side-small (g .«output_width») (g .«output_height») (k .canvas .wide) (k .canvas .tall) (k .canvas .area) in
     let u = l .0 in
     let v = l .1 in
-    small-list _ _ (omega arith) (small-list _ _ (omega arith) (small-list _ _ (omega (arith, k .fewRows)) (small-list _ _ (omega (arith, k .fewColumns))
+    small-list _ _ (omega arith) (small-list _ _ (omega arith) (small-list _ _ (omega (arith, k .boundedRows)) (small-list _ _ (omega (arith, k .boundedColumns))
     (small-list _ _ (omega arith) (small-list _ _ (omega arith) (small-list _ _ (omega arith) (small-list _ _ (omega arith)
     (small-list _ _ (omega arith) (small-list _ _ (omega arith) (small-list _ _ (omega arith) (small-list _ _ (omega arith) small-none)))))))))))
 
@@ -249,10 +249,10 @@ module _ (g : GridDescriptor) (grid : GridSound g) where
       open-words : Words (openOf g .marks)
       open-words = unfold openOf in record { long = long-none; words = no-words }
 
-  made-more : {n : ℕ} {s : Canvas} (k : Made n s) (c : Call) (x : Drawn) → callOf c (record { canvas = s; buffer = k .buffer }) ≡ done x → length (x .buffer) ≡ length (k .buffer) → Made n (x .canvas)
+  made-more : {n : ℕ} {s : Canvas} (k : Made n s) (c : Call) (x : CanvasAfter) → callOf c (record { canvas = s; buffer = k .buffer }) ≡ done x → length (x .buffer) ≡ length (k .buffer) → Made n (x .canvas)
   made-more k c x e l = record { calls = c ∷ k .calls; buffer = x .buffer; run = unfold callAll in then-done _ (k .run) ∙ e; long = l ∙ k .long }
 
-  module _ (t : Form) (tile : FormSound t) (covers : coversOf g t ≡ true) where
+  module _ (t : Form) (tile : FormSound t) (covers : spansCanvas g t ≡ true) where
     abbrev room : ℕ
     room = sizeOf (canvasForm g t 1)
 
@@ -266,7 +266,7 @@ module _ (g : GridDescriptor) (grid : GridSound g) where
         bytes : List ℕ
         bytes = encode (blankPic m)
 
-        x : Drawn
+        x : CanvasAfter
         x = placedAs (state u a ms) j bytes (k .buffer) (tightAt m 0) t
 
         taken : recordOf bytes ≡ done (tightAt m 0)
@@ -283,7 +283,7 @@ module _ (g : GridDescriptor) (grid : GridSound g) where
     made-blank : (a : ℕ) (ms : List ℕ) → Made room (state t a ms) → (i : ℕ) → i < countOf g → Made room (state t a (markOf ms i))
     made-blank a ms k i l = unfold blankedAs markedOn in made-more k (blank i) x here still
       where
-        x : Drawn
+        x : CanvasAfter
         x = blankedAs (state t a ms) i (k .buffer)
 
         tiled : hasTile (state t a ms) ≡ true

@@ -11,9 +11,9 @@ use Rattle.laws.specs.Pick.{pick}
 use Rattle.laws.specs.Puts.{puts}
 use Rattle.numbers.proofs.Number.{bytes-last}
 use Rattle.numbers.specs.Number.{numberBytes}
-use Rattle.image.specs.Bytes.{headBytes, planeBytes, sizeOf}
-use Rattle.image.specs.Format.{hasAlpha}
-use Rattle.image.specs.Picture.{Pic}
+use Rattle.planes.specs.Bytes.{headBytes, planeBytes, sizeOf}
+use Rattle.image.specs.Format.{hasAlpha, withAlpha}
+use Rattle.planes.specs.Picture.{Pic}
 use Rattle.image.specs.declared.format.Form.{Form}
 use Rattle.image.specs.declared.format.Part.the-variants.{Alpha, Cb, Cr, Luma}
 use Rattle.derived.specs.declared.grid.GridDescriptor.{GridDescriptor}
@@ -21,8 +21,9 @@ use Rattle.grid.proofs.Composed.{canvas-alpha-is}
 use Rattle.grid.proofs.PaintLaws.{head-alpha, length-canvas}
 use Rattle.grid.proofs.PasteLaws.{Meets, pasteTile, tile-pasted}
 use Rattle.grid.specs.Cell.{storeTile, tilePic}
-use Rattle.grid.specs.Mosaic.{canvasBytes, laid, plainPic}
-use Rattle.grid.specs.Tiles.{promotesOf, withAlpha}
+use Rattle.grid.specs.Mosaic.{canvasBytes, plainPic}
+use Rattle.paste.specs.Stored.{headed}
+use Rattle.grid.specs.Tiles.{promotesOf}
 use Rattle.session.proofs.DrawLaws.{begun-first}
 use Rattle.session.specs.Session.{alphaPlace, alphaTold, begun, drawnOn, reservedForm}
 
@@ -64,13 +65,13 @@ alpha-told c m a rest e l =
 abbrev planes-of : Pic → List ℕ
 planes-of P = planeBytes P Luma ++ (planeBytes P Cb ++ (planeBytes P Cr ++ planeBytes P Alpha))
 
-laid-as : (h : List ℕ) (P : Pic) (rest : List ℕ) → laid h P ++ rest ≡ h ++ (planes-of P ++ rest)
-unfolding laid
+laid-as : (h : List ℕ) (P : Pic) (rest : List ℕ) → headed h P ++ rest ≡ h ++ (planes-of P ++ rest)
+unfolding headed
 laid-as h P rest = append-assoc h (planes-of P) rest
 
 pub drawn-laid : (g : GridDescriptor) (t m : Form) (i a : ℕ) (T P : Pic) (rest : List ℕ) → P .form ≡ reservedForm g t → Meets (tilePic (promotesOf g t) T .form) (reservedForm g t) → a ≤ 1
-    → drawnOn g t i m T (laid (headBytes (withAlpha (reservedForm g t) a)) P ++ rest)
-    ≡ laid (headBytes (withAlpha (reservedForm g t) (pick (hasAlpha (m .format)) 1 a))) (pasteTile (tilePic (promotesOf g t) T) (i % g .columns) (i / g .columns) P) ++ rest
+    → drawnOn g t i m T (headed (headBytes (withAlpha (reservedForm g t) a)) P ++ rest)
+    ≡ headed (headBytes (withAlpha (reservedForm g t) (pick (hasAlpha (m .format)) 1 a))) (pasteTile (tilePic (promotesOf g t) T) (i % g .columns) (i / g .columns) P) ++ rest
 unfolding drawnOn
 drawn-laid g t m i a T P rest e meets l =
     ap (storeTile (reservedForm g t) (tilePic (promotesOf g t) T) (i % g .columns) (i / g .columns)) told
@@ -82,11 +83,11 @@ drawn-laid g t m i a T P rest e meets l =
     small : reservedForm g t .format .alpha ≤ 1
     small = rw one (omega arith)
 
-    told : alphaTold (reservedForm g t) m (laid (headBytes (withAlpha (reservedForm g t) a)) P ++ rest) ≡ laid (headBytes (withAlpha (reservedForm g t) (pick (hasAlpha (m .format)) 1 a))) P ++ rest
+    told : alphaTold (reservedForm g t) m (headed (headBytes (withAlpha (reservedForm g t) a)) P ++ rest) ≡ headed (headBytes (withAlpha (reservedForm g t) (pick (hasAlpha (m .format)) 1 a))) P ++ rest
     told = ap (alphaTold (reservedForm g t) m) (laid-as _ P rest) ∙ alpha-told (reservedForm g t) m a (planes-of P ++ rest) one l ∙ sym (laid-as _ P rest)
 
 -- the first accepted place begins with the canvas: samples 0, alpha at top, alpha number 0, and what lay past it
-pub begun-laid : (c : Form) (d : List ℕ) → c .format .alpha ≡ 1 → sizeOf c ≤ length d → begun true c d ≡ laid (headBytes (withAlpha c 0)) (plainPic c) ++ drop (sizeOf c) d
+pub begun-laid : (c : Form) (d : List ℕ) → c .format .alpha ≡ 1 → sizeOf c ≤ length d → begun true c d ≡ headed (headBytes (withAlpha c 0)) (plainPic c) ++ drop (sizeOf c) d
 begun-laid c d e l =
     let n = length-canvas c 0 (omega arith) (rw e (omega arith)) in
     begun-first true c d refl ∙ puts-start d (canvasBytes c 0) (rw n l) ∙ ap (λ (k : ℕ). canvasBytes c 0 ++ drop k d) n ∙ (unfold canvasBytes in refl)

@@ -1,35 +1,35 @@
 -- Laws of a state that calls can have made: its grid, its tile and its canvas are sound.
 use mathlib.Core.Bool.{true}
 use mathlib.Core.List.{List}
-use mathlib.Core.Path.{_∙_, _≡_, refl, sym}
+use mathlib.Core.Path.{_∙_, _≡_, refl, subst, sym}
 use Prim.Native.Nat.{_*_, _≤_, ℕ}
 use native.Mathlib.Omega.{arith}
 use lib.Dec.{leb}
 use borrow.Author.Tests.{eqb-true, leb-true, not-false}
 use Rattle.laws.proofs.Order.{and-true, by-test, mul-below, pick-false, pick-true}
-use Rattle.laws.proofs.Out.{done-same, refuse-done}
-use Rattle.laws.specs.Out.{done}
+use Rattle.laws.proofs.Out.{done-same, refuse-done, yes-done}
+use Rattle.laws.specs.Out.{done, isDone}
 use Rattle.laws.specs.Pick.{pick}
-use Rattle.image.specs.Bytes.{sizeOf}
-use Rattle.image.specs.Sound.{FormSound}
-use Rattle.image.specs.inner.Placed.{Sound}
+use Rattle.image.proofs.RecordLaws.{form-same, form-sound, judged-same, judged-sound}
+use Rattle.image.specs.Format.{judgedSize, sides}
+use Rattle.image.specs.Sound.{FormSound, SizeSound}
 use Rattle.image.specs.declared.format.Form.{Form}
 use Rattle.image.specs.declared.record.Frame.{Frame}
-use Rattle.derived.specs.inner.Sound.{CanvasSound, GridSound}
-use Rattle.session.specs.declared.state.Canvas.{Canvas}
+use Rattle.image.specs.inner.Placed.{Sound}
+use Rattle.planes.specs.Bytes.{sizeOf}
 use Rattle.derived.specs.declared.grid.GridDescriptor.{GridDescriptor}
+use Rattle.derived.specs.inner.Sound.{GridSound}
 use Rattle.grid.proofs.Composed.{canvas-alpha-is, canvas-chroma, canvas-depth, mono-same, promotes-colour, tile-chroma}
 use Rattle.grid.proofs.GridLaws.{canvas-sound}
-use Rattle.grid.specs.inner.Rows.{Suits}
-use Rattle.grid.specs.Tiles.{canvasForm, coversOf, promotesOf, sameLayout}
-use Rattle.session.specs.State.{acceptOf, bareOk, formOk, gridOk, hasTile, sidesOk, stateOk, tiledOk}
+use Rattle.grid.specs.Tiles.{canvasForm, spansCanvas, promotesOf, sameLayout}
+use Rattle.grid.specs.inner.Rows.{FitsCanvas}
+use Rattle.session.specs.State.{acceptOf, bareOk, formOk, gridOk, hasTile, stateOk, tiledOk}
+use Rattle.session.specs.declared.state.Canvas.{Canvas}
 
-sides-sound : (w h : ℕ) → sidesOk w h ≡ true → CanvasSound w h
-unfolding sidesOk
+sides-sound : (w h : ℕ) → isDone (judgedSize w h) ≡ true → SizeSound (sides w h)
 sides-sound w h e =
-    let a = and-true _ _ e in
-    let b = and-true _ _ (a .1) in
-    record { wide = leb-true _ _ (a .0); tall = leb-true _ _ (b .0); area = leb-true _ _ (b .1) }
+    let z = yes-done _ e in
+    subst SizeSound (judged-same w h (z .0) (z .1)) (judged-sound w h (z .0) (z .1))
 
 pub grid-sound : (g : GridDescriptor) → gridOk g ≡ true → GridSound g
 unfolding gridOk
@@ -39,25 +39,19 @@ grid-sound g e =
     let c = and-true _ _ (b .1) in
     let d = and-true _ _ (c .1) in
     record {
-      someRows = leb-true _ _ (a .0);
-      fewRows = leb-true _ _ (b .0);
-      someColumns = leb-true _ _ (c .0);
-      fewColumns = leb-true _ _ (d .0);
+      positiveRows = leb-true _ _ (a .0);
+      boundedRows = leb-true _ _ (b .0);
+      positiveColumns = leb-true _ _ (c .0);
+      boundedColumns = leb-true _ _ (d .0);
       canvas = sides-sound _ _ (d .1);
     }
 
 pub count-small : (g : GridDescriptor) → GridSound g → g .rows * g .columns ≤ 65536
-count-small g ok = omega (arith, mul-below 256 256 (g .rows) (g .columns) (ok .fewRows) (ok .fewColumns))
+count-small g ok = omega (arith, mul-below 256 256 (g .rows) (g .columns) (ok .boundedRows) (ok .boundedColumns))
 
-pub form-sound : (m : Form) → formOk m ≡ true → FormSound m
+pub form-ok-sound : (m : Form) → formOk m ≡ true → FormSound m
 unfolding formOk
-form-sound m e =
-    let a = and-true _ _ e in
-    let b = and-true _ _ (a .1) in
-    let c = and-true _ _ (b .1) in
-    let d = and-true _ _ (c .1) in
-    let s = sides-sound _ _ (d .1) in
-    record { chroma = leb-true _ _ (a .0); low = leb-true _ _ (b .0); high = leb-true _ _ (c .0); alpha = leb-true _ _ (d .0); wide = s .wide; tall = s .tall; area = s .area }
+form-ok-sound m e = let k = yes-done _ e in subst FormSound (form-same m (k .0) (k .1)) (form-sound _ _ _ _ _ (k .0) (k .1))
 
 pub state-parts : (s : Canvas) → stateOk s ≡ true → (gridOk (s .desc) ≡ true) × (pick (hasTile s) (tiledOk s) (bareOk s) ≡ true)
 unfolding stateOk
@@ -76,10 +70,10 @@ tiled-held : (s : Canvas) → tiledOk s ≡ true → TileHeld s
 unfolding tiledOk
 tiled-held s k =
     let a = and-true (formOk (s .tile)) _ k in
-    let b = and-true (coversOf (s .desc) (s .tile)) _ (a .1) in
+    let b = and-true (spansCanvas (s .desc) (s .tile)) _ (a .1) in
     let c = and-true (leb (s .alpha) 1) _ (b .1) in
     let d = and-true (leb (s .tile .format .alpha) (s .alpha)) _ (c .1) in
-    record { tile = form-sound (s .tile) (a .0); alpha = leb-true _ _ (c .0); least = leb-true _ _ (d .0) }
+    record { tile = form-ok-sound (s .tile) (a .0); alpha = leb-true _ _ (c .0); least = leb-true _ _ (d .0) }
 
 pub state-tile : (s : Canvas) → stateOk s ≡ true → hasTile s ≡ true → TileHeld s
 state-tile s e h = tiled-held s (sym (pick-true (hasTile s) (tiledOk s) (bareOk s) h) ∙ state-parts s e .1)
@@ -111,7 +105,7 @@ accept-done s m t ok sound e =
     rw (← q) (record { tile = sound; chroma = refl; depth = refl }))
 
 -- it suits the canvas with the alpha plane reserved
-pub place-suits : (g : GridDescriptor) (t : Form) (s : List ℕ) (fr : Frame) (n : ℕ) → GridSound g → Sound s fr → Accepted (fr .form) t → sizeOf (canvasForm g t 1) ≤ n → Suits s fr (canvasForm g t 1) (promotesOf g t) n
+pub place-suits : (g : GridDescriptor) (t : Form) (s : List ℕ) (fr : Frame) (n : ℕ) → GridSound g → Sound s fr → Accepted (fr .form) t → sizeOf (canvasForm g t 1) ≤ n → FitsCanvas s fr (canvasForm g t 1) (promotesOf g t) n
 place-suits g t s fr n ok sound a room =
     record {
       sound = sound;

@@ -7,24 +7,25 @@ use lib.Dec.{eqb}
 use lib.ListN.{length, take}
 use Rattle.laws.specs.Out.{Out, andThen, done, refused}
 use Rattle.laws.specs.Pick.{pick}
-use Rattle.image.specs.Bytes.{Bytes, decode, headBytes}
+use Rattle.laws.specs.Puts.{Bytes}
+use Rattle.planes.specs.Bytes.{decode, headBytes}
 use Rattle.image.specs.Format.{columnsOf, hasAlpha, hasPart, rowsOf}
-use Rattle.image.specs.Picture.{Pic}
+use Rattle.planes.specs.Picture.{Pic}
 use Rattle.image.specs.Record.{recordOf}
 use Rattle.image.specs.declared.format.Form.{Form}
 use Rattle.image.specs.declared.format.Part.{Part}
 use Rattle.image.specs.declared.record.Frame.{Frame}
 use Rattle.derived.specs.declared.grid.GridDescriptor.{GridDescriptor}
 use Rattle.grid.specs.Cell.{tileForm, tilePic}
-use Rattle.grid.specs.Mosaic.{laid, plainAt, tileIndex}
-use Rattle.grid.specs.Run.{noFrame}
+use Rattle.paste.specs.Stored.{headed}
+use Rattle.grid.specs.Mosaic.{plainAt, tileIndex}
+use Rattle.image.specs.Tray.{noFrame, noForm}
 use Rattle.grid.specs.Tiles.{canvasForm, promotesOf}
 use Rattle.session.specs.declared.state.Canvas.{Canvas}
-use Rattle.session.specs.Session.{Drawn, blankOf, blankPic, finishOf, placeOf, reservedForm, sessionOf}
-use Rattle.session.specs.State.{noForm}
+use Rattle.session.specs.Session.{CanvasAfter, blankOf, blankPic, finishOf, placeOf, reservedForm, sessionOf}
 
 -- cells placed in turn, each with its record; the last is the head of the list
-unfoldable pub placeAll : (ℕ → List ℕ) → List ℕ → Canvas → List ℕ → Out Drawn
+unfoldable pub placeAll : (ℕ → List ℕ) → List ℕ → Canvas → List ℕ → Out CanvasAfter
 placeAll records [] s d = done (record { canvas = s; buffer = d })
 placeAll records (j ∷ js) s d = andThen (placeAll records js s d) (λ e. placeOf (e .canvas) j (records j) (e .buffer))
 
@@ -42,17 +43,17 @@ pub data Call : Type 0 where
   place : ℕ → List ℕ → Call
   blank : ℕ → Call
 
-unfoldable pub callOf : Call → Drawn → Out Drawn
+unfoldable pub callOf : Call → CanvasAfter → Out CanvasAfter
 callOf (place i bytes) e = placeOf (e .canvas) i bytes (e .buffer)
 callOf (blank i) e = blankOf (e .canvas) i (e .buffer)
 
 -- calls that are accepted in turn; the last is the head of the list
-unfoldable pub callAll : List Call → Drawn → Out Drawn
+unfoldable pub callAll : List Call → CanvasAfter → Out CanvasAfter
 callAll [] e = done e
 callAll (c ∷ cs) e = andThen (callAll cs e) (callOf c)
 
 -- start, and such calls over one buffer
-unfoldable pub callsRun : List ℕ → List Call → List ℕ → Out Drawn
+unfoldable pub callsRun : List ℕ → List Call → List ℕ → Out CanvasAfter
 callsRun body cs d = andThen (sessionOf body) (λ s. callAll cs (record { canvas = s; buffer = d }))
 
 -- a state that start and such calls come to, over some buffer
@@ -113,4 +114,4 @@ leftPic g t cs = record { form = reservedForm g t; at = leftAt g t cs }
 
 -- the canvas's tight record with its alpha number, and the reserved alpha plane
 unfoldable pub leftBytes : GridDescriptor → Form → List Call → List ℕ
-leftBytes g t cs = laid (headBytes (canvasForm g t (alphaNumber cs))) (leftPic g t cs)
+leftBytes g t cs = headed (headBytes (canvasForm g t (alphaNumber cs))) (leftPic g t cs)

@@ -9,9 +9,9 @@ use Rattle.laws.specs.Pick.{pick}
 use Rattle.laws.specs.Puts.{puts}
 use Rattle.laws.specs.declared.Answer.{Answer}
 use Rattle.laws.specs.declared.Answer.the-variants.{Refused, Wrote}
-use Rattle.image.specs.Bytes.{decode, headBytes, sizeOf}
+use Rattle.planes.specs.Bytes.{decode, headBytes, sizeOf}
 use Rattle.image.specs.Format.{hasAlpha, middleOf, topOf}
-use Rattle.image.specs.Picture.{Pic}
+use Rattle.planes.specs.Picture.{Pic}
 use Rattle.image.specs.Record.{recordOf}
 use Rattle.image.specs.declared.format.Form.{Form}
 use Rattle.image.specs.declared.format.Part.{Part}
@@ -31,7 +31,7 @@ use Rattle.session.specs.declared.canvas.Called.{Called}
 -- ---- what a call comes to
 
 -- the state and the buffer after a call that draws
-pub record Drawn : Type 0 where
+pub record CanvasAfter : Type 0 where
   pub canvas : Canvas
   pub buffer : List ℕ
 
@@ -40,10 +40,10 @@ unfoldable pub calledOf : Canvas → Out Canvas → Called
 calledOf s (refused r) = record { canvas = s; answer = Refused r }
 calledOf s (done t) = record { canvas = t; answer = Wrote 0 }
 
-unfoldable pub drawnCall : Canvas → Out Drawn → Called
+unfoldable pub drawnCall : Canvas → Out CanvasAfter → Called
 drawnCall s o = calledOf s (andThen o (λ d. done (d .canvas)))
 
-unfoldable pub drawnBuffer : List ℕ → Out Drawn → List ℕ
+unfoldable pub drawnBuffer : List ℕ → Out CanvasAfter → List ℕ
 drawnBuffer d (refused r) = d
 drawnBuffer d (done e) = e .buffer
 
@@ -84,13 +84,13 @@ markedOn s i t a = record { desc = s .desc; tile = t; alpha = a; marks = markOf 
 -- ---- place: 5 a state that no call can have made; 11 index outside; record; 12, 13, 14; 17 below record and reserved plane
 
 -- the state and the buffer after a tile of a record, beside the first tile's form
-unfoldable pub placedAs : Canvas → ℕ → List ℕ → List ℕ → Frame → Form → Drawn
+unfoldable pub placedAs : Canvas → ℕ → List ℕ → List ℕ → Frame → Form → CanvasAfter
 placedAs s i bytes d fr t = record {
   canvas = markedOn s i t (pick (hasAlpha (fr .form .format)) 1 (s .alpha));
   buffer = drawnOn (s .desc) t i (fr .form) (decode bytes fr) (begun (not (hasTile s)) (reservedForm (s .desc) t) d);
 }
 
-unfoldable pub placeOf : Canvas → ℕ → List ℕ → List ℕ → Out Drawn
+unfoldable pub placeOf : Canvas → ℕ → List ℕ → List ℕ → Out CanvasAfter
 placeOf s i bytes d =
     refuse (not (stateOk s)) 5
     (refuse (leb (countOf (s .desc)) i) 11
@@ -110,13 +110,13 @@ blankAt f Alpha = topOf f
 unfoldable pub blankPic : Form → Pic
 blankPic t = record { form = t; at = λ p x y. blankAt (t .format) p }
 
-unfoldable pub blankedAs : Canvas → ℕ → List ℕ → Drawn
+unfoldable pub blankedAs : Canvas → ℕ → List ℕ → CanvasAfter
 blankedAs s i d = record {
   canvas = markedOn s i (s .tile) (s .alpha);
   buffer = drawnOn (s .desc) (s .tile) i (s .tile) (blankPic (s .tile)) d;
 }
 
-unfoldable pub blankOf : Canvas → ℕ → List ℕ → Out Drawn
+unfoldable pub blankOf : Canvas → ℕ → List ℕ → Out CanvasAfter
 blankOf s i d =
     refuse (not (stateOk s)) 5
     (refuse (not (hasTile s)) 15

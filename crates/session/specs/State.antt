@@ -1,21 +1,20 @@
 -- A canvas's state: which states calls can have made, and how a tile's form is held to the first's ("Canvas session"; "Refusals in
 -- order", Place).
 use mathlib.Core.Bool.{Bool, _&&_, not}
-use Prim.Native.Nat.{_*_, _-_, _/_, _^_, ℕ}
+use Prim.Native.Nat.{_-_, _/_}
 use lib.Dec.{eqb, leb}
-use Rattle.laws.specs.Out.{Out, done, refuse, refused}
+use Rattle.laws.specs.Out.{Out, done, isDone, refuse, refused}
 use Rattle.laws.specs.Pick.{pick}
+use Rattle.image.specs.Format.{formOf, hasSize, judgedSize}
+use Rattle.image.specs.Tray.{noForm}
 use Rattle.image.specs.declared.format.Form.{Form}
-use Rattle.session.specs.declared.state.Canvas.{Canvas}
 use Rattle.derived.specs.declared.grid.GridDescriptor.{GridDescriptor}
-use Rattle.grid.specs.Tiles.{countOf, coversOf, sameLayout, sameSize}
+use Rattle.grid.specs.Tiles.{countOf, spansCanvas, sameLayout}
 use Rattle.session.specs.Marks.{anyWord, clearFrom, noMarks}
+use Rattle.session.specs.declared.state.Canvas.{Canvas}
 use Rattle.session.specs.declared.state.TileRead.{TileRead}
 
 -- ---- the state that start makes
-
-unfoldable pub noForm : Form
-noForm = record { width = 0; height = 0; format = record { chroma = 0; depth = 0; alpha = 0 } }
 
 unfoldable pub openOf : GridDescriptor → Canvas
 openOf g = record { desc = g; tile = noForm; alpha = 0; marks = noMarks }
@@ -26,19 +25,15 @@ noCanvas = openOf (record { rows = 0; columns = 0; «output_width» = 0; «outpu
 
 -- ---- the states that calls can have made
 
-unfoldable pub sidesOk : ℕ → ℕ → Bool
-sidesOk width height = leb 1 width && (leb 1 height && leb (width * height) (2 ^ 30))
-
 -- a descriptor that a body can have
 unfoldable pub gridOk : GridDescriptor → Bool
 gridOk g =
-    leb 1 (g .rows) && (leb (g .rows) 256 && (leb 1 (g .columns) && (leb (g .columns) 256 && sidesOk (g .«output_width») (g .«output_height»))))
+    leb 1 (g .rows) && (leb (g .rows) 256
+    && (leb 1 (g .columns) && (leb (g .columns) 256 && isDone (judgedSize (g .«output_width») (g .«output_height»)))))
 
 -- a form that a record can have
 unfoldable pub formOk : Form → Bool
-formOk m =
-    leb (m .format .chroma) 3
-    && (leb 8 (m .format .depth) && (leb (m .format .depth) 16 && (leb (m .format .alpha) 1 && sidesOk (m .width) (m .height))))
+formOk m = isDone (formOf (m .width) (m .height) (m .format .chroma) (m .format .depth) (m .format .alpha))
 
 unfoldable pub hasTile : Canvas → Bool
 hasTile s = not (eqb (s .tile .width) 0)
@@ -55,7 +50,7 @@ bareOk s =
 unfoldable pub tiledOk : Canvas → Bool
 tiledOk s =
     formOk (s .tile)
-    && (coversOf (s .desc) (s .tile)
+    && (spansCanvas (s .desc) (s .tile)
     && (leb (s .alpha) 1
     && (leb (s .tile .format .alpha) (s .alpha)
     && (clearFrom (s .marks) (countOf (s .desc)) (countOf (s .desc) / 64) (1024 - countOf (s .desc) / 64) && anyWord (s .marks) 0 1024))))
@@ -69,8 +64,8 @@ stateOk s = gridOk (s .desc) && pick (hasTile s) (tiledOk s) (bareOk s)
 unfoldable pub acceptOf : Canvas → Form → Out Form
 acceptOf s m =
     pick (hasTile s)
-    (refuse (not (sameSize (s .tile) m)) 13 (refuse (not (sameLayout (s .tile) m)) 14 (done (s .tile))))
-    (refuse (not (coversOf (s .desc) m)) 12 (done m))
+    (refuse (not (hasSize m (s .tile .width) (s .tile .height))) 13 (refuse (not (sameLayout (s .tile) m)) 14 (done (s .tile))))
+    (refuse (not (spansCanvas (s .desc) m)) 12 (done m))
 
 -- what holding it answers
 abbrev pub tileOut : TileRead → Out Form

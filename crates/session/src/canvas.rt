@@ -62,10 +62,10 @@ impl Canvas {
         if !all_marked(&self.marks, g.rows * g.columns) {
             return Answer::Refused(Refusal::MISSING);
         }
-        if room < image::record_size(grid::canvas_form(g, t, 1)) {
+        if room < planes::record_size(grid::canvas_form(g, t, 1)) {
             return Answer::Refused(Refusal::ROOM);
         }
-        Answer::Wrote(image::record_size(grid::canvas_form(g, t, self.alpha)))
+        Answer::Wrote(planes::record_size(grid::canvas_form(g, t, self.alpha)))
     }
 
     // A tile's record in its cell. Refusals: 5; 11 index outside; the record's; 12, 13, 14; 17.
@@ -89,7 +89,7 @@ impl Canvas {
                     TileRead::Refused(e) => refused(self, e),
                     TileRead::Read(t) => {
                         let form = grid::canvas_form(g, t, 1);
-                        if buffer.len() < image::record_size(form) {
+                        if buffer.len() < planes::record_size(form) {
                             return refused(self, Refusal::ROOM);
                         }
                         let promoted = grid::promotes(g, t);
@@ -97,7 +97,7 @@ impl Canvas {
                         tell_alpha(buffer, form, m);
                         grid::draw_tile(
                             buffer,
-                            form,
+                            planes::tight(form),
                             record,
                             fr,
                             promoted,
@@ -133,12 +133,12 @@ impl Canvas {
             return refused(self, Refusal::COUNT);
         }
         let form = grid::canvas_form(g, t, 1);
-        if buffer.len() < image::record_size(form) {
+        if buffer.len() < planes::record_size(form) {
             return refused(self, Refusal::ROOM);
         }
         let promoted = grid::promotes(g, t);
         tell_alpha(buffer, form, t);
-        draw_blank(buffer, form, t, promoted, index % columns, index / columns);
+        draw_blank(buffer, planes::tight(form), t, promoted, index % columns, index / columns);
         let canvas = self.drawn(index, t, self.alpha);
         Called {
             canvas,

@@ -2,13 +2,19 @@
 ghost use mathlib.Core.Path.{_≡_};
 ghost use mathlib.Core.Bool.{true};
 ghost use Prim.Native.Nat.{_<_};
+ghost use Rattle.laws.specs.Out.{isDone};
+ghost use Rattle.image.specs.Format.{judgedSize};
+ghost use Rattle.image.specs.Tray.{noForm};
 ghost use Rattle.session.specs.Marks.{markOf};
-ghost use Rattle.session.specs.State.{sidesOk, gridOk, formOk, openOf, noCanvas, bareOk, tiledOk, stateOk, hasTile, tileOut, acceptOf};
+ghost use Rattle.session.specs.State.{gridOk, formOk, openOf, noCanvas, bareOk, tiledOk, stateOk, hasTile, tileOut, acceptOf};
 use crate::marks::any_marked;
 use crate::marks::none_beyond;
 use derived::GridDescriptor;
 use image::Form;
+use image::FormRead;
 use image::PixelFormat;
+use image::Size;
+use image::SizeAnswer;
 use laws::Refusal;
 
 // The grid, the first tile's form (all 0 before a tile), 1 if a tile had alpha, and a mark for each cell, one bit a cell.
@@ -25,18 +31,16 @@ pub(crate) enum TileRead {
     Refused(Refusal),
 }
 
-fn sides_ok(width: u32, height: u32) -> bool
-    ensures { λ r. ⌜ r ≡ sidesOk width height ⌝ }
+fn size_ok(width: u32, height: u32) -> bool
+    ensures { λ r. ⌜ r ≡ isDone (judgedSize width height) ⌝ }
 {
-    if width < 1 {
-        return false;
+    match Size::judge(width, height) {
+        SizeAnswer::Size(_) => true,
+        SizeAnswer::Refused(_) => false,
     }
-    if height < 1 {
-        return false;
-    }
-    width as u64 * height as u64 <= PixelFormat::PIXEL_LIMIT
 }
 
+// A descriptor that a body can have.
 fn grid_ok(g: GridDescriptor) -> bool
     ensures { λ r. ⌜ r ≡ gridOk g ⌝ }
 {
@@ -52,30 +56,22 @@ fn grid_ok(g: GridDescriptor) -> bool
     if g.columns > 256 {
         return false;
     }
-    sides_ok(g.output_width, g.output_height)
+    size_ok(g.output_width, g.output_height)
 }
 
+// A form that a record can have.
 fn form_ok(m: Form) -> bool
     ensures { λ r. ⌜ r ≡ formOk m ⌝ }
 {
     let f = m.format;
-    if f.chroma > 3 {
-        return false;
+    match Form::judge(m.width, m.height, f.chroma, f.depth, f.alpha) {
+        FormRead::Form(_) => true,
+        FormRead::Refused(_) => false,
     }
-    if f.depth < 8 {
-        return false;
-    }
-    if f.depth > 16 {
-        return false;
-    }
-    if f.alpha > 1 {
-        return false;
-    }
-    sides_ok(m.width, m.height)
 }
 
-fn blank_form() -> Form
-    ensures { λ r. ⌜ r ≡ noCanvas .tile ⌝ }
+fn no_form() -> Form
+    ensures { λ r. ⌜ r ≡ noForm ⌝ }
 {
     Form {
         width: 0,
@@ -93,7 +89,7 @@ impl Canvas {
     pub(crate) fn open(desc: GridDescriptor) -> Canvas
         ensures { λ r. ⌜ r ≡ openOf desc ⌝ }
     {
-        let tile = blank_form();
+        let tile = no_form();
         Canvas {
             desc,
             tile,
@@ -149,7 +145,7 @@ impl Canvas {
         if !form_ok(t) {
             return false;
         }
-        if !grid::covers(g, t) {
+        if !grid::spans_canvas(g, t) {
             return false;
         }
         if self.alpha > 1 {
@@ -191,7 +187,7 @@ impl Canvas {
     {
         let t = self.tile;
         if self.has_tile() {
-            if !grid::same_size(t, m) {
+            if !m.has_size(t.width, t.height) {
                 return TileRead::Refused(Refusal::TILE);
             }
             if !grid::same_layout(t, m) {
@@ -199,7 +195,7 @@ impl Canvas {
             }
             return TileRead::Read(t);
         }
-        if !grid::covers(self.desc, m) {
+        if !grid::spans_canvas(self.desc, m) {
             return TileRead::Refused(Refusal::COVER);
         }
         TileRead::Read(m)

@@ -9,9 +9,9 @@ use Rattle.laws.proofs.Out.{Same, alike, both, then-both, then-refused}
 use Rattle.laws.specs.Out.{Out, andThen, done, reason, refused}
 use Rattle.laws.specs.Pick.{pick}
 use Rattle.laws.specs.declared.Refusal.{Refusal}
-use Rattle.image.specs.Format.{columnsOf, cover, halfX, halfY, rowsOf, sideOf}
-use Rattle.image.specs.Picture.{Pic, odd, pixel}
-use Rattle.image.specs.inner.Even.{Even}
+use Rattle.image.specs.Format.{columnsOf, cover, halfX, halfY, rowsOf, sideOf, odd, Covers}
+use Rattle.planes.specs.Picture.{Pic, pixel}
+use Rattle.planes.specs.inner.Even.{Even}
 use Rattle.image.specs.declared.format.Form.{Form}
 use Rattle.image.specs.declared.format.Part.{Part}
 use Rattle.props.proofs.ApertureLaws.{resolve-holds}
@@ -31,10 +31,9 @@ use Rattle.sight.proofs.Quarters.{mirror-below}
 use Rattle.sight.proofs.Steps.{place-across, place-down, place-in}
 use Rattle.sight.proofs.Stops.{sight-not-18}
 use Rattle.sight.proofs.Turns.{back-in, back-once, crop-back, crop-height, crop-inside, crop-width, mirror-back, mirror-height, mirror-width, turn-back, turn-height, turn-width, unmirror-in, unturn-in}
-use Rattle.sight.specs.Chain.{NotIscl, chainPic, picAfter}
-use Rattle.sight.specs.Seen.{Covers}
+use Rattle.transform.specs.Chain.{NotIscl, chainPic, picAfter}
 use Rattle.sight.specs.inner.Seen.{PlaceAgrees, Seen}
-use Rattle.sight.specs.Sight.{back, backFrom, exchange, finalHeight, finalWidth, highOf, placeOf, sightAfter, sightOf, thenCrop, thenMirror, thenTurn, whole, wideOf}
+use Rattle.sight.specs.Sight.{back, backFrom, exchange, finalHeight, finalWidth, highOf, sourcePlace, sightAfter, sightOf, thenCrop, thenMirror, thenTurn, whole, wideOf}
 use Rattle.sight.specs.declared.Sight.{Sight}
 
 -- ---- one step after the other, by any map that is the composite at each place
@@ -216,7 +215,7 @@ covers-some m p cx cy l k =
     (u .0, v .0, u .1, v .1, record { across = u .2; down = v .2 })
 
 -- what is answered at a final place of what a sight shows
-pub seen-place : (P Q : Pic) (s : Sight) → Seen P Q s → (x y : ℕ) → PlaceAgrees P Q x y (placeOf s x y)
+pub seen-place : (P Q : Pic) (s : Sight) → Seen P Q s → (x y : ℕ) → PlaceAgrees P Q x y (sourcePlace s x y)
 unfolding PlaceAgrees
 seen-place P Q s v x y =
     by-order x (finalWidth s)
@@ -228,8 +227,8 @@ seen-place P Q s v x y =
     agrees-as : {o u : Out Place} → o ≡ u → PlaceAgrees P Q x y o → PlaceAgrees P Q x y u
     agrees-as e k = rw (← e) k
 
-    found : (back s x y .x < P .form .width) × (back s x y .y < P .form .height) → x < Q .form .width → y < Q .form .height → placeOf s x y ≡ done (back s x y) → PlaceAgrees P Q x y (placeOf s x y)
+    found : (back s x y .x < P .form .width) × (back s x y .y < P .form .height) → x < Q .form .width → y < Q .form .height → sourcePlace s x y ≡ done (back s x y) → PlaceAgrees P Q x y (sourcePlace s x y)
     found i l m e = agrees-as (sym e) (record { across = l; down = m; column = i .0; row = i .1; samples = λ p o cx cy k. v .samples p o cx cy x y l m k })
 
-    outside : (x < Q .form .width → y < Q .form .height → ⊥) → refused (reason 18) ≡ placeOf s x y → PlaceAgrees P Q x y (placeOf s x y)
+    outside : (x < Q .form .width → y < Q .form .height → ⊥) → refused (reason 18) ≡ sourcePlace s x y → PlaceAgrees P Q x y (sourcePlace s x y)
     outside f e = agrees-as e (refl, f)

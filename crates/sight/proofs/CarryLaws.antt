@@ -10,7 +10,7 @@ use Rattle.laws.proofs.Order.{and-true, apart, by-test, pick-false, pick-true, 
 use Rattle.laws.proofs.Out.{Same, alike, both, holds-done, same-left, then-both}
 use Rattle.laws.specs.Out.{done}
 use Rattle.laws.specs.Pick.{pick}
-use Rattle.image.specs.Picture.{odd}
+use Rattle.image.specs.Format.{odd}
 use Rattle.props.proofs.ApertureLaws.{resolve-holds}
 use Rattle.props.proofs.ChainLaws.{Applied, fold-same}
 use Rattle.props.specs.Sound.{Inside}

@@ -8,7 +8,7 @@ use borrow.Author.Tests.{le-leb, lt-leb}
 use Rattle.laws.proofs.Out.{Holds, holds-done, pick-holds, refuse-no, refuse-yes, then-holds}
 use Rattle.laws.specs.Out.{Out, done, reason, refused}
 use Rattle.laws.specs.Pick.{pick}
-use Rattle.image.specs.Picture.{odd}
+use Rattle.image.specs.Format.{odd}
 use Rattle.props.proofs.ApertureLaws.{resolve-holds, resolve-inside}
 use Rattle.props.proofs.ChainLaws.{fold-holds}
 use Rattle.props.specs.Aperture.{resolveOf}
@@ -23,7 +23,7 @@ use Rattle.transform.specs.Place.{Place, sideways, swaps, unturn}
 use Rattle.transform.specs.Turn.{Quarter, quarterOf}
 use Rattle.sight.proofs.Quarters.{by-quarter, mirror-below, quarter-3}
 use Rattle.sight.proofs.Turns.{crop-inside, exchange-inside, exchange-row, place-path, unturn-in, unturn-inside}
-use Rattle.sight.specs.Sight.{back, backFrom, boundedPlaceOf, cropFrom, exchange, exchangeRect, finalHeight, finalWidth, highOf, mirrorTurns, placeOf, sightAfter, sightOf, thenCrop, thenMirror, thenTurn, unturnRect, whole, wideOf, within}
+use Rattle.sight.specs.Sight.{back, backFrom, boundedSource, cropFrom, exchange, exchangeRect, finalHeight, finalWidth, highOf, mirrorTurns, sourcePlace, sightAfter, sightOf, thenCrop, thenMirror, thenTurn, unturnRect, whole, wideOf, within}
 use Rattle.sight.specs.inner.Bounded.{Bounded, Lies}
 use Rattle.sight.specs.declared.CanvasPlace.{CanvasPlace}
 use Rattle.sight.specs.declared.Sight.{Sight}
@@ -128,20 +128,20 @@ clap-inside s c w h r p q e = resolve-inside c _ _ r (clap-at s c w h (done r) p
 
 -- ---- a place
 
-pub place-across : (s : Sight) (x y w : ℕ) → w ≡ finalWidth s → w ≤ x → refused (reason 18) ≡ placeOf s x y
-unfolding placeOf
+pub place-across : (s : Sight) (x y w : ℕ) → w ≡ finalWidth s → w ≤ x → refused (reason 18) ≡ sourcePlace s x y
+unfolding sourcePlace
 place-across s x y w e h = sym (refuse-yes _ _ (le-leb (finalWidth s) x (omega arith)))
 
-pub place-down : (s : Sight) (x y w h : ℕ) → w ≡ finalWidth s → x < w → h ≡ finalHeight s → h ≤ y → refused (reason 18) ≡ placeOf s x y
-unfolding placeOf
+pub place-down : (s : Sight) (x y w h : ℕ) → w ≡ finalWidth s → x < w → h ≡ finalHeight s → h ≤ y → refused (reason 18) ≡ sourcePlace s x y
+unfolding sourcePlace
 place-down s x y w h e i f j = sym (refuse-no _ _ (lt-leb (finalWidth s) x (omega arith)) ∙ refuse-yes _ _ (le-leb (finalHeight s) y (omega arith)))
 
-pub place-in : (s : Sight) (x y : ℕ) → x < finalWidth s → y < finalHeight s → placeOf s x y ≡ done (back s x y)
-unfolding placeOf
+pub place-in : (s : Sight) (x y : ℕ) → x < finalWidth s → y < finalHeight s → sourcePlace s x y ≡ done (back s x y)
+unfolding sourcePlace
 place-in s x y i j = refuse-no _ _ (lt-leb (finalWidth s) x i) ∙ refuse-no _ _ (lt-leb (finalHeight s) y j)
 
 pub place-found : (s : Sight) (x y k : ℕ) (r : CanvasPlace) → x < finalWidth s → y < finalHeight s → Lies r (unturn (quarterOf (s .turns)) (s .area .width) (s .area .height) x y)
-    → k ≡ pick (s .exchanged) (s .area .width - r .x - 1) (r .x) → _≡_ {A = Out Place} (done (record { x = s .area .x + k; y = s .area .y + r .y })) (placeOf s x y)
+    → k ≡ pick (s .exchanged) (s .area .width - r .x - 1) (r .x) → _≡_ {A = Out Place} (done (record { x = s .area .x + k; y = s .area .y + r .y })) (sourcePlace s x y)
 unfolding back backFrom
 place-found s x y k r i j l e =
     let u = unturn (quarterOf (s .turns)) (s .area .width) (s .area .height) x y in
@@ -150,16 +150,16 @@ place-found s x y k r i j l e =
     ap done (place-path (ap (λ (n : ℕ). s .area .x + n) p) (ap (λ (n : ℕ). s .area .y + n) q)) ∙ sym (place-in s x y i j)
 
 -- 18 a far edge that is no 32-bit number
-pub far-across : (s : Sight) (x y : ℕ) → 2 ^ 32 ≤ s .area .x + s .area .width → refused (reason 18) ≡ boundedPlaceOf s x y
-unfolding boundedPlaceOf
+pub far-across : (s : Sight) (x y : ℕ) → 2 ^ 32 ≤ s .area .x + s .area .width → refused (reason 18) ≡ boundedSource s x y
+unfolding boundedSource
 far-across s x y h = sym (refuse-yes _ _ (le-leb (2 ^ 32) _ h))
 
-pub far-down : (s : Sight) (x y : ℕ) → s .area .x + s .area .width < 2 ^ 32 → 2 ^ 32 ≤ s .area .y + s .area .height → refused (reason 18) ≡ boundedPlaceOf s x y
-unfolding boundedPlaceOf
+pub far-down : (s : Sight) (x y : ℕ) → s .area .x + s .area .width < 2 ^ 32 → 2 ^ 32 ≤ s .area .y + s .area .height → refused (reason 18) ≡ boundedSource s x y
+unfolding boundedSource
 far-down s x y h i = sym (refuse-no _ _ (lt-leb (2 ^ 32) _ h) ∙ refuse-yes _ _ (le-leb (2 ^ 32) _ i))
 
-pub bounded-place : (s : Sight) (x y : ℕ) → Bounded (s .area) → boundedPlaceOf s x y ≡ placeOf s x y
-unfolding boundedPlaceOf
+pub bounded-place : (s : Sight) (x y : ℕ) → Bounded (s .area) → boundedSource s x y ≡ sourcePlace s x y
+unfolding boundedSource
 bounded-place s x y b = refuse-no _ _ (lt-leb (2 ^ 32) _ (b .across)) ∙ refuse-no _ _ (lt-leb (2 ^ 32) _ (b .down))
 
 -- ---- a sight's numbers stay 32-bit, and its rectangle inside

@@ -6,7 +6,7 @@ use Prim.Native.Nat.{_+_, _-_, _<_, ℕ}
 use lib.Dec.{leb, ltb}
 use Rattle.laws.specs.Out.{Out, andThen, done, reason, refused}
 use Rattle.laws.specs.Pick.{pick}
-use Rattle.image.specs.Picture.{odd}
+use Rattle.image.specs.Format.{odd}
 use Rattle.props.specs.Aperture.{resolveOf}
 use Rattle.props.specs.Chain.{foldChain}
 use Rattle.props.specs.Sound.{Inside}

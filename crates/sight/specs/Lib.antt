@@ -1,5 +1,3 @@
 pub mod Sight
-pub mod Chain
-pub mod Seen
 pub mod Carry
 pub mod inner

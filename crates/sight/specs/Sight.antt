@@ -5,7 +5,7 @@ use mathlib.Core.List.{List}
 use Prim.Native.Nat.{_%_, _+_, _-_, _^_, ℕ}
 use lib.Dec.{leb}
 use Rattle.laws.specs.Out.{Out, andThen, done, reason, refuse, refused}
-use Rattle.image.specs.Picture.{odd}
+use Rattle.image.specs.Format.{odd}
 use Rattle.props.specs.Aperture.{resolveOf}
 use Rattle.props.specs.Chain.{foldChain}
 use Rattle.props.specs.declared.clap.CropRect.{CropRect}
@@ -51,15 +51,15 @@ unfoldable pub back : Sight → ℕ → ℕ → Place
 back s x y = backFrom (s .area) (s .exchanged) (quarterOf (s .turns)) x y
 
 -- the same, refused 18 for a place outside
-unfoldable pub placeOf : Sight → ℕ → ℕ → Out Place
-placeOf s x y = refuse (leb (finalWidth s) x) 18 (refuse (leb (finalHeight s) y) 18 (done (back s x y)))
+unfoldable pub sourcePlace : Sight → ℕ → ℕ → Out Place
+sourcePlace s x y = refuse (leb (finalWidth s) x) 18 (refuse (leb (finalHeight s) y) 18 (done (back s x y)))
 
 -- the same for any numbers: before it, 18 a far edge of the rectangle that is no 32-bit number, which no chain leaves
-unfoldable pub boundedPlaceOf : Sight → ℕ → ℕ → Out Place
-boundedPlaceOf s x y =
+unfoldable pub boundedSource : Sight → ℕ → ℕ → Out Place
+boundedSource s x y =
     refuse (leb (2 ^ 32) (s .area .x + s .area .width)) 18
     (refuse (leb (2 ^ 32) (s .area .y + s .area .height)) 18
-    (placeOf s x y))
+    (sourcePlace s x y))
 
 -- ---- what an entry makes of a sight
 

@@ -8,7 +8,7 @@ ghost use Rattle.props.specs.inner.Judged.{Judged};
 ghost use Rattle.props.specs.Sound.{Inside};
 ghost use Rattle.transform.specs.Place.{unturn};
 ghost use Rattle.transform.specs.Turn.{quarterOf};
-ghost use Rattle.sight.specs.Sight.{whole, finalWidth, finalHeight, unturnRect, thenCrop, thenTurn, thenMirror, sightAfter, sightOf, placeOf, boundedPlaceOf, sightOut, placeOut};
+ghost use Rattle.sight.specs.Sight.{whole, finalWidth, finalHeight, unturnRect, thenCrop, thenTurn, thenMirror, sightAfter, sightOf, sourcePlace, boundedSource, sightOut, placeOut};
 ghost use Rattle.sight.specs.inner.Bounded.{Bounded, Lies};
 use laws::Refusal;
 use props::Chain;
@@ -243,7 +243,7 @@ impl Sight {
     // The same in the picture, of a rectangle whose far edges are 32-bit numbers. Refusal: 18 a place outside.
     fn bounded_place(self, column: u32, row: u32) -> PlaceRead
         requires { ⌜ Bounded (self .area) ⌝ }
-        ensures { λ r. ⌜ placeOut r ≡ placeOf self column row ⌝ }
+        ensures { λ r. ⌜ placeOut r ≡ sourcePlace self column row ⌝ }
     {
         if self.width() <= column {
             return PlaceRead::Refused(Refusal::POINT);
@@ -263,7 +263,7 @@ impl Sight {
     // The place of the picture that a final place shows. Refusals: 18 a far edge that is no 32-bit number, which no chain leaves; 18 a
     // place outside.
     pub fn place(self, column: u32, row: u32) -> PlaceRead
-        ensures { λ r. ⌜ placeOut r ≡ boundedPlaceOf self column row ⌝ }
+        ensures { λ r. ⌜ placeOut r ≡ boundedSource self column row ⌝ }
     {
         let area = self.area;
         if area.x as u64 + area.width as u64 > 4294967295 {

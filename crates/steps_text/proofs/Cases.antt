@@ -6,10 +6,10 @@ use Rattle.laws.specs.Out.{andThen, refuse}
 use Rattle.laws.specs.Pick.{pick}
 use Rattle.numbers.specs.Decimal.{decimal, digitsOnto}
 use Rattle.numbers.specs.Number.{lastByte, onNumber, readFrom, readNumber}
-use Rattle.image.specs.Picture.{odd}
+use Rattle.image.specs.Format.{odd, judgedSize}
 use Rattle.props.specs.Chain.{chainAt, countAt, entriesAt}
 use Rattle.props.specs.Entry.{byteAt, entryAt, imirAt, irotAt, kindOf, propertyAt}
-use Rattle.props.specs.Size.{judgedSize, sizeAfter, swapped}
+use Rattle.props.specs.Size.{sizeAfter, swapped}
 use Rattle.steps_text.specs.Input.{stepsOf}
 use Rattle.steps_text.specs.Text.{fieldText, heading, lineText, lineThen, linesFrom, outText, textOf}
 

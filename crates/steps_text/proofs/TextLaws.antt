@@ -5,7 +5,7 @@ use Prim.Native.Nat.{_*_, _+_, _-_, _<_, _≤_, ℕ}
 use native.Mathlib.Omega.{arith}
 use lib.ListN.{length, length-append, set, take}
 use Rattle.laws.proofs.Order.{apart, by-order}
-use Rattle.laws.proofs.Out.{andThen-done, done-answers, done-same, fitted-room, fitted-short, not-done, then-done, then-refused}
+use Rattle.laws.proofs.Out.{andThen-done, done-answers, done-same, fitted-room, fitted-short, not-done}
 use Rattle.laws.proofs.Puts.{puts-append}
 use Rattle.laws.specs.Ascii.{ascii, characterBytes}
 use Rattle.laws.specs.Out.{Out, andThen, answerOf, done, fitted, reason, refused, written}
@@ -18,20 +18,19 @@ use Rattle.numbers.specs.Decimal.{decimal}
 use Rattle.numbers.specs.Number.{onNumber, readNumber}
 use Rattle.numbers.specs.declared.NumberRead.{NumberRead}
 use Rattle.numbers.specs.declared.NumberRead.the-variants.{Number}
-use Rattle.props.proofs.ChainLaws.{chain-few, entries-first, entries-none, entries-step, judged-chain, judged-refused, refused-as}
+use Rattle.image.specs.Format.{judgedSize, sizeOut}
+use Rattle.image.specs.declared.size.Size.{Size}
+use Rattle.props.proofs.ChainLaws.{chain-few, entries-first, entries-none, entries-step}
 use Rattle.props.proofs.Prefix.{chain-prefix, number-prefix}
 use Rattle.props.specs.Chain.{chainAt, entriesAt}
-use Rattle.props.specs.inner.Judged.{Judged, judgedAt}
 use Rattle.props.specs.Entry.{kindOf}
-use Rattle.props.specs.Size.{judgedSize, sizeAfter, sizeOut}
-use Rattle.props.specs.declared.chain.Chain.{Chain}
+use Rattle.props.specs.Size.{sizeAfter}
 use Rattle.props.specs.declared.entry.PropertyEntry.{PropertyEntry}
-use Rattle.props.specs.declared.size.Size.{Size}
-use Rattle.steps_text.specs.Input.{Steps, inputOf, stepsOf}
-use Rattle.steps_text.specs.inner.Step.{Readable, StepAt}
+use Rattle.steps_text.specs.Input.{Steps, stepsOf}
 use Rattle.steps_text.specs.Text.{fieldText, heading, lineText, lineThen, linesFrom, outText, refusalText, refusedLine, refusedWord, textOf}
 use Rattle.steps_text.specs.declared.input.Input.{Input}
-use Rattle.steps_text.specs.declared.text.Stepped.{Stepped}
+use Rattle.steps_text.specs.declared.text.EntryStep.{EntryStep}
+use Rattle.steps_text.specs.inner.Step.{Readable, StepAt, Taken}
 
 -- a number and a byte after it, as they are stored
 pub field-stored : (d d′ : List ℕ) (at n after end : ℕ) → end ≡ at + length (decimal n) → d′ ≡ puts d at (decimal n)
@@ -84,7 +83,7 @@ length-refused i kind e =
 -- ---- the lines, entry by entry
 
 -- the next entry has a size after it, or is refused; or there is none
-pub lines-next : (n : ℕ) (s : List ℕ) (at : ℕ) (es : List PropertyEntry) (i : ℕ) (z : Size) (r : Stepped) (y : Size) → 0 < n → entriesAt n s at ≡ done es → StepAt s at z r → sizeOut (r .after) ≡ done y
+pub lines-next : (n : ℕ) (s : List ℕ) (at : ℕ) (es : List PropertyEntry) (i : ℕ) (z : Size) (r : EntryStep) (y : Size) → 0 < n → entriesAt n s at ≡ done es → StepAt s at z r → sizeOut (r .after) ≡ done y
     → (rest : List PropertyEntry) × (entriesAt (n - 1) s (r .next) ≡ done rest) × (linesFrom i es z ≡ lineText i (r .kind) y ++ linesFrom (i + 1) rest y)
 unfolding linesFrom lineThen
 lines-next n s at es i z r y h e t q =
@@ -97,7 +96,7 @@ lines-next n s at es i z r y h e t q =
           ∙ ap (λ m. lineText i m y ++ linesFrom (i + 1) (k .0) y) (sym (t .kind)),
     )
 
-pub lines-refused : (n : ℕ) (s : List ℕ) (at : ℕ) (es : List PropertyEntry) (i : ℕ) (z : Size) (r : Stepped) (x : Refusal) → 0 < n → entriesAt n s at ≡ done es → StepAt s at z r → sizeOut (r .after) ≡ refused x
+pub lines-refused : (n : ℕ) (s : List ℕ) (at : ℕ) (es : List PropertyEntry) (i : ℕ) (z : Size) (r : EntryStep) (x : Refusal) → 0 < n → entriesAt n s at ≡ done es → StepAt s at z r → sizeOut (r .after) ≡ refused x
     → linesFrom i es z ≡ refusedLine i (r .kind) x
 unfolding linesFrom lineThen
 lines-refused n s at es i z r x h e t q =
@@ -126,42 +125,20 @@ unfolding onNumber
 on-number-done (Number v n) k a e = (v, n, refl, e)
 on-number-done NumberRead.Malformed k a e = not-done (reason 5) a e
 
-on-number-refused : {A B : Type 0} (o : NumberRead) (f : ℕ → ℕ → Out A) (g : ℕ → ℕ → Out B) (r : Refusal) → ((v n : ℕ) → f v n ≡ refused r → g v n ≡ refused r) → onNumber o f ≡ refused r → onNumber o g ≡ refused r
-unfolding onNumber
-on-number-refused (Number v n) f g r k e = k v n e
-on-number-refused NumberRead.Malformed f g r k e = refused-as (reason 5) r e
+-- the two sides are read, and the chain decides
+pub steps-sides : (s : List ℕ) (w a h b : ℕ) → readNumber s 0 ≡ Number w a → readNumber s a ≡ Number h b
+    → stepsOf s ≡ andThen (chainAt s b) (λ es. andThen (judgedSize w h) (λ z. done (record { size = z; entries = es })))
+unfolding stepsOf onNumber
+steps-sides s w a h b p q = rw (p, q) refl
 
-input-as : (s : List ℕ) (i j : Input) → i ≡ j → (k : Judged s (i .chain)) × (textOf s ≡ heading ++ linesFrom 0 (k .entries) (i .size)) → (k : Judged s (j .chain)) × (textOf s ≡ heading ++ linesFrom 0 (k .entries) (j .size))
-input-as s i j p k = rw p at k
+-- an input that was read, and one that is refused
+pub text-read : (s : List ℕ) (i : Input) (k : Taken s i) → textOf s ≡ heading ++ linesFrom 0 (k .chain .entries) (i .size)
+unfolding textOf outText
+text-read s i k = ap outText (k .steps)
 
--- an input that was judged
-pub text-read : (s : List ℕ) (i : Input) → inputOf s ≡ done i → (k : Judged s (i .chain)) × (textOf s ≡ heading ++ linesFrom 0 (k .entries) (i .size))
-unfolding inputOf textOf outText stepsOf
-text-read s i e =
-    let a = on-number-done _ _ i e in
-    let b = on-number-done _ _ i (a .3) in
-    let c = andThen-done _ _ i (b .3) in
-    let d = andThen-done _ _ i (c .2) in
-    let k = judged-chain s (b .1) (c .0) (c .1) in
-    input-as s _ i (done-same _ i (d .2))
-    (k .0, ap outText (on-number _ _ _ _ (a .2) ∙ on-number _ _ _ _ (b .2) ∙ then-done _ (k .1) ∙ then-done _ (d .1)))
-
-sides-refused : {A B : Type 0} (o : Out Size) (f : Size → A) (g : Size → B) (r : Refusal) → andThen o (λ z. done (f z)) ≡ refused r → andThen o (λ z. done (g z)) ≡ refused r
-unfolding andThen
-sides-refused (refused q) f g r e = refused-as q r e
-sides-refused (done z) f g r e = not-done r (f z) (sym e)
-
--- the chain or the sides are refused
-chain-refused : (s : List ℕ) (at w h : ℕ) (r : Refusal) (o : Out Chain) → judgedAt s at ≡ o → andThen {B = Input} o (λ c. andThen (judgedSize w h) (λ z. done (record { size = z; chain = c }))) ≡ refused r
-    → andThen {B = Steps} (chainAt s at) (λ es. andThen (judgedSize w h) (λ z. done (record { size = z; entries = es }))) ≡ refused r
-chain-refused s at w h r (refused q) k e = then-refused _ (judged-refused s at q k) ∙ refused-as q r (sym (then-refused _ refl) ∙ e)
-chain-refused s at w h r (done c) k e = then-done _ (judged-chain s at c k .1) ∙ sides-refused (judgedSize w h) _ _ r (sym (then-done _ refl) ∙ e)
-
--- an input that is refused
-pub text-refused : (s : List ℕ) (r : Refusal) → inputOf s ≡ refused r → textOf s ≡ refusalText r
-unfolding inputOf textOf outText stepsOf
-text-refused s r e =
-    ap outText (on-number-refused (readNumber s 0) _ _ r (λ w a f. on-number-refused (readNumber s a) _ _ r (λ h b g. chain-refused s b w h r (judgedAt s b) refl g) f) e)
+pub text-refused : (s : List ℕ) (r : Refusal) → stepsOf s ≡ refused r → textOf s ≡ refusalText r
+unfolding textOf outText
+text-refused s r e = ap outText e
 
 -- ---- how long it can be
 

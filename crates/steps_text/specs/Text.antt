@@ -9,7 +9,7 @@ use Rattle.numbers.specs.Decimal.{decimal}
 use Rattle.props.specs.Entry.{kindOf}
 use Rattle.props.specs.Size.{sizeAfter}
 use Rattle.props.specs.declared.entry.PropertyEntry.{PropertyEntry}
-use Rattle.props.specs.declared.size.Size.{Size}
+use Rattle.image.specs.declared.size.Size.{Size}
 use Rattle.steps_text.specs.Input.{Steps, stepsOf}
 
 unfoldable pub heading : List ℕ

@@ -1,12 +1,11 @@
 // What is handed to `steps`: a picture's width and height, and a chain.
-ghost use mathlib.Core.Path.{_≡_};
-ghost use Rattle.steps_text.specs.Input.{inputOf, inputOut};
+ghost use Rattle.steps_text.specs.inner.Step.{ReadAs};
+use image::Size;
+use image::SizeAnswer;
 use laws::Refusal;
 use numbers::NumberRead;
 use props::Chain;
 use props::ChainRead;
-use props::Size;
-use props::SizeAnswer;
 
 pub(crate) struct Input {
     pub size: Size,
@@ -20,7 +19,7 @@ pub(crate) enum InputRead {
 
 // The chain is judged whole before the sides are.
 pub(crate) fn read_input(s: &[u8]) -> InputRead
-    ensures { λ r. ⌜ inputOut r ≡ inputOf (now (s .entry)) ⌝ }
+    ensures { λ r. ⌜ ReadAs (now (s .entry)) r ⌝ }
 {
     let NumberRead::Number {
         value: width,

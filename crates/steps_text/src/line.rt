@@ -4,8 +4,8 @@ ghost use Prim.Native.Nat.{_+_, _≤_};
 ghost use lib.ListN.{length};
 ghost use Rattle.laws.specs.Puts.{puts};
 ghost use Rattle.steps_text.specs.Text.{fieldText, lineText, refusalText, refusedLine};
+use image::Size;
 use laws::Refusal;
-use props::Size;
 
 // A number in decimal and a byte after it.
 fn put_field(out: &mut [u8], at: usize, n: u32, after: u8) -> usize
@@ -33,7 +33,7 @@ pub(crate) fn put_refusal(out: &mut [u8], at: usize, e: Refusal) -> usize
     requires { ⌜ at + length (refusalText e) ≤ length (now out) ⌝ }
     ensures { λ r. ⌜ (r ≡ at + length (refusalText e)) × (now (out .exit) ≡ puts (now (out .entry)) at (refusalText e)) ⌝ }
 {
-    let a = image::copy_row(out, at, b"refused ");
+    let a = planes::copy_row(out, at, b"refused ");
     put_field(out, a, e.number as u32, 10)
 }
 

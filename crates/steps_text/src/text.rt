@@ -2,10 +2,9 @@
 ghost use mathlib.Core.Path.{_≡_};
 ghost use Prim.Native.Nat.{_≤_};
 ghost use lib.ListN.{length};
-ghost use Rattle.laws.specs.Out.{done, answerOf, written, fitted};
+ghost use Rattle.laws.specs.Out.{answerOf, written, fitted};
 ghost use Rattle.laws.specs.Puts.{puts};
-ghost use Rattle.steps_text.specs.Input.{inputOf};
-ghost use Rattle.steps_text.specs.inner.Step.{Readable, StepAt};
+ghost use Rattle.steps_text.specs.inner.Step.{Readable, StepAt, Taken};
 ghost use Rattle.steps_text.specs.Text.{textOf};
 use crate::input::Input;
 use crate::input::InputRead;
@@ -16,26 +15,26 @@ use crate::line::put_refusal;
 use crate::line::put_refused_line;
 use crate::line::refusal_length;
 use crate::line::refused_line_length;
+use image::Size;
+use image::SizeAnswer;
 use laws::Answer;
 use laws::Refusal;
 use props::EntryRead;
-use props::Size;
-use props::SizeAnswer;
 
 // An entry that was applied: its kind, the size after it, and the place past it.
-struct Stepped {
+struct EntryStep {
     kind: u32,
     after: SizeAnswer,
     next: usize,
 }
 
 // The entry at a place, applied to a size.
-fn step(s: &[u8], at: usize, size: Size) -> Stepped
+fn step(s: &[u8], at: usize, size: Size) -> EntryStep
     requires { ⌜ Readable (now s) at ⌝ }
     ensures { λ r. ⌜ StepAt (now (s .entry)) at size r ⌝ }
 {
     let EntryRead::Read(x) = props::read_entry(s, at) else {
-        return Stepped {
+        return EntryStep {
             kind: 0,
             after: SizeAnswer::Size(size),
             next: at,
@@ -43,7 +42,7 @@ fn step(s: &[u8], at: usize, size: Size) -> Stepped
     };
     let entry = x.entry;
     let property = entry.property;
-    Stepped {
+    EntryStep {
         kind: property.kind(),
         after: property.size_after(size),
         next: x.next,
@@ -52,7 +51,7 @@ fn step(s: &[u8], at: usize, size: Size) -> Stepped
 
 // How long the text of an input is.
 fn text_length(s: &[u8], input: Input) -> usize
-    requires { ⌜ inputOf (now s) ≡ done input ⌝ }
+    requires { ⌜ Taken (now s) input ⌝ }
     ensures { λ r. ⌜ r ≡ length (textOf (now (s .entry))) ⌝ }
 {
     let chain = input.chain;
@@ -81,14 +80,14 @@ fn text_length(s: &[u8], input: Input) -> usize
 
 // Writes the text of an input from the start on, and returns its length.
 fn write_text(s: &[u8], input: Input, out: &mut [u8]) -> usize
-    requires { ⌜ (inputOf (now s) ≡ done input) × (length (textOf (now s)) ≤ length (now out)) ⌝ }
+    requires { ⌜ Taken (now s) input × (length (textOf (now s)) ≤ length (now out)) ⌝ }
     ensures { λ r. ⌜ (r ≡ length (textOf (now (s .entry)))) × (now (out .exit) ≡ puts (now (out .entry)) 0 (textOf (now (s .entry)))) ⌝ }
 {
     let chain = input.chain;
     let count = chain.count;
     let mut at = chain.first;
     let mut size = input.size;
-    let mut end = image::copy_row(out, 0, b"step kind width height\n");
+    let mut end = planes::copy_row(out, 0, b"step kind width height\n");
     let mut index: u32 = 0;
     while index < count {
         let made = step(s, at, size);

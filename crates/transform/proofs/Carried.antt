@@ -7,9 +7,9 @@ use native.Mathlib.Omega.{arith}
 use borrow.Author.Tests.{eq-eqb, ne-eqb}
 use Rattle.laws.proofs.Order.{by-equal}
 use Rattle.laws.specs.Pick.{pick}
-use Rattle.image.proofs.RoundTrip.{Tame, agree-self, agree-sym, agree-tame, agree-trans}
+use Rattle.planes.proofs.RoundTrip.{InRange, agree-self, agree-sym, agree-in-range, agree-trans}
 use Rattle.image.specs.Format.{cover, halfX, halfY, hasPart}
-use Rattle.image.specs.Picture.{Agree, Pic, full, pixel, promote}
+use Rattle.planes.specs.Picture.{Agree, Pic, full, pixel, promote}
 use Rattle.image.specs.Sound.{FormSound}
 use Rattle.image.specs.declared.format.Form.{Form}
 use Rattle.image.specs.declared.format.Part.{Part}
@@ -45,9 +45,9 @@ module _ (P : Pic) (v : Move) (p : Part) (has : hasPart (P .form .format) p ≡ 
       go true = rw ((full-sides (P .form) p) .0, (full-sides (P .form) p) .1, has)
       go false = refl
 
-pub moved-tame : (P : Pic) (v : Move) → MoveFits (P .form) v → Tame P → Tame (moved v P)
+pub moved-in-range : (P : Pic) (v : Move) → MoveFits (P .form) v → InRange P → InRange (moved v P)
 unfolding moved
-moved-tame P v fits k =
+moved-in-range P v fits k =
     record {
       sound = fits .sound;
       small = λ p h x y i j.
@@ -77,8 +77,8 @@ pub record Draws (move : Form → Move) (made : Pic → Pic) (P : Pic) : Type 0 
   pub fits : MoveFits (P .form) (move (P .form))
   pub drawn : Agree (moved (move (P .form)) P) (made P)
 
-pub draws-tame : (move : Form → Move) (made : Pic → Pic) (P : Pic) → Draws move made P → Tame P → Tame (made P)
-draws-tame move made P d k = agree-tame _ _ (d .drawn) (moved-tame P _ (d .fits) k)
+pub draws-in-range : (move : Form → Move) (made : Pic → Pic) (P : Pic) → Draws move made P → InRange P → InRange (made P)
+draws-in-range move made P d k = agree-in-range _ _ (d .drawn) (moved-in-range P _ (d .fits) k)
 
 pub draws-form : (move : Form → Move) (made : Pic → Pic) (P : Pic) → Draws move made P → made P .form ≡ move (P .form) .form
 unfolding moved
@@ -111,11 +111,11 @@ turn-none : (P : Pic) → turn P q0 ≡ P
 unfolding turn
 turn-none P = refl
 
-pub turn-tame : (P : Pic) (q : Quarter) → Tame P → Tame (turn P q)
-turn-tame P q0 k = rw (turn-none P) k
-turn-tame P q1 k = draws-tame _ _ P (left-made P (k .sound)) k
-turn-tame P q2 k = draws-tame _ _ P (half-made P (k .sound)) k
-turn-tame P q3 k = draws-tame _ _ P (right-made P (k .sound)) k
+pub turn-in-range : (P : Pic) (q : Quarter) → InRange P → InRange (turn P q)
+turn-in-range P q0 k = rw (turn-none P) k
+turn-in-range P q1 k = draws-in-range _ _ P (left-made P (k .sound)) k
+turn-in-range P q2 k = draws-in-range _ _ P (half-made P (k .sound)) k
+turn-in-range P q3 k = draws-in-range _ _ P (right-made P (k .sound)) k
 
 pub turn-form : (P : Pic) (q : Quarter) → FormSound (P .form) → turn P q .form ≡ turnForm (P .form) q
 unfolding turnForm

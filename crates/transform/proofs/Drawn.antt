@@ -7,11 +7,11 @@ use Rattle.laws.proofs.Span.{span-cong}
 use Rattle.laws.specs.Pick.{pick}
 use Rattle.image.proofs.FormLaws.{bytes-few}
 use Rattle.image.proofs.RecordLaws.{sample-inside}
-use Rattle.image.proofs.RoundTrip.{plane-some}
-use Rattle.image.specs.Bytes.{dataOf, decode, planeBytes, planeHead, rowBytes, rowsBytes, sampleBytes, sampleIn, samplesOf}
-use Rattle.image.specs.Format.{bytesOf, columnsOf, cover, halfX, halfY, halved, halvesX, halvesY, hasPart, rowsOf}
-use Rattle.image.specs.Picture.{Pic, as444, full, pixel, promote}
-use Rattle.image.specs.Record.{planeOf}
+use Rattle.planes.proofs.RoundTrip.{plane-some}
+use Rattle.image.specs.Record.{dataOf, planeOf}
+use Rattle.planes.specs.Bytes.{decode, planeBytes, planeHead, rowBytes, rowsBytes, sampleBytes, sampleIn, samplesOf}
+use Rattle.image.specs.Format.{bytesOf, columnsOf, cover, halfX, halfY, halved, halvesX, halvesY, hasPart, rowsOf, as444}
+use Rattle.planes.specs.Picture.{Pic, full, pixel, promote}
 use Rattle.image.specs.inner.Placed.{Sound}
 use Rattle.image.specs.declared.format.Form.{Form}
 use Rattle.image.specs.declared.format.Part.{Part}
@@ -63,8 +63,8 @@ module _ (s : List ℕ) (fr : Frame) (v : Move) (p : Part) (has : hasPart (fr .f
       let few = bytes-few f in
       let q = k .planes p has in
       record {
-        some = few .0;
-        few = few .1;
+        positive = few .0;
+        bounded = few .1;
         row = q .small;
         across = ok .across p has;
         down = ok .down p has;

@@ -4,9 +4,9 @@ use mathlib.Core.Path.{_≡_, ap, ap₂, refl}
 use Prim.Native.Nat.{_+_, _-_, _≤_, ℕ}
 use native.Mathlib.Omega.{arith}
 use Rattle.laws.specs.Pick.{pick}
-use Rattle.image.proofs.PictureLaws.{last-axis}
-use Rattle.image.specs.Format.{columnsOf, cover, halfX, halfY, rowsOf}
-use Rattle.image.specs.Picture.{Agree, Pic, as444, ensure, needs444, odd, promote, sized}
+use Rattle.planes.proofs.PictureLaws.{last-axis}
+use Rattle.image.specs.Format.{columnsOf, cover, halfX, halfY, rowsOf, as444, needs444, odd, sized}
+use Rattle.planes.specs.Picture.{Agree, Pic, ensure, promote}
 use Rattle.image.specs.declared.format.Part.{Part}
 use Rattle.props.specs.declared.clap.CropRect.{CropRect}
 use Rattle.transform.specs.inner.Move.{alongFrom, cropMove, cropWith, endAxis, formWith, halfMove, halfWith, mirrorMove, moved, quarterMove, quarterWith}

@@ -9,10 +9,9 @@ use borrow.Author.Tests.{eqb-true}
 use Rattle.laws.proofs.Order.{apart, by-test, mul-below, or-left, pick-true}
 use Rattle.laws.specs.Pick.{pick}
 use Rattle.image.proofs.FormLaws.{height-le, side-le, width-le}
-use Rattle.image.proofs.PictureLaws.{evenly-if, evenly-part, needs-X, needs-Y, needs-colour, odd-false, parts-444}
-use Rattle.image.specs.Format.{bytesOf, columnsOf, cover, halfX, halfY, halved, halvesX, halvesY, hasPart, isMono, rowsOf, sideOf}
-use Rattle.image.specs.Picture.{as444, needs444, sized}
-use Rattle.image.specs.inner.Even.{Evenly}
+use Rattle.planes.proofs.PictureLaws.{evenly-if, evenly-part, needs-X, needs-Y, needs-colour, odd-false, parts-444}
+use Rattle.image.specs.Format.{bytesOf, columnsOf, cover, halfX, halfY, halved, halvesX, halvesY, hasPart, isMono, rowsOf, sideOf, as444, needs444, sized}
+use Rattle.planes.specs.inner.Even.{Evenly}
 use Rattle.image.specs.Sound.{FormSound}
 use Rattle.image.specs.declared.format.Form.{Form}
 use Rattle.image.specs.declared.format.Part.{Part}
@@ -20,7 +19,7 @@ use Rattle.image.specs.declared.format.Part.the-variants.{Alpha, Cb, Cr, Luma}
 use Rattle.image.specs.declared.format.PixelFormat.{PixelFormat}
 use Rattle.props.specs.Sound.{Inside}
 use Rattle.props.specs.declared.clap.CropRect.{CropRect}
-use Rattle.transform.specs.inner.Move.{AxisFits, MoveFits, alongFrom, cropMove, cropWith, endAxis, formWith, halfMove, halfWith, mirrorMove, planeAxis, quarterMove, quarterWith, walkOf, walkX, walkY}
+use Rattle.transform.specs.inner.Move.{StepsFit, MoveFits, alongFrom, cropMove, cropWith, endAxis, formWith, halfMove, halfWith, mirrorMove, planeAxis, quarterMove, quarterWith, walkOf, walkX, walkY}
 use Rattle.transform.specs.Turn.{lopsided}
 use Rattle.transform.specs.declared.moves.Axis.{Axis}
 use Rattle.transform.specs.declared.moves.Move.{Move}
@@ -28,22 +27,22 @@ use Rattle.transform.specs.declared.moves.Move.{Move}
 -- ---- along one axis: t promoted, h halved; len places of the new picture are sideOf (pick t false h) len samples
 
 pub record AxisMoves (t h : Bool) (a : Axis) (count n : ℕ) : Type 0 where
-  pub fits : AxisFits (planeAxis t h a) count
+  pub fits : StepsFit (planeAxis t h a) count
   pub inside : (k : ℕ) → k < count → cover (t && h) (alongFrom (planeAxis t h a .back) (planeAxis t h a .from) k) < sideOf h n
 
 pub forward-moves : (t h : Bool) (a len n : ℕ) → n ≤ 2 ^ 30 → (t ≡ false → Evenly h a) → a + len ≤ n → AxisMoves t h (record { from = a; back = false }) (sideOf (pick t false h) len) n
 unfolding planeAxis pick cover sideOf alongFrom Evenly
-forward-moves true true a len n s e l = record { fits = record { small = omega arith; few = omega arith; behind = λ k q b. apart (cc) }; inside = λ k q. omega arith }
-forward-moves true false a len n s e l = record { fits = record { small = omega arith; few = omega arith; behind = λ k q b. apart (cc) }; inside = λ k q. omega arith }
-forward-moves false true a len n s e l = let z = e refl in record { fits = record { small = omega arith; few = omega arith; behind = λ k q b. apart (cc) }; inside = λ k q. omega arith }
-forward-moves false false a len n s e l = record { fits = record { small = omega arith; few = omega arith; behind = λ k q b. apart (cc) }; inside = λ k q. omega arith }
+forward-moves true true a len n s e l = record { fits = record { small = omega arith; bounded = omega arith; behind = λ k q b. apart (cc) }; inside = λ k q. omega arith }
+forward-moves true false a len n s e l = record { fits = record { small = omega arith; bounded = omega arith; behind = λ k q b. apart (cc) }; inside = λ k q. omega arith }
+forward-moves false true a len n s e l = let z = e refl in record { fits = record { small = omega arith; bounded = omega arith; behind = λ k q b. apart (cc) }; inside = λ k q. omega arith }
+forward-moves false false a len n s e l = record { fits = record { small = omega arith; bounded = omega arith; behind = λ k q b. apart (cc) }; inside = λ k q. omega arith }
 
 pub back-moves : (t h : Bool) (n : ℕ) → n ≤ 2 ^ 30 → 1 ≤ n → AxisMoves t h (record { from = n - 1; back = true }) (sideOf (pick t false h) n) n
 unfolding planeAxis pick cover sideOf alongFrom
-back-moves true true n s l = record { fits = record { small = omega arith; few = omega arith; behind = λ k q b. omega arith }; inside = λ k q. omega arith }
-back-moves true false n s l = record { fits = record { small = omega arith; few = omega arith; behind = λ k q b. omega arith }; inside = λ k q. omega arith }
-back-moves false true n s l = record { fits = record { small = omega arith; few = omega arith; behind = λ k q b. omega arith }; inside = λ k q. omega arith }
-back-moves false false n s l = record { fits = record { small = omega arith; few = omega arith; behind = λ k q b. omega arith }; inside = λ k q. omega arith }
+back-moves true true n s l = record { fits = record { small = omega arith; bounded = omega arith; behind = λ k q b. omega arith }; inside = λ k q. omega arith }
+back-moves true false n s l = record { fits = record { small = omega arith; bounded = omega arith; behind = λ k q b. omega arith }; inside = λ k q. omega arith }
+back-moves false true n s l = record { fits = record { small = omega arith; bounded = omega arith; behind = λ k q b. omega arith }; inside = λ k q. omega arith }
+back-moves false false n s l = record { fits = record { small = omega arith; bounded = omega arith; behind = λ k q b. omega arith }; inside = λ k q. omega arith }
 
 -- either way from one end of the axis to the other
 pub end-moves : (t h back : Bool) (n : ℕ) → n ≤ 2 ^ 30 → 1 ≤ n → AxisMoves t h (endAxis back n) (sideOf (pick t false h) n) n
@@ -59,7 +58,7 @@ end-few false h back n s l = end-moves false h back n s l
 end-few true h back n s l =
     let e = end-moves true h back n s l in
     record {
-      fits = record { small = e .fits .small; few = lt-of-le-of-lt (side-le h n) (e .fits .few); behind = λ k q b. e .fits .behind k (lt-of-lt-of-le q (side-le h n)) b };
+      fits = record { small = e .fits .small; bounded = lt-of-le-of-lt (side-le h n) (e .fits .bounded); behind = λ k q b. e .fits .behind k (lt-of-lt-of-le q (side-le h n)) b };
       inside = λ k q. e .inside k (lt-of-lt-of-le q (side-le h n));
     }
 

@@ -10,9 +10,9 @@ use Rattle.laws.proofs.Out.{refuse-no, refuse-yes, then-done, then-refused}
 use Rattle.laws.specs.Out.{done, fitted, reason, refused}
 use Rattle.laws.specs.declared.Refusal.{Refusal}
 use Rattle.image.proofs.RecordLaws.{whole-sound}
-use Rattle.image.proofs.RoundTrip.{drawn-as}
-use Rattle.image.specs.Bytes.{decode, encode}
-use Rattle.image.specs.Picture.{odd}
+use Rattle.planes.proofs.RoundTrip.{drawn-as}
+use Rattle.planes.specs.Bytes.{decode, encode}
+use Rattle.image.specs.Format.{odd}
 use Rattle.image.specs.Record.{recordOf}
 use Rattle.image.specs.Sound.{FormSound}
 use Rattle.image.specs.declared.format.Form.{Form}

@@ -3,10 +3,10 @@ use mathlib.Core.Bool.{Bool, _||_, false, true}
 use mathlib.Core.Path.{_∙_, _≡_, ap, ap₂, refl}
 use Prim.Native.Nat.{_%_, _+_, _<_, ℕ}
 use Rattle.laws.proofs.Order.{apart, or-left, or-right}
-use Rattle.image.proofs.PictureLaws.{Alike, cut-axis, ensure-alike, ensure-case, ensure-evenX, ensure-evenY, evenly-part, flip-axis, odd-false}
-use Rattle.image.specs.Format.{columnsOf, cover, halfX, halfY, halvesX, halvesY, hasPart, rowsOf}
-use Rattle.image.specs.Picture.{Pic, as444, ensure, odd, pixel, promote, sized}
-use Rattle.image.specs.inner.Even.{Even, Evenly}
+use Rattle.planes.proofs.PictureLaws.{Alike, cut-axis, ensure-alike, ensure-case, ensure-evenX, ensure-evenY, evenly-part, flip-axis, odd-false}
+use Rattle.image.specs.Format.{columnsOf, cover, halfX, halfY, halvesX, halvesY, hasPart, rowsOf, as444, odd, sized}
+use Rattle.planes.specs.Picture.{Pic, ensure, pixel, promote}
+use Rattle.planes.specs.inner.Even.{Even, Evenly}
 use Rattle.image.specs.declared.format.Part.{Part}
 use Rattle.props.specs.declared.clap.CropRect.{CropRect}
 use Rattle.transform.proofs.Fits.{balanced}

@@ -9,12 +9,12 @@ use lib.ListN.{length}
 use Rattle.laws.proofs.Order.{by-test, pick-false, pick-le, pick-true}
 use Rattle.laws.proofs.Span.{length-span-all, span-cong}
 use Rattle.laws.specs.Pick.{pick}
-use Rattle.image.proofs.ByteLaws.{length-samplesOf}
-use Rattle.image.specs.Bytes.{sampleAt, sampleBytes, sampleIn, samplesOf}
+use Rattle.planes.proofs.ByteLaws.{length-samplesOf}
+use Rattle.planes.specs.Bytes.{sampleAt, sampleBytes, sampleIn, samplesOf}
 use Rattle.image.specs.Format.{cover}
-use Rattle.image.specs.inner.Line.{LineFits, lineBytes, placeOn}
-use Rattle.image.specs.declared.samples.Line.{Line}
-use Rattle.transform.specs.inner.Move.{AxisFits, RowFits, WalkInside, alongFrom, lineOf, rowLine, walkAt, walkBytes, walkX, walkY}
+use Rattle.planes.specs.inner.Line.{LineFits, lineBytes, placeOn}
+use Rattle.planes.specs.declared.samples.Line.{Line}
+use Rattle.transform.specs.inner.Move.{StepsFit, WalkRowFits, WalkInside, alongFrom, lineOf, rowLine, walkAt, walkBytes, walkX, walkY}
 use Rattle.transform.specs.declared.moves.Axis.{Axis}
 use Rattle.transform.specs.declared.moves.Walk.{Walk}
 
@@ -60,29 +60,29 @@ module _ (w : Walk) (bytes stride y : ℕ) where
       ∙ rw (pick-false (w .swapped) k y e, pick-false (w .swapped) y k e))
 
 module _ (d : List ℕ) (bytes stride : ℕ) (w : Walk) (columns rows : ℕ) (ok : WalkInside d bytes stride w columns rows) where
-  pub row-fits : (y : ℕ) → y < rows → RowFits w bytes stride y
+  pub row-fits : (y : ℕ) → y < rows → WalkRowFits w bytes stride y
   row-fits y l =
       record {
-        few = by-test (w .swapped) (λ e. omega (arith, rw (pick-true (w .swapped) rows columns e) at (ok .across .few))) (λ e. omega (arith, rw (pick-false (w .swapped) columns rows e) at (ok .down .few)));
+        bounded = by-test (w .swapped) (λ e. omega (arith, rw (pick-true (w .swapped) rows columns e) at (ok .across .bounded))) (λ e. omega (arith, rw (pick-false (w .swapped) columns rows e) at (ok .down .bounded)));
         acrossSmall = ok .across .small;
         downSmall = ok .down .small;
         across = λ e. ok .across .behind y (rw (pick-true (w .swapped) rows columns e) l);
         down = λ e. ok .down .behind y (rw (pick-false (w .swapped) columns rows e) l);
-        sample = ok .few;
+        sample = ok .bounded;
         row = ok .row;
       }
 
-  axis-fits : (a : Axis) (half : Bool) (origin step n : ℕ) → AxisFits a n → ((k : ℕ) → k < n → placeOn (lineOf a half origin step) k + bytes ≤ length d) → LineFits d bytes (lineOf a half origin step) n
+  axis-fits : (a : Axis) (half : Bool) (origin step n : ℕ) → StepsFit a n → ((k : ℕ) → k < n → placeOn (lineOf a half origin step) k + bytes ≤ length d) → LineFits d bytes (lineOf a half origin step) n
   unfolding lineOf
   axis-fits a half origin step n f i =
       record {
-        some = ok .some;
-        few = ok .few;
+        positive = ok .positive;
+        bounded = ok .bounded;
         forth = pick-le (a .back) 0 1 1 (omega arith) (omega arith);
         back = pick-le (a .back) 1 0 1 (omega arith) (omega arith);
         half = pick-le half 1 0 1 (omega arith) (omega arith);
         from = omega (arith, f .small);
-        count = omega (arith, f .few);
+        count = omega (arith, f .bounded);
         behind = behind;
         inside = i;
       }

@@ -3,8 +3,8 @@ use mathlib.Core.List.{List}
 use Prim.Native.Nat.{_+_, ℕ}
 use lib.Dec.{eqb, ltb}
 use Rattle.laws.specs.Out.{Out, andThen, fitted, refuse}
-use Rattle.image.specs.Bytes.{decode, encode}
-use Rattle.image.specs.Picture.{odd}
+use Rattle.planes.specs.Bytes.{decode, encode}
+use Rattle.image.specs.Format.{odd}
 use Rattle.image.specs.Record.{recordOf}
 use Rattle.image.specs.declared.record.Frame.{Frame}
 use Rattle.props.specs.Aperture.{resolveOf}

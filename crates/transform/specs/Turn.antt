@@ -3,8 +3,8 @@ use mathlib.Core.Bool.{Bool, _||_, false, true}
 use Prim.Native.Nat.{_%_, _+_, _-_, ℕ}
 use lib.Dec.{eqb}
 use Rattle.laws.specs.Pick.{pick}
-use Rattle.image.specs.Format.{columnsOf, cover, halfX, halfY, rowsOf}
-use Rattle.image.specs.Picture.{Pic, ensure, odd, sized}
+use Rattle.image.specs.Format.{columnsOf, cover, halfX, halfY, rowsOf, odd, sized}
+use Rattle.planes.specs.Picture.{Pic, ensure}
 use Rattle.image.specs.declared.format.Part.{Part}
 use Rattle.image.specs.declared.format.PixelFormat.{PixelFormat}
 use Rattle.props.specs.declared.clap.CropRect.{CropRect}

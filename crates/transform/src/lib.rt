@@ -7,7 +7,7 @@ ghost use lib.ListN.{length};
 ghost use Rattle.laws.specs.Out.{answerOf, written, fitted};
 ghost use Rattle.image.specs.Sound.{FormSound};
 ghost use Rattle.image.specs.inner.Placed.{Sound};
-ghost use Rattle.image.specs.Bytes.{decode, encode};
+ghost use Rattle.planes.specs.Bytes.{decode, encode};
 ghost use Rattle.transform.specs.inner.Move.{moved, MoveFits, formWith, endAxis, cropMove, quarterMove, halfMove, mirrorMove, turnForm};
 ghost use Rattle.transform.specs.Turn.{quarterOf};
 ghost use Rattle.transform.specs.Run.{cropRun, clapRun, irotRun, imirRun};
@@ -16,6 +16,7 @@ use crate::moves::Move;
 use image::Form;
 use image::Frame;
 use image::FrameRead;
+use image::PixelFormat;
 use laws::Answer;
 use laws::Refusal;
 use props::Clap;
@@ -78,7 +79,7 @@ fn quarter_move(m: Form, left: bool, up: bool) -> Move
     ensures { λ v. ⌜ v ≡ quarterMove m left up ⌝ }
 {
     let f = m.format;
-    let lopsided = f.chroma == 2;
+    let lopsided = f.chroma == PixelFormat::YUV422;
     let x_odd = image::either(lopsided, image::is_odd(m.width));
     let y_odd = image::either(lopsided, image::is_odd(m.height));
     let promoted = f.needs_444(x_odd, y_odd);
@@ -151,7 +152,7 @@ fn draw(record: &[u8], fr: Frame, v: Move, out: &mut [u8]) -> Answer
         × (now (out .exit) ≡ written (fitted (length (now (out .entry))) (encode (moved v (decode (now («record» .entry)) fr)))) (now (out .entry))) ⌝ }
 {
     let form = v.form;
-    if out.len() < image::record_size(form) {
+    if out.len() < planes::record_size(form) {
         return Answer::Refused(Refusal::ROOM);
     }
     Answer::Wrote(moves::write_moved(out, record, fr, v))
@@ -212,7 +213,7 @@ pub fn apply_irot(record: &[u8], irot: Irot, out: &mut [u8]) -> Answer
             let m = f.form;
             let quarter = irot.angle % 4;
             if quarter == 0 {
-                return image::hand_back(record, out);
+                return planes::hand_back(record, out);
             }
             if quarter == 1 {
                 return draw(record, f, quarter_move(m, true, false), out);

@@ -3,17 +3,16 @@ ghost use mathlib.Core.Path.{_≡_};
 ghost use mathlib.Core.Bool.{true};
 ghost use Prim.Native.Nat.{_+_, _*_, _<_, _≤_, _^_};
 ghost use lib.ListN.{length};
-ghost use Rattle.laws.specs.Pick.{pick};
 ghost use Rattle.laws.specs.Puts.{puts};
 ghost use Rattle.image.specs.Format.{cover};
 ghost use Rattle.image.specs.inner.Placed.{Sound};
-ghost use Rattle.image.specs.Bytes.{decode, planeBytes, encode};
-ghost use Rattle.transform.specs.inner.Move.{alongFrom, moved, walkBytes, walkOf, planeAxis, lineOf, rowLine, RowFits, WalkInside, MoveFits};
+ghost use Rattle.planes.specs.Bytes.{decode, planeBytes, encode};
+ghost use Rattle.transform.specs.inner.Move.{alongFrom, moved, walkBytes, walkOf, planeAxis, lineOf, rowLine, WalkRowFits, WalkInside, MoveFits};
 use image::Form;
 use image::Frame;
-use image::Line;
 use image::Part;
 use image::PixelFormat;
+use planes::Line;
 
 // Along one axis: from a place on, forward or back.
 pub struct Axis {
@@ -48,18 +47,9 @@ fn reach(a: Axis, half: bool, k: usize) -> usize
     let from = a.from;
     let back = a.back;
     if back {
-        return image::covering(half, from - k);
+        return planes::covering(half, from - k);
     }
-    image::covering(half, from + k)
-}
-
-fn shift(half: bool) -> u32
-    ensures { λ r. ⌜ r ≡ pick half 1 0 ⌝ }
-{
-    if half {
-        return 1;
-    }
-    0
+    planes::covering(half, from + k)
 }
 
 // A line along an axis.
@@ -68,7 +58,7 @@ fn axis_line(a: Axis, half: bool, origin: usize, step: usize) -> Line
 {
     let from = a.from;
     let back = a.back;
-    let half = shift(half);
+    let half = planes::shift(half);
     if back {
         return Line {
             origin,
@@ -91,7 +81,7 @@ fn axis_line(a: Axis, half: bool, origin: usize, step: usize) -> Line
 
 // The line that a row of the new plane takes its samples from.
 fn row_line(w: Walk, bytes: usize, stride: usize, y: usize) -> Line
-    requires { ⌜ RowFits w bytes stride y ⌝ }
+    requires { ⌜ WalkRowFits w bytes stride y ⌝ }
     ensures { λ r. ⌜ r ≡ rowLine w bytes stride y ⌝ }
 {
     let across = w.across;
@@ -130,7 +120,7 @@ fn write_rows(
     let mut y: usize = 0;
     while y < rows {
         let l = row_line(w, bytes, stride, y);
-        i = image::write_line(out, i, plane, bytes, l, columns);
+        i = planes::write_line(out, i, plane, bytes, l, columns);
         y += 1;
     }
     i
@@ -143,7 +133,7 @@ fn plane_axis(promoted: bool, half: bool, a: Axis) -> Axis
         return a;
     }
     Axis {
-        from: image::covering(half, a.from),
+        from: planes::covering(half, a.from),
         back: a.back,
     }
 }
@@ -175,14 +165,14 @@ fn write_plane(out: &mut [u8], at: usize, s: &[u8], fr: Frame, v: Move, part: Pa
     let form = v.form;
     let g = form.format;
     if g.has(part) {
-        let first = image::write_plane_head(out, at, form, part);
+        let first = planes::write_plane_head(out, at, form, part);
         let from = fr.form;
         let f = from.format;
         let q = fr.plane(part);
         let w = plane_walk(f, v, part);
         let columns = g.columns(form.width, part);
         let rows = g.rows(form.height, part);
-        let plane = image::plane_data(s, q);
+        let plane = planes::plane_data(s, q);
         return write_rows(
             out,
             first,
@@ -203,7 +193,7 @@ pub fn write_moved(out: &mut [u8], s: &[u8], fr: Frame, v: Move) -> usize
     ensures { λ r. ⌜ (r ≡ length (encode (moved v (decode (now (s .entry)) fr))))
         × (now (out .exit) ≡ puts (now (out .entry)) 0 (encode (moved v (decode (now (s .entry)) fr)))) ⌝ }
 {
-    let a = image::write_head(out, 0, v.form);
+    let a = planes::write_head(out, 0, v.form);
     let b = write_plane(out, a, s, fr, v, Part::Luma);
     let c = write_plane(out, b, s, fr, v, Part::Cb);
     let d = write_plane(out, c, s, fr, v, Part::Cr);

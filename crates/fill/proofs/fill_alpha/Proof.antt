@@ -1,32 +1,38 @@
 use native.Mathlib.Omega.{arith}
 use borrow.Author.Needs.{needs}
 use Rattle.fill.proofs.TopLaws.{product-small}
-use Rattle.fill.specs.Fill.{fillAlphaOf}
 use Rattle.fill.proofs.fill_alpha.Statement.{statement}
+use Rattle.fill.specs.Fill.{fillAlphaOf}
 use Rattle.fill.proofs.fill_alpha.Tie as tie
 use Rattle.fill.proofs.fill_alpha.Reads as reads
 use Rattle.fill.proofs.fill_alpha.Lts as lts
-use Rattle.fill.proofs.samples.top.Reads as top-reads
+use Rattle.image.proofs.format.PixelFormat.top_at.Reads as top-at-reads
 
-top-requires : tie.Need-top-requires
-top-requires c κs = search needs
+-- src/lib.rt:81:15
+top-at-requires : tie.Need-top-at-requires
+top-at-requires c κs = search needs
 
+-- src/lib.rt:81:15
 cast-top : tie.Need-cast-top
 cast-top c = search needs
 
+-- src/lib.rt:82:7
 mul-result : tie.Need-mul-result
-mul-result c = omega (arith, product-small (c .before .args .alpha) (c .top .result) (search needs) (search needs))
+mul-result c = omega (arith, product-small (c .before .args .alpha) (c .top-at .result) (search needs) (search needs))
 
+-- src/lib.rt:82:7
 add-result : tie.Need-add-result
-add-result c = omega (arith, product-small (c .before .args .alpha) (c .top .result) (search needs) (search needs))
+add-result c = omega (arith, product-small (c .before .args .alpha) (c .top-at .result) (search needs) (search needs))
 
+-- src/lib.rt:82:5
 cast-result : tie.Need-cast-result
-cast-result c = omega (arith, product-small (c .before .args .alpha) (c .top .result) (search needs) (search needs))
+cast-result c = omega (arith, product-small (c .before .args .alpha) (c .top-at .result) (search needs) (search needs))
 
+-- src/lib.rt:77:1
 returns : tie.Need-returns
 unfolding fillAlphaOf
-returns c = simp (c .top .ensures)
+returns c = simp (c .top-at .ensures)
 
 pub fill-alpha-spec : {M : Type 1} → statement M
 fill-alpha-spec =
-    tie.close (tie.spec top-requires cast-top mul-result add-result cast-result returns)
+    tie.close (tie.spec top-at-requires cast-top mul-result add-result cast-result returns)

@@ -1,10 +1,13 @@
-use mathlib.Core.Path.{sym}
+use mathlib.Core.Bool.{Bool, not}
+use mathlib.Core.Path.{_∙_, _≡_, ap, sym}
 use borrow.Author.Needs.{needs}
-use borrow.Author.Tests.{eq-eqb, le-ltb, lt-ltb, ne-eqb}
+use borrow.Author.Tests.{eq-eqb, ne-eqb}
 use Rattle.laws.specs.Out.{refuse}
 use Rattle.laws.specs.Pick.{pick}
-use Rattle.fill.specs.Fill.{fillOf, ycbcrOf}
+use Rattle.image.proofs.RecordLaws.{depth-sound}
+use Rattle.image.specs.Format.{isDepth}
 use Rattle.fill.proofs.fill_to_ycbcr.Statement.{statement}
+use Rattle.fill.specs.Fill.{fillOf, ycbcrOf}
 use Rattle.fill.proofs.fill_to_ycbcr.Tie as tie
 use Rattle.fill.proofs.fill_to_ycbcr.Reads as reads
 use Rattle.fill.proofs.fill_to_ycbcr.Lts as lts
@@ -13,77 +16,89 @@ use Rattle.fill.proofs.identity.Reads as identity-reads
 use Rattle.fill.proofs.part.Reads as part-reads
 use Rattle.fill.proofs.weighted.Reads as weighted-reads
 use Rattle.fill.proofs.weights.Weights.of.Reads as of-reads
+use Rattle.image.proofs.format.PixelFormat.is_depth.Reads as is-depth-reads
 
+depth-is : (c : tie.After-is-depth) (b : Bool) → not (c .is-depth .result) ≡ b → not (isDepth (c .before .args .depth)) ≡ b
+depth-is c b e = ap not (sym (c .is-depth .ensures)) ∙ e
+
+-- src/lib.rt:60:9
+is-depth-requires : tie.Need-is-depth-requires
+is-depth-requires c κs = search needs
+
+-- src/lib.rt:61:9
 returns : tie.Need-returns
 unfolding fillOf refuse
-returns c = simp (lt-ltb _ _ (c .if1 .taken))
+returns c = simp (depth-is (c .before) _ (c .if1 .taken))
 
-returns-2 : tie.Need-returns-2
-unfolding fillOf refuse
-returns-2 c = simp (le-ltb _ _ (c .before .if1 .left), lt-ltb _ _ (c .if2 .taken))
-
+-- src/lib.rt:63:9
 nclx-requires : tie.Need-nclx-requires
 nclx-requires c κs = search needs
 
+-- src/lib.rt:66:9
 part-requires : tie.Need-part-requires
 part-requires c κs = search needs
 
+-- src/lib.rt:67:9
 part-requires-2 : tie.Need-part-requires-2
 part-requires-2 c κs = search needs
 
+-- src/lib.rt:68:9
 part-requires-3 : tie.Need-part-requires-3
 part-requires-3 c κs = search needs
 
+-- src/lib.rt:70:32
 identity-requires : tie.Need-identity-requires
-identity-requires c κs = search needs
+identity-requires c κs =
+    let at-is-depth = c .before .before .before .before .before .before in
+    let if1 = c .before .before .before .before .before .if1 in
+    depth-sound _ (depth-is at-is-depth _ (if1 .left)) .1
 
-returns-3 : tie.Need-returns-3
+-- src/lib.rt:70:9
+returns-2 : tie.Need-returns-2
 unfolding fillOf refuse ycbcrOf pick
-returns-3 c =
-    simp (
-      le-ltb _ _ (c .before .before .before .before .before .before .before .if1 .left),
-      le-ltb _ _ (c .before .before .before .before .before .before .if2 .left),
-      c .identity .ensures,
-      c .before .before .part3 .ensures,
-      c .before .before .before .part2 .ensures,
-      c .before .before .before .before .part .ensures,
-      sym (c .before .before .before .before .before .nclx .ensures),
-      eq-eqb _ _ (c .before .if3 .taken),
-    )
+returns-2 c =
+    let at-is-depth = c .before .before .before .before .before .before .before in
+    let if1 = c .before .before .before .before .before .before .if1 in
+    let nclx = c .before .before .before .before .before .nclx in
+    let part = c .before .before .before .before .part in
+    let part2 = c .before .before .before .part2 in
+    simp (depth-is at-is-depth _ (if1 .left), c .identity .ensures, c .before .before .part3 .ensures, part2 .ensures, part .ensures, sym (nclx .ensures), eq-eqb _ _ (c .before .if2 .taken))
 
+-- src/lib.rt:72:9
 of-requires : tie.Need-of-requires
 of-requires c κs = search needs
 
+-- src/lib.rt:73:21
 weighted-requires : tie.Need-weighted-requires
-weighted-requires c κs = search needs
+weighted-requires c κs =
+    let at-is-depth = c .before .before .before .before .before .before .before in
+    let if1 = c .before .before .before .before .before .before .if1 in
+    depth-sound _ (depth-is at-is-depth _ (if1 .left))
 
-returns-4 : tie.Need-returns-4
+-- src/lib.rt:57:1
+returns-3 : tie.Need-returns-3
 unfolding fillOf refuse ycbcrOf pick
-returns-4 c =
-    simp (
-      le-ltb _ _ (c .before .before .before .before .before .before .before .before .if1 .left),
-      le-ltb _ _ (c .before .before .before .before .before .before .before .if2 .left),
-      c .weighted .ensures,
-      c .before .of .ensures,
-      c .before .before .before .part3 .ensures,
-      c .before .before .before .before .part2 .ensures,
-      c .before .before .before .before .before .part .ensures,
-      sym (c .before .before .before .before .before .before .nclx .ensures),
-      ne-eqb _ _ (c .before .before .if3 .left),
-    )
+returns-3 c =
+    let at-is-depth = c .before .before .before .before .before .before .before .before in
+    let if1 = c .before .before .before .before .before .before .before .if1 in
+    let nclx = c .before .before .before .before .before .before .nclx in
+    let part = c .before .before .before .before .before .part in
+    let part2 = c .before .before .before .before .part2 in
+    let part3 = c .before .before .before .part3 in
+    simp (depth-is at-is-depth _ (if1 .left), c .weighted .ensures, c .before .of .ensures, part3 .ensures, part2 .ensures, part .ensures, sym (nclx .ensures), ne-eqb _ _ (c .before .before .if2 .left))
 
 pub fill-to-ycbcr-spec : {M : Type 1} → statement M
 fill-to-ycbcr-spec =
     tie.close
     (tie.spec
+    is-depth-requires
     returns
-    returns-2
     nclx-requires
     part-requires
     part-requires-2
     part-requires-3
     identity-requires
-    returns-3
+    returns-2
     of-requires
     weighted-requires
-    returns-4)
+    returns-3)

@@ -6,9 +6,9 @@ use lib.ListN.{getD}
 use Rattle.laws.specs.Out.{done}
 use Rattle.image.specs.Sound.{FormSound}
 use Rattle.image.specs.inner.Placed.{Sound}
-use Rattle.image.specs.Tray.{framesAt}
+use Rattle.image.specs.Tray.{framesAt, noFrame}
 use Rattle.image.specs.declared.format.Form.{Form}
-use Rattle.grid.specs.Run.{framesIn, noFrame}
+use Rattle.grid.specs.Run.{framesIn}
 use Rattle.grid.specs.Tiles.{canvasForm, countOf}
 use Rattle.grid.specs.declared.tiles.Tiles.{Tiles}
 

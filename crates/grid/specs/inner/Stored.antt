@@ -1,8 +1,8 @@
 -- Tiles stored one after the other.
 use mathlib.Core.List.{List}
 use Prim.Native.Nat.{_%_, _/_, suc, zero, ℕ}
-use Rattle.image.specs.Picture.{Pic}
 use Rattle.image.specs.declared.format.Form.{Form}
+use Rattle.planes.specs.Picture.{Pic}
 use Rattle.grid.specs.Cell.{storeTile}
 
 unfoldable pub evenPic : Form → ℕ → Pic

@@ -23,3 +23,8 @@ pub record Sound (s : List ℕ) (fr : Frame) : Type 0 where
   pub form : FormSound (fr .form)
   pub planes : (p : Part) → hasPart (fr .form .format) p ≡ true → PlaneSound s (fr .form) p (planeOf fr p)
   pub end : fr .end ≤ length s
+
+-- a record that was read: what holds of it, and every plane in the slice, also of no bytes
+pub record InSlice (s : List ℕ) (fr : Frame) : Type 0 where
+  pub sound : Sound s fr
+  pub planes : (p : Part) → planeOf fr p .start + planeOf fr p .len ≤ length s

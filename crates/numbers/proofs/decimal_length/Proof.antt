@@ -1,7 +1,6 @@
-use Rattle.numbers.proofs.Decimal.{decimal-short}
+use Rattle.numbers.proofs.Decimal.{decimal-short, onto-last, onto-more, length-digits}
 use native.Mathlib.Omega.{arith}
 use borrow.Author.Needs.{needs}
-use Rattle.numbers.proofs.Decimal.{onto-last, onto-more, length-digits}
 use Rattle.numbers.specs.Decimal.{decimal, digitsOnto}
 use lib.ListN.{length}
 use mathlib.Core.List.{List, []}

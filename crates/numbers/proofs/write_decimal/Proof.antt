@@ -1,10 +1,9 @@
-use Rattle.laws.proofs.Puts.{puts-front}
+use Rattle.laws.proofs.Puts.{puts-front, length-puts}
 use native.Mathlib.Omega.{arith}
 use denote.Ref.{now}
 use borrow.Author.Needs.{needs}
 use Rattle.numbers.proofs.Decimal.{onto-last, onto-more, length-digits}
 use Rattle.numbers.specs.Decimal.{decimal, digitsOnto}
-use Rattle.laws.proofs.Puts.{length-puts}
 use Rattle.laws.specs.Puts.{puts}
 use lib.ListN.{length, length-set}
 use Prim.Native.Nat.{ℕ, _+_, _-_, _^_, _≤_, _<_}
@@ -77,7 +76,13 @@ same-length : tie.Need-same-length Inv-loop μ-loop
 same-length c = simp length-set (inside (c .before) .2)
 
 returns : tie.Need-returns Inv-loop μ-loop
-returns c = let r = c .before .loop in let a = c .before .before .before .before .args in let e : decimal (a .n) ≡ _ = r .inv .2 ∙ onto-last (r .rest) (r .inv .0) (c .loop-test .left) in let l = ap length e in let p : r .i - 1 ≡ a .at = omega arith in (omega (arith, c .before .before .decimal-length .ensures .0), puts-front _ _ _ _ _ (inside (c .before) .0) (r .inv .4) ∙ rw (e, p))
+returns c =
+    let start = c .before .before .before .before in
+    let r = c .before .loop in
+    let e : decimal (start .args .n) ≡ _ = r .inv .2 ∙ onto-last (r .rest) (r .inv .0) (c .loop-test .left) in
+    let l = ap length e in
+    let p : r .i - 1 ≡ start .args .at = omega arith in
+    (omega (arith, c .before .before .decimal-length .ensures .0), puts-front _ _ _ _ _ (inside (c .before) .0) (r .inv .4) ∙ rw (e, p))
 
 pub write-decimal-spec : {M : Type 1} → statement M
 write-decimal-spec =

@@ -3,12 +3,24 @@ use lib.ListN.{length}
 use borrow.Author.Needs.{needs}
 use denote.Ref.{now}
 use Rattle.laws.proofs.Out.{done-answers, fitted-room, fitted-short, refuse-no, refuse-yes, refused-answers}
-use Rattle.overlay.proofs.RunLaws.{above-is, plan-taken, room-enough, room-short, run-malformed, run-refused}
+use Rattle.overlay.proofs.RunLaws.{Taken, above-is, plan-taken, room-enough, room-short, run-malformed, run-refused}
 use Rattle.overlay.proofs.composite_overlay.Statement.{statement}
-use Rattle.overlay.specs.inner.Block.{planOut}
+use Rattle.inputs.specs.inner.Summary.{planOut}
 use Rattle.overlay.proofs.composite_overlay.Tie as tie
 use Rattle.overlay.proofs.composite_overlay.Reads as reads
 use Rattle.overlay.proofs.composite_overlay.Lts as lts
+
+-- what was read, once the inputs are planned
+taken : (c : tie.After-plan)
+    → let count = c .before .before .before .before .count in
+    let start = c .before .before .before .before .before .before .before .before .before .before .before in
+    Taken (now (start .args .body)) (now (start .args .tray)) (now (start .args .premultiplied)) (start .args .colour) (length (now (start .args .out)))
+    (count .given .0 .0) (count .given .0 .1 .0) (c .plan .given .0 .0)
+taken c =
+    let count = c .before .before .before .before .count in
+    let read-number = c .before .before .before .before .before .before .read-number in
+    plan-taken _ _ _ _ _ _ _ (sym (read-number .ensures) ∙ count .given .1) _
+    (sym (c .before .before .read-inputs .ensures) ∙ ap planOut (c .plan .given .1))
 
 read-number-requires : tie.Need-read-number-requires
 read-number-requires c κs = search needs
@@ -32,31 +44,58 @@ enum-known-plan : tie.Need-enum-known-plan
 enum-known-plan c = search needs
 
 top-requires : tie.Need-top-requires
-top-requires c κs = (plan-taken (now (c .before .before .before .before .before .before .before .before .before .before .before .before .before .before .args .body)) (now (c .before .before .before .before .before .before .before .before .before .before .before .before .before .before .args .tray)) (now (c .before .before .before .before .before .before .before .before .before .before .before .before .before .before .args .premultiplied)) (c .before .before .before .before .before .before .before .before .before .before .before .before .before .before .args .colour) (length (now (c .before .before .before .before .before .before .before .before .before .before .before .before .before .before .args .out))) _ _ (sym (c .before .before .before .before .before .before .before .before .before .read-number .ensures) ∙ c .before .before .before .before .before .before .before .count .given .1) _ (sym (c .before .before .before .before .before .read-inputs .ensures) ∙ ap planOut (c .before .before .before .plan .given .1))) .sound .form .high
+top-requires c κs = taken (c .before .before .before) .sound .form .high
 
 alpha-above-requires : tie.Need-alpha-above-requires
 alpha-above-requires c κs = search needs
 
 returns-2 : tie.Need-returns-2
-returns-2 c = refused-answers _ _ _ ((plan-taken (now (c .before .before .before .before .before .before .before .before .before .before .before .before .before .before .before .before .before .args .body)) (now (c .before .before .before .before .before .before .before .before .before .before .before .before .before .before .before .before .before .args .tray)) (now (c .before .before .before .before .before .before .before .before .before .before .before .before .before .before .before .before .before .args .premultiplied)) (c .before .before .before .before .before .before .before .before .before .before .before .before .before .before .before .before .before .args .colour) (length (now (c .before .before .before .before .before .before .before .before .before .before .before .before .before .before .before .before .before .args .out))) _ _ (sym (c .before .before .before .before .before .before .before .before .before .before .before .before .read-number .ensures) ∙ c .before .before .before .before .before .before .before .before .before .before .count .given .1) _ (sym (c .before .before .before .before .before .before .before .before .read-inputs .ensures) ∙ ap planOut (c .before .before .before .before .before .before .plan .given .1))) .left ∙ refuse-yes _ _ (above-is _ _ _ _ _ _ (c .before .before .top .ensures) (c .before .alpha-above .ensures) ∙ c .if1 .taken))
+returns-2 c =
+    let after-plan = c .before .before .before .before .before .before in
+    refused-answers _ _ _
+    (taken after-plan .left
+    ∙ refuse-yes _ _ (above-is _ _ _ _ _ _ (c .before .before .top .ensures) (c .before .alpha-above .ensures) ∙ c .if1 .taken))
 
 record-size-requires : tie.Need-record-size-requires
-record-size-requires c κs = (plan-taken (now (c .before .before .before .before .before .before .before .before .before .before .before .before .before .before .before .before .before .args .body)) (now (c .before .before .before .before .before .before .before .before .before .before .before .before .before .before .before .before .before .args .tray)) (now (c .before .before .before .before .before .before .before .before .before .before .before .before .before .before .before .before .before .args .premultiplied)) (c .before .before .before .before .before .before .before .before .before .before .before .before .before .before .before .before .before .args .colour) (length (now (c .before .before .before .before .before .before .before .before .before .before .before .before .before .before .before .before .before .args .out))) _ _ (sym (c .before .before .before .before .before .before .before .before .before .before .before .before .read-number .ensures) ∙ c .before .before .before .before .before .before .before .before .before .before .count .given .1) _ (sym (c .before .before .before .before .before .before .before .before .read-inputs .ensures) ∙ ap planOut (c .before .before .before .before .before .before .plan .given .1))) .sound .form
+record-size-requires c κs = taken (c .before .before .before .before .before .before) .sound .form
 
 returns-3 : tie.Need-returns-3
-returns-3 c = refused-answers _ _ _ ((plan-taken (now (c .before .before .before .before .before .before .before .before .before .before .before .before .before .before .before .before .before .before .before .args .body)) (now (c .before .before .before .before .before .before .before .before .before .before .before .before .before .before .before .before .before .before .before .args .tray)) (now (c .before .before .before .before .before .before .before .before .before .before .before .before .before .before .before .before .before .before .before .args .premultiplied)) (c .before .before .before .before .before .before .before .before .before .before .before .before .before .before .before .before .before .before .before .args .colour) (length (now (c .before .before .before .before .before .before .before .before .before .before .before .before .before .before .before .before .before .before .before .args .out))) _ _ (sym (c .before .before .before .before .before .before .before .before .before .before .before .before .before .before .read-number .ensures) ∙ c .before .before .before .before .before .before .before .before .before .before .before .before .count .given .1) _ (sym (c .before .before .before .before .before .before .before .before .before .before .read-inputs .ensures) ∙ ap planOut (c .before .before .before .before .before .before .before .before .plan .given .1))) .left ∙ refuse-no _ _ (above-is _ _ _ _ _ _ (c .before .before .before .before .top .ensures) (c .before .before .before .alpha-above .ensures) ∙ c .before .before .if1 .left) ∙ fitted-short _ _ (room-short (plan-taken (now (c .before .before .before .before .before .before .before .before .before .before .before .before .before .before .before .before .before .before .before .args .body)) (now (c .before .before .before .before .before .before .before .before .before .before .before .before .before .before .before .before .before .before .before .args .tray)) (now (c .before .before .before .before .before .before .before .before .before .before .before .before .before .before .before .before .before .before .before .args .premultiplied)) (c .before .before .before .before .before .before .before .before .before .before .before .before .before .before .before .before .before .before .before .args .colour) (length (now (c .before .before .before .before .before .before .before .before .before .before .before .before .before .before .before .before .before .before .before .args .out))) _ _ (sym (c .before .before .before .before .before .before .before .before .before .before .before .before .before .before .read-number .ensures) ∙ c .before .before .before .before .before .before .before .before .before .before .before .before .count .given .1) _ (sym (c .before .before .before .before .before .before .before .before .before .before .read-inputs .ensures) ∙ ap planOut (c .before .before .before .before .before .before .before .before .plan .given .1))) _ (c .before .record-size .ensures) (c .if2 .taken)))
+returns-3 c =
+    let top = c .before .before .before .before .top in
+    let after-plan = c .before .before .before .before .before .before .before .before in
+    refused-answers _ _ _
+    (taken after-plan .left
+    ∙ refuse-no _ _ (above-is _ _ _ _ _ _ (top .ensures) (c .before .before .before .alpha-above .ensures) ∙ c .before .before .if1 .left)
+    ∙ fitted-short _ _ (room-short (taken after-plan) _ (c .before .record-size .ensures) (c .if2 .taken)))
 
 draw-overlay-requires : tie.Need-draw-overlay-requires
-draw-overlay-requires c κs = ((plan-taken (now (c .before .before .before .before .before .before .before .before .before .before .before .before .before .before .before .before .before .before .before .before .args .body)) (now (c .before .before .before .before .before .before .before .before .before .before .before .before .before .before .before .before .before .before .before .before .args .tray)) (now (c .before .before .before .before .before .before .before .before .before .before .before .before .before .before .before .before .before .before .before .before .args .premultiplied)) (c .before .before .before .before .before .before .before .before .before .before .before .before .before .before .before .before .before .before .before .before .args .colour) (length (now (c .before .before .before .before .before .before .before .before .before .before .before .before .before .before .before .before .before .before .before .before .args .out))) _ _ (sym (c .before .before .before .before .before .before .before .before .before .before .before .before .before .before .before .read-number .ensures) ∙ c .before .before .before .before .before .before .before .before .before .before .before .before .before .count .given .1) _ (sym (c .before .before .before .before .before .before .before .before .before .before .before .read-inputs .ensures) ∙ ap planOut (c .before .before .before .before .before .before .before .before .before .plan .given .1))) .sound, room-enough (plan-taken (now (c .before .before .before .before .before .before .before .before .before .before .before .before .before .before .before .before .before .before .before .before .args .body)) (now (c .before .before .before .before .before .before .before .before .before .before .before .before .before .before .before .before .before .before .before .before .args .tray)) (now (c .before .before .before .before .before .before .before .before .before .before .before .before .before .before .before .before .before .before .before .before .args .premultiplied)) (c .before .before .before .before .before .before .before .before .before .before .before .before .before .before .before .before .before .before .before .before .args .colour) (length (now (c .before .before .before .before .before .before .before .before .before .before .before .before .before .before .before .before .before .before .before .before .args .out))) _ _ (sym (c .before .before .before .before .before .before .before .before .before .before .before .before .before .before .before .read-number .ensures) ∙ c .before .before .before .before .before .before .before .before .before .before .before .before .before .count .given .1) _ (sym (c .before .before .before .before .before .before .before .before .before .before .before .read-inputs .ensures) ∙ ap planOut (c .before .before .before .before .before .before .before .before .before .plan .given .1))) _ (c .before .before .record-size .ensures) (c .before .if2 .left))
+draw-overlay-requires c κs =
+    let after-plan = c .before .before .before .before .before .before .before .before .before in
+    (taken after-plan .sound, room-enough (taken after-plan) _ (c .before .before .record-size .ensures) (c .before .if2 .left))
 
 returns-4 : tie.Need-returns-4
-returns-4 c = refused-answers _ _ _ (run-refused _ _ _ _ _ _ _ (sym (c .before .before .before .before .before .before .before .read-number .ensures) ∙ c .before .before .before .before .before .count .given .1) _ (sym (c .before .before .before .read-inputs .ensures) ∙ ap planOut (c .before .e .given .1)))
+returns-4 c =
+    let count = c .before .before .before .before .before .count in
+    let read-number = c .before .before .before .before .before .before .before .read-number in
+    refused-answers _ _ _
+    (run-refused _ _ _ _ _ _ _ (sym (read-number .ensures) ∙ count .given .1) _
+    (sym (c .before .before .before .read-inputs .ensures) ∙ ap planOut (c .before .e .given .1)))
 
 same-length : tie.Need-same-length
 same-length c = search needs
 
 returns-5 : tie.Need-returns-5
-returns-5 c = let h = room-enough (plan-taken (now (c .before .before .before .before .before .before .before .before .before .before .before .before .before .before .before .before .before .before .before .before .before .before .before .args .body)) (now (c .before .before .before .before .before .before .before .before .before .before .before .before .before .before .before .before .before .before .before .before .before .before .before .args .tray)) (now (c .before .before .before .before .before .before .before .before .before .before .before .before .before .before .before .before .before .before .before .before .before .before .before .args .premultiplied)) (c .before .before .before .before .before .before .before .before .before .before .before .before .before .before .before .before .before .before .before .before .before .before .before .args .colour) (length (now (c .before .before .before .before .before .before .before .before .before .before .before .before .before .before .before .before .before .before .before .before .before .before .before .args .out))) _ _ (sym (c .before .before .before .before .before .before .before .before .before .before .before .before .before .before .before .before .before .before .read-number .ensures) ∙ c .before .before .before .before .before .before .before .before .before .before .before .before .before .before .before .before .count .given .1) _ (sym (c .before .before .before .before .before .before .before .before .before .before .before .before .before .before .read-inputs .ensures) ∙ ap planOut (c .before .before .before .before .before .before .before .before .before .before .before .before .plan .given .1))) _ (c .before .before .before .before .before .record-size .ensures) (c .before .before .before .before .if2 .left) in done-answers _ _ _ _ _ ((plan-taken (now (c .before .before .before .before .before .before .before .before .before .before .before .before .before .before .before .before .before .before .before .before .before .before .before .args .body)) (now (c .before .before .before .before .before .before .before .before .before .before .before .before .before .before .before .before .before .before .before .before .before .before .before .args .tray)) (now (c .before .before .before .before .before .before .before .before .before .before .before .before .before .before .before .before .before .before .before .before .before .before .before .args .premultiplied)) (c .before .before .before .before .before .before .before .before .before .before .before .before .before .before .before .before .before .before .before .before .before .before .before .args .colour) (length (now (c .before .before .before .before .before .before .before .before .before .before .before .before .before .before .before .before .before .before .before .before .before .before .before .args .out))) _ _ (sym (c .before .before .before .before .before .before .before .before .before .before .before .before .before .before .before .before .before .before .read-number .ensures) ∙ c .before .before .before .before .before .before .before .before .before .before .before .before .before .before .before .before .count .given .1) _ (sym (c .before .before .before .before .before .before .before .before .before .before .before .before .before .before .read-inputs .ensures) ∙ ap planOut (c .before .before .before .before .before .before .before .before .before .before .before .before .plan .given .1))) .left ∙ refuse-no _ _ (above-is _ _ _ _ _ _ (c .before .before .before .before .before .before .before .before .top .ensures) (c .before .before .before .before .before .before .before .alpha-above .ensures) ∙ c .before .before .before .before .before .before .if1 .left) ∙ fitted-room _ _ h) h (c .before .before .draw-overlay .ensures .0) (c .before .before .draw-overlay .ensures .1)
+returns-5 c =
+    let if2 = c .before .before .before .before .if2 in
+    let record-size = c .before .before .before .before .before .record-size in
+    let if1 = c .before .before .before .before .before .before .if1 in
+    let alpha-above = c .before .before .before .before .before .before .before .alpha-above in
+    let top = c .before .before .before .before .before .before .before .before .top in
+    let after-plan = c .before .before .before .before .before .before .before .before .before .before .before .before in
+    let h = room-enough (taken after-plan) _ (record-size .ensures) (if2 .left) in
+    done-answers _ _ _ _ _
+    (taken after-plan .left ∙ refuse-no _ _ (above-is _ _ _ _ _ _ (top .ensures) (alpha-above .ensures) ∙ if1 .left) ∙ fitted-room _ _ h) h
+    (c .before .before .draw-overlay .ensures .0) (c .before .before .draw-overlay .ensures .1)
 
 pub composite-overlay-spec : {M : Type 1} → statement M
 composite-overlay-spec =

@@ -7,9 +7,9 @@ use Rattle.replay.proofs.calls_so.Statement.{statement}
 use Rattle.replay.proofs.calls_so.Tie as tie
 use Rattle.replay.proofs.calls_so.Reads as reads
 use Rattle.replay.proofs.calls_so.Lts as lts
-use Rattle.replay.proofs.call.Reads as call-reads
+use Rattle.replay.proofs.call_lent.Reads as call-lent-reads
+use Rattle.replay.proofs.called_so.Reads as called-so-reads
 use Rattle.replay.proofs.number_at.Reads as number-at-reads
-use Rattle.replay.proofs.numbered_so.Reads as numbered-so-reads
 use Rattle.replay.proofs.part.Reads as part-reads
 use Rattle.replay.proofs.starts.Reads as starts-reads
 use Rattle.replay.proofs.wrote.Reads as wrote-reads
@@ -23,11 +23,11 @@ abbrev μ-loop : tie.MeasureT-loop
 loop-holds : tie.Need-loop-holds Inv-loop μ-loop
 loop-holds c = search needs
 
-slice-aggregate-call : tie.Need-slice-aggregate-call Inv-loop μ-loop
-slice-aggregate-call c = search needs
+slice-aggregate-call-lent : tie.Need-slice-aggregate-call-lent Inv-loop μ-loop
+slice-aggregate-call-lent c = search needs
 
-call-requires : tie.Need-call-requires Inv-loop μ-loop
-call-requires c κs = search needs
+call-lent-requires : tie.Need-call-lent-requires Inv-loop μ-loop
+call-lent-requires c κs = search needs
 
 cast-number-at : tie.Need-cast-number-at Inv-loop μ-loop
 cast-number-at c = search needs
@@ -38,8 +38,14 @@ mul-number-at c = search needs
 number-at-requires : tie.Need-number-at-requires Inv-loop μ-loop
 number-at-requires c κs = search needs
 
-numbered-so-requires : tie.Need-numbered-so-requires Inv-loop μ-loop
-numbered-so-requires c κs = search needs
+slice-aggregate-called-so : tie.Need-slice-aggregate-called-so Inv-loop μ-loop
+slice-aggregate-called-so c = search needs
+
+slice-aggregate-called-so-2 : tie.Need-slice-aggregate-called-so-2 Inv-loop μ-loop
+slice-aggregate-called-so-2 c = search needs
+
+called-so-requires : tie.Need-called-so-requires Inv-loop μ-loop
+called-so-requires c κs = search needs
 
 returns : tie.Need-returns Inv-loop μ-loop
 returns c = search needs
@@ -87,12 +93,14 @@ calls-so-spec =
     Inv-loop
     μ-loop
     loop-holds
-    slice-aggregate-call
-    call-requires
+    slice-aggregate-call-lent
+    call-lent-requires
     cast-number-at
     mul-number-at
     number-at-requires
-    numbered-so-requires
+    slice-aggregate-called-so
+    slice-aggregate-called-so-2
+    called-so-requires
     returns
     wrote-requires
     add-turn

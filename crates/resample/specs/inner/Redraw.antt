@@ -5,19 +5,18 @@ use mathlib.Core.Path.{_≡_}
 use Prim.Native.Nat.{_*_, _+_, _<_, _^_, _≤_, ℕ}
 use lib.ListN.{length}
 use Rattle.laws.specs.Span.{span}
-use Rattle.image.specs.Bytes.{sampleIn, samplesOf}
-use Rattle.image.specs.Format.{bytesOf, columnsOf, hasPart, rowsOf}
-use Rattle.image.specs.Picture.{Pic}
-use Rattle.image.specs.Sound.{FormSound}
+use Rattle.planes.specs.Bytes.{sampleIn, samplesOf}
+use Rattle.image.specs.Format.{bytesOf, columnsOf, hasPart, rowsOf, hasSize}
+use Rattle.planes.specs.Picture.{Pic}
+use Rattle.image.specs.Sound.{FormSound, SizeSound}
 use Rattle.image.specs.declared.format.Form.{Form}
 use Rattle.image.specs.declared.format.Part.{Part}
-use Rattle.props.specs.Sound.{SizeSound}
-use Rattle.props.specs.declared.size.Size.{Size}
+use Rattle.image.specs.declared.size.Size.{Size}
 use Rattle.resample.specs.Area.{areaMean, footOf}
 use Rattle.resample.specs.inner.Sums.{FootIn}
 use Rattle.resample.specs.Depth.{levelOf}
 use Rattle.resample.specs.inner.Depths.{DepthsFit}
-use Rattle.resample.specs.Nearest.{nearPlace, sameSize}
+use Rattle.resample.specs.Nearest.{nearPlace}
 use Rattle.resample.specs.declared.write.Axis.{Axis}
 use Rattle.resample.specs.declared.write.Raster.{Raster}
 use Rattle.resample.specs.declared.write.RowRule.{RowRule}
@@ -71,7 +70,7 @@ rasterBytes d r = span (λ y. rasterRow d r (rowOf (r .rule) (r .down) y)) 0 (r 
 
 -- an axis with samples on both sides, and not more than a picture can have
 pub record AxisFits (a : Axis) : Type 0 where
-  pub some : 1 ≤ a .from
+  pub positive : 1 ≤ a .from
   pub made : 1 ≤ a .to
   pub old : a .from ≤ 2 ^ 30
   pub new : a .to ≤ 2 ^ 30
@@ -86,15 +85,15 @@ unfoldable pub RuleFits : Rule → Axis → Axis → Type 0
 RuleFits (Rule.Near k) across down = DepthsFit k
 RuleFits Rule.Area across down = AreaAxis across × AreaAxis down × (across .from * down .from ≤ 2 ^ 30)
 
-unfoldable pub RowFits : RowRule → Axis → ℕ → Type 0
-RowFits (RowRule.Near k) across rows = DepthsFit (k .depths) × (k .y < rows)
-RowFits (RowRule.Area f) across rows = AreaAxis across × FootIn f rows × (across .from * rows ≤ 2 ^ 30)
+unfoldable pub RuleRowFits : RowRule → Axis → ℕ → Type 0
+RuleRowFits (RowRule.Near k) across rows = DepthsFit (k .depths) × (k .y < rows)
+RuleRowFits (RowRule.Area f) across rows = AreaAxis across × FootIn f rows × (across .from * rows ≤ 2 ^ 30)
 
 pub record RasterFits (d : List ℕ) (r : Raster) : Type 0 where
-  pub some : 1 ≤ r .bytes
-  pub few : r .bytes ≤ 2
-  pub toSome : 1 ≤ r .«to_bytes»
-  pub toFew : r .«to_bytes» ≤ 2
+  pub positive : 1 ≤ r .bytes
+  pub bounded : r .bytes ≤ 2
+  pub toPositive : 1 ≤ r .«to_bytes»
+  pub toBounded : r .«to_bytes» ≤ 2
   pub across : AxisFits (r .across)
   pub down : AxisFits (r .down)
   pub inside : (x y : ℕ) → x < r .across .from → y < r .down .from → y * r .stride + x * r .bytes + r .bytes ≤ length d
@@ -109,4 +108,4 @@ pub record RedrawFits (m n : Form) (r : Rule) : Type 0 where
 -- a size that a picture of the form m can be scaled to, if it is not its own
 pub record ScaleFits (m : Form) (z : Size) : Type 0 where
   pub sound : SizeSound z
-  pub small : sameSize m (z .width) (z .height) ≡ false → (m .width ≤ 2 ^ 26) × (m .height ≤ 2 ^ 26) × (z .width ≤ 2 ^ 26) × (z .height ≤ 2 ^ 26)
+  pub small : hasSize m (z .width) (z .height) ≡ false → (m .width ≤ 2 ^ 26) × (m .height ≤ 2 ^ 26) × (z .width ≤ 2 ^ 26) × (z .height ≤ 2 ^ 26)

@@ -5,12 +5,12 @@ use borrow.Author.Needs.{needs}
 use denote.Ref.{now}
 use Rattle.laws.proofs.Out.{refuse-no, refuse-yes, then-done}
 use Rattle.laws.specs.Out.{done}
-use Rattle.image.specs.Bytes.{Bytes}
+use Rattle.laws.specs.Puts.{Bytes}
 use Rattle.props.specs.Chain.{chainOut}
 use Rattle.overlay.proofs.RunLaws.{above-is, planPic}
-use Rattle.overlay.specs.inner.Block.{planOut}
+use Rattle.inputs.specs.inner.Summary.{planOut}
 use Rattle.scene.proofs.SceneLaws.{OverlayKnown, first-output, first-spare, held-refused, overlay-chain, overlay-inputs, overlay-malformed, overlay-read, plan-form, ready-output, ready-spare, scene-output, scene-refused, scene-spare}
-use Rattle.scene.specs.inner.Course.{heldOf, heldOut}
+use Rattle.scene.specs.inner.ChainPlan.{currentOf, currentOut}
 use Rattle.scene.proofs.overlay_scene.Statement.{statement}
 use Rattle.scene.proofs.overlay_scene.Tie as tie
 use Rattle.scene.proofs.overlay_scene.Reads as reads
@@ -18,21 +18,50 @@ use Rattle.scene.proofs.overlay_scene.Lts as lts
 use Rattle.image.proofs.format.PixelFormat.top.Reads as top-reads
 use Rattle.numbers.proofs.read_number.Reads as read-number-reads
 use Rattle.overlay.proofs.draw_overlay.Reads as draw-overlay-reads
-use Rattle.overlay.proofs.alpha_above.Reads as alpha-above-reads
-use Rattle.overlay.proofs.read_inputs.Reads as read-inputs-reads
+use Rattle.inputs.proofs.alpha_above.Reads as alpha-above-reads
+use Rattle.inputs.proofs.read_inputs.Reads as read-inputs-reads
 use Rattle.props.proofs.check_chain.Reads as check-chain-reads
-use Rattle.scene.proofs.carry.finish_scene.Reads as finish-scene-reads
+use Rattle.scene.proofs.apply.finish_scene.Reads as finish-scene-reads
 use Rattle.scene.proofs.plan.plan_scene.Reads as plan-scene-reads
 
-ready : (c : tie.After-plan) → OverlayKnown (now (c .before .before .before .before .before .before .before .before .before .before .before .before .before .before .before .before .before .args .body)) (now (c .before .before .before .before .before .before .before .before .before .before .before .before .before .before .before .before .before .args .tray)) (now (c .before .before .before .before .before .before .before .before .before .before .before .before .before .before .before .before .before .args .chain)) (c .before .before .before .before .before .before .before .before .before .before .before .before .before .before .before .before .before .args .essential-only) (now (c .before .before .before .before .before .before .before .before .before .before .before .before .before .before .before .before .before .args .premultiplied)) (c .before .before .before .before .before .before .before .before .before .before .before .before .before .before .before .before .before .args .colour) (c .before .before .before .before .before .before .before .before .count .given .0 .0) (c .before .before .before .before .before .before .before .before .count .given .0 .1 .0) (c .before .before .before .before .c .given .0 .0) (c .plan .given .0 .0)
+ready : (c : tie.After-plan)
+    → let c′ = c .before .before .before .before .c in
+    let after-count = c .before .before .before .before .before .before .before .before in
+    let count = after-count .count in
+    let start = after-count .before .before .before .before .before .before .before .before .before in
+    OverlayKnown (now (start .args .body)) (now (start .args .tray)) (now (start .args .chain)) (start .args .essential-only)
+    (now (start .args .premultiplied)) (start .args .colour) (count .given .0 .0) (count .given .0 .1 .0) (c′ .given .0 .0) (c .plan .given .0 .0)
 unfolding Bytes
-ready c = overlay-read _ _ _ _ _ _ _ _ (sym (c .before .before .before .before .before .before .before .before .before .before .read-number .ensures) ∙ c .before .before .before .before .before .before .before .before .count .given .1) _ (sym (c .before .before .before .before .before .before .check-chain .ensures) ∙ ap chainOut (c .before .before .before .before .c .given .1)) (λ i. omega (arith, c .before .before .before .before .before .before .before .before .before .before .before .before .before .before .before .before .shared-slice-known .given i)) _ (sym (c .before .before .read-inputs .ensures) ∙ ap planOut (c .plan .given .1))
+ready c =
+    let c′ = c .before .before .before .before .c in
+    let check-chain = c .before .before .before .before .before .before .check-chain in
+    let count = c .before .before .before .before .before .before .before .before .count in
+    let after-read-number = c .before .before .before .before .before .before .before .before .before .before in
+    let read-number = after-read-number .read-number in
+    let shared-slice-known = after-read-number .before .before .before .before .before .before .shared-slice-known in
+    overlay-read _ _ _ _ _ _ _ _ (sym (read-number .ensures) ∙ count .given .1) _ (sym (check-chain .ensures) ∙ ap chainOut (c′ .given .1))
+    (λ i. omega (arith, shared-slice-known .given i)) _ (sym (c .before .before .read-inputs .ensures) ∙ ap planOut (c .plan .given .1))
 
-formed : (c : tie.After-plan) → (c .plan .given .0 .0 .form) ≡ planPic (now (c .before .before .before .before .before .before .before .before .before .before .before .before .before .before .before .before .before .args .body)) (now (c .before .before .before .before .before .before .before .before .before .before .before .before .before .before .before .before .before .args .tray)) (now (c .before .before .before .before .before .before .before .before .before .before .before .before .before .before .before .before .before .args .premultiplied)) (c .before .before .before .before .before .before .before .before .before .before .before .before .before .before .before .before .before .args .colour) (c .plan .given .0 .0) .form
-formed c = plan-form (now (c .before .before .before .before .before .before .before .before .before .before .before .before .before .before .before .before .before .args .body)) (now (c .before .before .before .before .before .before .before .before .before .before .before .before .before .before .before .before .before .args .tray)) (now (c .before .before .before .before .before .before .before .before .before .before .before .before .before .before .before .before .before .args .premultiplied)) (c .before .before .before .before .before .before .before .before .before .before .before .before .before .before .before .before .before .args .colour) (c .plan .given .0 .0)
+formed : (c : tie.After-plan)
+    → let after-count = c .before .before .before .before .before .before .before .before in
+    let start = after-count .before .before .before .before .before .before .before .before .before in
+    (c .plan .given .0 .0 .form)
+    ≡ planPic (now (start .args .body)) (now (start .args .tray)) (now (start .args .premultiplied)) (start .args .colour)
+    (c .plan .given .0 .0) .form
+formed c =
+    let after-count = c .before .before .before .before .before .before .before .before in
+    let start = after-count .before .before .before .before .before .before .before .before .before in
+    plan-form (now (start .args .body)) (now (start .args .tray)) (now (start .args .premultiplied)) (start .args .colour) (c .plan .given .0 .0)
 
-led : (c : tie.After-held) → heldOf (ready (c .before .before .before .before .before .before .before .before .before) .judged .entries) (c .before .before .before .before .before .before .before .before .before .before .before .before .before .before .before .before .before .before .before .before .before .before .before .before .before .before .args .essential-only) (c .before .before .before .before .before .before .before .before .before .plan .given .0 .0 .form) (length (now (c .before .before .before .before .before .before .before .before .before .before .before .before .before .before .before .before .before .before .before .before .before .before .before .before .before .before .args .output))) (length (now (c .before .before .before .before .before .before .before .before .before .before .before .before .before .before .before .before .before .before .before .before .before .before .before .before .before .before .args .spare))) ≡ done (c .held .given .0 .0)
-led c = sym (then-done _ (ready (c .before .before .before .before .before .before .before .before .before) .judged .read)) ∙ sym (c .before .before .plan-scene .ensures) ∙ ap heldOut (c .held .given .1)
+led : (c : tie.After-held)
+    → let after-plan = c .before .before .before .before .before .before .before .before .before in
+    let plan = after-plan .plan in
+    let after-count = after-plan .before .before .before .before .before .before .before .before in
+    let start = after-count .before .before .before .before .before .before .before .before .before in
+    currentOf (ready after-plan .judged .entries) (start .args .essential-only) (plan .given .0 .0 .form) (length (now (start .args .output)))
+    (length (now (start .args .spare)))
+    ≡ done (c .held .given .0 .0)
+led c = sym (then-done _ (ready (c .before .before .before .before .before .before .before .before .before) .judged .read)) ∙ sym (c .before .before .plan-scene .ensures) ∙ ap currentOut (c .held .given .1)
 
 read-number-requires : tie.Need-read-number-requires
 read-number-requires c κs = search needs
@@ -83,10 +112,23 @@ enum-known-held : tie.Need-enum-known-held
 enum-known-held c = search needs
 
 draw-overlay-requires : tie.Need-draw-overlay-requires
-draw-overlay-requires c κs = (ready (c .before .before .before .before .before .before .before .before .before .before .before .before) .sound, first-output _ _ (ready (c .before .before .before .before .before .before .before .before .before .before .before .before) .judged) _ _ (ready (c .before .before .before .before .before .before .before .before .before .before .before .before) .tame) _ (formed (c .before .before .before .before .before .before .before .before .before .before .before .before)) (now (c .before .before .before .before .before .before .before .before .before .before .before .before .before .before .before .before .before .before .before .before .before .before .before .before .before .before .before .before .before .args .output)) (now (c .before .before .before .before .before .before .before .before .before .before .before .before .before .before .before .before .before .before .before .before .before .before .before .before .before .before .before .before .before .args .spare)) _ (led (c .before .before .before)))
+draw-overlay-requires c κs =
+    let after-plan = c .before .before .before .before .before .before .before .before .before .before .before .before in
+    let after-count = after-plan .before .before .before .before .before .before .before .before in
+    let start = after-count .before .before .before .before .before .before .before .before .before in (
+      ready after-plan .sound,
+      first-output _ _ (ready after-plan .judged) _ _ (ready after-plan .inRange) _ (formed after-plan) (now (start .args .output))
+          (now (start .args .spare)) _ (led (c .before .before .before)),
+    )
 
 finish-scene-requires : tie.Need-finish-scene-requires
-finish-scene-requires c κs = ready-output _ _ (ready (c .before .before .before .before .before .before .before .before .before .before .before .before .before .before .before .before .before) .judged) _ _ (ready (c .before .before .before .before .before .before .before .before .before .before .before .before .before .before .before .before .before) .tame) _ (formed (c .before .before .before .before .before .before .before .before .before .before .before .before .before .before .before .before .before)) _ _ _ (led (c .before .before .before .before .before .before .before .before)) _ (c .before .before .before .before .before .before .if2 .taken) (c .before .before .before .before .draw-overlay .ensures .1)
+finish-scene-requires c κs =
+    let draw-overlay = c .before .before .before .before .draw-overlay in
+    let if2 = c .before .before .before .before .before .before .if2 in
+    let after-held = c .before .before .before .before .before .before .before .before in
+    let after-plan = after-held .before .before .before .before .before .before .before .before .before in
+    ready-output _ _ (ready after-plan .judged) _ _ (ready after-plan .inRange) _ (formed after-plan) _ _ _ (led after-held) _ (if2 .taken)
+    (draw-overlay .ensures .1)
 
 same-length : tie.Need-same-length
 same-length c = search needs
@@ -95,22 +137,71 @@ same-length-2 : tie.Need-same-length-2
 same-length-2 c = search needs
 
 returns-3 : tie.Need-returns-3
-returns-3 c = scene-output _ _ (ready (c .before .before .before .before .before .before .before .before .before .before .before .before .before .before .before .before .before .before .before .before .before .before) .judged) _ _ (ready (c .before .before .before .before .before .before .before .before .before .before .before .before .before .before .before .before .before .before .before .before .before .before) .tame) _ (formed (c .before .before .before .before .before .before .before .before .before .before .before .before .before .before .before .before .before .before .before .before .before .before)) _ _ _ (led (c .before .before .before .before .before .before .before .before .before .before .before .before .before)) _ _ (ready (c .before .before .before .before .before .before .before .before .before .before .before .before .before .before .before .before .before .before .before .before .before .before) .is _ _ ∙ refuse-no _ _ (above-is _ _ _ _ _ _ (c .before .before .before .before .before .before .before .before .before .before .before .before .before .before .before .before .before .before .top .ensures) (c .before .before .before .before .before .before .before .before .before .before .before .before .before .before .before .before .before .alpha-above .ensures) ∙ c .before .before .before .before .before .before .before .before .before .before .before .before .before .before .before .before .if1 .left)) _ _ _ (c .before .before .before .before .before .before .before .before .before .before .before .if2 .taken) (c .before .before .before .before .before .before .before .before .before .draw-overlay .ensures .1) (c .before .before .before .before .finish-scene .ensures)
+returns-3 c =
+    let finish-scene = c .before .before .before .before .finish-scene in
+    let after-draw-overlay = c .before .before .before .before .before .before .before .before .before in
+    let draw-overlay = after-draw-overlay .draw-overlay in
+    let if2 = after-draw-overlay .before .before .if2 in
+    let after-held = after-draw-overlay .before .before .before .before in
+    let if1 = after-held .before .before .before .if1 in
+    let alpha-above = after-held .before .before .before .before .alpha-above in
+    let top = after-held .before .before .before .before .before .top in
+    let after-plan = after-held .before .before .before .before .before .before .before .before .before in
+    scene-output _ _ (ready after-plan .judged) _ _ (ready after-plan .inRange) _ (formed after-plan) _ _ _ (led after-held) _ _
+    (ready after-plan .is _ _ ∙ refuse-no _ _ (above-is _ _ _ _ _ _ (top .ensures) (alpha-above .ensures) ∙ if1 .left)) _ _ _ (if2 .taken)
+    (draw-overlay .ensures .1) (finish-scene .ensures)
 
 draw-overlay-requires-2 : tie.Need-draw-overlay-requires-2
-draw-overlay-requires-2 c κs = (ready (c .before .before .before .before .before .before .before .before .before .before .before .before) .sound, first-spare _ _ (ready (c .before .before .before .before .before .before .before .before .before .before .before .before) .judged) _ _ (ready (c .before .before .before .before .before .before .before .before .before .before .before .before) .tame) _ (formed (c .before .before .before .before .before .before .before .before .before .before .before .before)) (now (c .before .before .before .before .before .before .before .before .before .before .before .before .before .before .before .before .before .before .before .before .before .before .before .before .before .before .before .before .before .args .output)) (now (c .before .before .before .before .before .before .before .before .before .before .before .before .before .before .before .before .before .before .before .before .before .before .before .before .before .before .before .before .before .args .spare)) _ (led (c .before .before .before)))
+draw-overlay-requires-2 c κs =
+    let after-plan = c .before .before .before .before .before .before .before .before .before .before .before .before in
+    let after-count = after-plan .before .before .before .before .before .before .before .before in
+    let start = after-count .before .before .before .before .before .before .before .before .before in (
+      ready after-plan .sound,
+      first-spare _ _ (ready after-plan .judged) _ _ (ready after-plan .inRange) _ (formed after-plan) (now (start .args .output))
+          (now (start .args .spare)) _ (led (c .before .before .before)),
+    )
 
 finish-scene-requires-2 : tie.Need-finish-scene-requires-2
-finish-scene-requires-2 c κs = ready-spare _ _ (ready (c .before .before .before .before .before .before .before .before .before .before .before .before .before .before .before .before .before) .judged) _ _ (ready (c .before .before .before .before .before .before .before .before .before .before .before .before .before .before .before .before .before) .tame) _ (formed (c .before .before .before .before .before .before .before .before .before .before .before .before .before .before .before .before .before)) _ _ _ (led (c .before .before .before .before .before .before .before .before)) _ (c .before .before .before .before .before .before .if2 .left) (c .before .before .before .before .draw-overlay2 .ensures .1)
+finish-scene-requires-2 c κs =
+    let draw-overlay2 = c .before .before .before .before .draw-overlay2 in
+    let if2 = c .before .before .before .before .before .before .if2 in
+    let after-held = c .before .before .before .before .before .before .before .before in
+    let after-plan = after-held .before .before .before .before .before .before .before .before .before in
+    ready-spare _ _ (ready after-plan .judged) _ _ (ready after-plan .inRange) _ (formed after-plan) _ _ _ (led after-held) _ (if2 .left)
+    (draw-overlay2 .ensures .1)
 
 returns-4 : tie.Need-returns-4
-returns-4 c = scene-refused _ _ _ _ (overlay-chain _ _ _ _ _ _ _ _ (sym (c .before .before .before .before .before .before .before .read-number .ensures) ∙ c .before .before .before .before .before .count .given .1) _ (sym (c .before .before .before .check-chain .ensures) ∙ ap chainOut (c .before .e .given .1)) _ _)
+returns-4 c =
+    let count = c .before .before .before .before .before .count in
+    let read-number = c .before .before .before .before .before .before .before .read-number in
+    scene-refused _ _ _ _
+    (overlay-chain _ _ _ _ _ _ _ _ (sym (read-number .ensures) ∙ count .given .1) _
+    (sym (c .before .before .before .check-chain .ensures) ∙ ap chainOut (c .before .e .given .1)) _ _)
 
 returns-5 : tie.Need-returns-5
-returns-5 c = scene-refused _ _ _ _ (overlay-inputs _ _ _ _ _ _ _ _ (sym (c .before .before .before .before .before .before .before .before .before .before .before .read-number .ensures) ∙ c .before .before .before .before .before .before .before .before .before .count .given .1) _ (sym (c .before .before .before .before .before .before .before .check-chain .ensures) ∙ ap chainOut (c .before .before .before .before .before .c .given .1)) _ (sym (c .before .before .before .read-inputs .ensures) ∙ ap planOut (c .before .e2 .given .1)) _ _)
+returns-5 c =
+    let c′ = c .before .before .before .before .before .c in
+    let check-chain = c .before .before .before .before .before .before .before .check-chain in
+    let after-count = c .before .before .before .before .before .before .before .before .before in
+    let count = after-count .count in
+    let read-number = after-count .before .before .read-number in
+    scene-refused _ _ _ _
+    (overlay-inputs _ _ _ _ _ _ _ _ (sym (read-number .ensures) ∙ count .given .1) _ (sym (check-chain .ensures) ∙ ap chainOut (c′ .given .1)) _
+    (sym (c .before .before .before .read-inputs .ensures) ∙ ap planOut (c .before .e2 .given .1)) _ _)
 
 returns-6 : tie.Need-returns-6
-returns-6 c = scene-refused _ _ _ _ (ready (c .before .before .before .before .before .before .before .before .before .before) .is _ _ ∙ refuse-no _ _ (above-is _ _ _ _ _ _ (c .before .before .before .before .before .before .top .ensures) (c .before .before .before .before .before .alpha-above .ensures) ∙ c .before .before .before .before .if1 .left) ∙ held-refused _ _ _ (ready (c .before .before .before .before .before .before .before .before .before .before) .tame) _ (formed (c .before .before .before .before .before .before .before .before .before .before)) _ _ _ (sym (then-done _ (ready (c .before .before .before .before .before .before .before .before .before .before) .judged .read)) ∙ sym (c .before .before .before .plan-scene .ensures) ∙ ap heldOut (c .before .e3 .given .1)))
+returns-6 c =
+    let if1 = c .before .before .before .before .if1 in
+    let alpha-above = c .before .before .before .before .before .alpha-above in
+    let top = c .before .before .before .before .before .before .top in
+    let after-plan = c .before .before .before .before .before .before .before .before .before .before in
+    scene-refused _ _ _ _
+    (ready after-plan .is _ _
+    ∙ refuse-no _ _ (above-is _ _ _ _ _ _ (top .ensures) (alpha-above .ensures) ∙ if1 .left)
+    ∙ held-refused _ _ _ (ready after-plan .inRange) _ (formed after-plan) _ _ _
+    (sym (then-done _ (ready after-plan .judged .read))
+    ∙ sym (c .before .before .before .plan-scene .ensures)
+    ∙ ap currentOut (c .before .e3 .given .1)))
 
 same-length-3 : tie.Need-same-length-3
 same-length-3 c = search needs
@@ -119,7 +210,19 @@ same-length-4 : tie.Need-same-length-4
 same-length-4 c = search needs
 
 returns-7 : tie.Need-returns-7
-returns-7 c = scene-spare _ _ (ready (c .before .before .before .before .before .before .before .before .before .before .before .before .before .before .before .before .before .before .before .before .before .before) .judged) _ _ (ready (c .before .before .before .before .before .before .before .before .before .before .before .before .before .before .before .before .before .before .before .before .before .before) .tame) _ (formed (c .before .before .before .before .before .before .before .before .before .before .before .before .before .before .before .before .before .before .before .before .before .before)) _ _ _ (led (c .before .before .before .before .before .before .before .before .before .before .before .before .before)) _ _ (ready (c .before .before .before .before .before .before .before .before .before .before .before .before .before .before .before .before .before .before .before .before .before .before) .is _ _ ∙ refuse-no _ _ (above-is _ _ _ _ _ _ (c .before .before .before .before .before .before .before .before .before .before .before .before .before .before .before .before .before .before .top .ensures) (c .before .before .before .before .before .before .before .before .before .before .before .before .before .before .before .before .before .alpha-above .ensures) ∙ c .before .before .before .before .before .before .before .before .before .before .before .before .before .before .before .before .if1 .left)) _ _ _ (c .before .before .before .before .before .before .before .before .before .before .before .if2 .left) (c .before .before .before .before .before .before .before .before .before .draw-overlay2 .ensures .1) (c .before .before .before .before .finish-scene2 .ensures)
+returns-7 c =
+    let finish-scene2 = c .before .before .before .before .finish-scene2 in
+    let after-draw-overlay2 = c .before .before .before .before .before .before .before .before .before in
+    let draw-overlay2 = after-draw-overlay2 .draw-overlay2 in
+    let if2 = after-draw-overlay2 .before .before .if2 in
+    let after-held = after-draw-overlay2 .before .before .before .before in
+    let if1 = after-held .before .before .before .if1 in
+    let alpha-above = after-held .before .before .before .before .alpha-above in
+    let top = after-held .before .before .before .before .before .top in
+    let after-plan = after-held .before .before .before .before .before .before .before .before .before in
+    scene-spare _ _ (ready after-plan .judged) _ _ (ready after-plan .inRange) _ (formed after-plan) _ _ _ (led after-held) _ _
+    (ready after-plan .is _ _ ∙ refuse-no _ _ (above-is _ _ _ _ _ _ (top .ensures) (alpha-above .ensures) ∙ if1 .left)) _ _ _ (if2 .left)
+    (draw-overlay2 .ensures .1) (finish-scene2 .ensures)
 
 pub overlay-scene-spec : {M : Type 1} → statement M
 overlay-scene-spec =

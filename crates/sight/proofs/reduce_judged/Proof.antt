@@ -20,7 +20,10 @@ use Rattle.sight.proofs.Sight.after_entry.Reads as after-entry-reads
 use Rattle.sight.proofs.Sight.new.Reads as new-reads
 
 abbrev Inv-loop : tie.InvT-loop
-Inv-loop s essential-only width height next₀ left₀ reached₀ next left reached = (rest : List PropertyEntry) × (entriesAt left s next ≡ done rest) × (andThen (entriesAt left₀ s next₀) (λ es. sightOf es essential-only width height) ≡ foldChain sightAfter essential-only rest reached) × Bounded (reached .area)
+Inv-loop s essential-only width height next₀ left₀ reached₀ next left reached =
+    (rest : List PropertyEntry) × (entriesAt left s next ≡ done rest)
+    × (andThen (entriesAt left₀ s next₀) (λ es. sightOf es essential-only width height) ≡ foldChain sightAfter essential-only rest reached)
+    × Bounded (reached .area)
 
 abbrev μ-loop : tie.MeasureT-loop
 μ-loop s essential-only width height next₀ left₀ reached₀ next left reached = left
@@ -29,7 +32,13 @@ new-requires : tie.Need-new-requires Inv-loop μ-loop
 new-requires c κs = search needs
 
 loop-holds : tie.Need-loop-holds Inv-loop μ-loop
-loop-holds c = (c .before .before .pre .entries, c .before .before .pre .read, then-done _ (c .before .before .pre .read) ∙ sight-start (c .before .before .pre .entries) _ _ _ _ (c .new .ensures), start-bounded _ _ _ (c .new .ensures) (omega (arith, c .before .before .fits .width)) (omega (arith, c .before .before .fits .height)))
+loop-holds c =
+    let start = c .before .before in (
+      start .pre .entries,
+      start .pre .read,
+      then-done _ (start .pre .read) ∙ sight-start (start .pre .entries) _ _ _ _ (c .new .ensures),
+      start-bounded _ _ _ (c .new .ensures) (omega (arith, start .fits .width)) (omega (arith, start .fits .height)),
+    )
 
 read-entry-requires : tie.Need-read-entry-requires Inv-loop μ-loop
 read-entry-requires c κs = search needs
@@ -50,7 +59,15 @@ enum-known-r : tie.Need-enum-known-r Inv-loop μ-loop
 enum-known-r c = search needs
 
 returns-2 : tie.Need-returns-2 Inv-loop μ-loop
-returns-2 c = sym (c .before .before .before .before .before .before .before .before .before .before .loop .inv .2 ∙ along-refused _ _ _ _ _ _ _ (c .before .before .before .before .before .before .before .before .before .before .loop .inv .1) _ _ (c .before .before .before .before .before .before .before .before .before .loop-test .taken) (sym (c .before .before .before .before .before .before .before .before .read-entry .ensures) ∙ ap entryOut (c .before .before .before .before .before .before .e .given .1)) (sym (c .before .before .before .after-entry .ensures) ∙ ap sightOut (c .before .r .given .1)))
+returns-2 c =
+    let e = c .before .before .before .before .before .before .e in
+    let read-entry = c .before .before .before .before .before .before .before .before .read-entry in
+    let in-loop = c .before .before .before .before .before .before .before .before .before in
+    let loop-test = in-loop .loop-test in
+    let loop = in-loop .before .loop in
+    sym (loop .inv .2
+    ∙ along-refused _ _ _ _ _ _ _ (loop .inv .1) _ _ (loop-test .taken) (sym (read-entry .ensures) ∙ ap entryOut (e .given .1))
+    (sym (c .before .before .before .after-entry .ensures) ∙ ap sightOut (c .before .r .given .1)))
 
 enum-known-z : tie.Need-enum-known-z Inv-loop μ-loop
 enum-known-z c = search needs
@@ -62,7 +79,15 @@ loop-less : tie.Need-loop-less Inv-loop μ-loop
 loop-less c = search needs
 
 loop-again : tie.Need-loop-again Inv-loop μ-loop
-loop-again c = let q = sym (c .before .before .before .after-entry .ensures) ∙ ap sightOut (c .before .z .given .1) in let k = along-step _ _ _ _ _ _ _ (c .before .before .before .before .before .before .before .before .before .before .loop .inv .1) _ _ (c .before .before .before .before .before .before .before .before .before .loop-test .taken) (sym (c .before .before .before .before .before .before .before .before .read-entry .ensures) ∙ ap entryOut (c .before .before .before .before .before .before .e .given .1)) q in (k .0, k .1, c .before .before .before .before .before .before .before .before .before .before .loop .inv .2 ∙ k .2, entry-bounded _ _ _ _ (c .before .before .before .before .before .before .before .before .before .before .loop .inv .3) q)
+loop-again c =
+    let e = c .before .before .before .before .before .before .e in
+    let read-entry = c .before .before .before .before .before .before .before .before .read-entry in
+    let in-loop = c .before .before .before .before .before .before .before .before .before in
+    let loop-test = in-loop .loop-test in
+    let loop = in-loop .before .loop in
+    let q = sym (c .before .before .before .after-entry .ensures) ∙ ap sightOut (c .before .z .given .1) in
+    let k = along-step _ _ _ _ _ _ _ (loop .inv .1) _ _ (loop-test .taken) (sym (read-entry .ensures) ∙ ap entryOut (e .given .1)) q in
+    (k .0, k .1, loop .inv .2 ∙ k .2, entry-bounded _ _ _ _ (loop .inv .3) q)
 
 returns-3 : tie.Need-returns-3 Inv-loop μ-loop
 returns-3 c = sym (c .before .loop .inv .2 ∙ along-end _ _ _ _ _ _ _ (c .before .loop .inv .1) (c .loop-test .left))

@@ -3,15 +3,14 @@ use mathlib.Core.Bool.{true}
 use mathlib.Core.Path.{_≡_}
 use Prim.Native.Nat.{_<_, ℕ}
 use Rattle.laws.specs.Out.{Out, done, reason, refused}
-use Rattle.image.specs.Format.{hasPart}
-use Rattle.image.specs.Picture.{Pic, pixel}
-use Rattle.image.specs.inner.Even.{Even}
+use Rattle.image.specs.Format.{hasPart, Covers}
+use Rattle.planes.specs.Picture.{Pic, pixel}
+use Rattle.planes.specs.inner.Even.{Even}
 use Rattle.image.specs.declared.format.Part.{Part}
 use Rattle.props.specs.Sound.{Inside}
 use Rattle.transform.specs.Place.{Place}
 use Rattle.sight.specs.Sight.{back, finalHeight, finalWidth}
 use Rattle.sight.specs.declared.Sight.{Sight}
-use Rattle.sight.specs.Seen.{Covers}
 
 -- Q is the final size and has the planes and depth of P; every sample of it, at every place that it covers, is what P reads at the
 -- place that the sight names; the rectangle lies in P, and no two final places name one place of P
@@ -29,7 +28,7 @@ pub record Seen (P Q : Pic) (s : Sight) : Type 0 where
       → back s x y ≡ back s u v → (x ≡ u) × (y ≡ v)
 
 -- a final place that names the place l of P: every sample that covers it is what P reads there
-pub record Named (P Q : Pic) (x y : ℕ) (l : Place) : Type 0 where
+pub record NamesPlace (P Q : Pic) (x y : ℕ) (l : Place) : Type 0 where
   pub across : x < Q .form .width
   pub down : y < Q .form .height
   pub column : l .x < P .form .width
@@ -39,4 +38,4 @@ pub record Named (P Q : Pic) (x y : ℕ) (l : Place) : Type 0 where
 -- what is answered at a final place: 18 exactly where it is outside Q
 unfoldable pub PlaceAgrees : Pic → Pic → ℕ → ℕ → Out Place → Type 0
 PlaceAgrees P Q x y (refused r) = (r ≡ reason 18) × (x < Q .form .width → y < Q .form .height → ⊥)
-PlaceAgrees P Q x y (done l) = Named P Q x y l
+PlaceAgrees P Q x y (done l) = NamesPlace P Q x y l

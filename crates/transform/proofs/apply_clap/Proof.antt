@@ -5,7 +5,7 @@ use borrow.Author.Needs.{needs}
 use Rattle.laws.proofs.Out.{answers-as, refused-answers, then-refused}
 use Rattle.laws.specs.Out.{done, fitted}
 use Rattle.image.proofs.RecordLaws.{whole-sound}
-use Rattle.image.specs.Bytes.{decode, encode}
+use Rattle.planes.specs.Bytes.{decode, encode}
 use Rattle.image.specs.Record.{frameOut, recordOf}
 use Rattle.props.proofs.ApertureLaws.{refused-no-rect}
 use Rattle.props.specs.Aperture.{resolveOf, resolvedOut}
@@ -26,7 +26,10 @@ use Rattle.transform.proofs.draw.Reads as draw-reads
 taken : (c : tie.After-f) → recordOf (now (c .before .before .before .before .before .args .«record»)) ≡ done (c .f .given .0 .0)
 taken c = sym (c .before .before .parse-record .ensures) ∙ ap frameOut (c .f .given .1)
 
-cut : (c : tie.After-found) → resolveOf (c .before .before .before .before .before .before .before .before .before .before .args .clap) (c .before .before .before .before .before .f .given .0 .0 .form .width) (c .before .before .before .before .before .f .given .0 .0 .form .height) ≡ done (c .found .given .0 .0)
+cut : (c : tie.After-found)
+    → let f = c .before .before .before .before .before .f in
+    let start = c .before .before .before .before .before .before .before .before .before .before in
+    resolveOf (start .args .clap) (f .given .0 .0 .form .width) (f .given .0 .0 .form .height) ≡ done (c .found .given .0 .0)
 cut c = sym (c .before .before .resolve .ensures) ∙ ap resolvedOut (c .found .given .1)
 
 parse-record-requires : tie.Need-parse-record-requires
@@ -67,7 +70,17 @@ same-length : tie.Need-same-length
 same-length c = search needs
 
 returns-3 : tie.Need-returns-3
-returns-3 c = answers-as _ _ _ _ _ (clap-drawn _ _ (taken ((c .before .before .before .before .before .before .before .before .before .before .before))) _ _ _ (cut ((c .before .before .before .before .before .before))) ∙ ap (λ (v : Move). fitted (length (now (c .before .before .before .before .before .before .before .before .before .before .before .before .before .before .before .before .args .out))) (encode (moved v (decode (now (c .before .before .before .before .before .before .before .before .before .before .before .before .before .before .before .before .args .«record»)) (c .before .before .before .before .before .before .before .before .before .before .before .f .given .0 .0))))) (sym (c .before .before .before .before .crop-move .ensures))) (c .before .before .draw .ensures)
+returns-3 c =
+    let crop-move = c .before .before .before .before .crop-move in
+    let after-found = c .before .before .before .before .before .before in
+    let after-f = after-found .before .before .before .before .before in
+    let f = after-f .f in
+    let start = after-f .before .before .before .before .before in
+    answers-as _ _ _ _ _
+    (clap-drawn _ _ (taken after-f) _ _ _ (cut after-found)
+    ∙ ap (λ (v : Move). fitted (length (now (start .args .out))) (encode (moved v (decode (now (start .args .«record»)) (f .given .0 .0)))))
+    (sym (crop-move .ensures)))
+    (c .before .before .draw .ensures)
 
 pub apply-clap-spec : {M : Type 1} → statement M
 apply-clap-spec =

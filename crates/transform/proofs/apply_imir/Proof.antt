@@ -5,8 +5,8 @@ use borrow.Author.Needs.{needs}
 use Rattle.laws.proofs.Out.{answers-as, refused-answers, then-refused}
 use Rattle.laws.specs.Out.{done, fitted}
 use Rattle.image.proofs.RecordLaws.{whole-sound}
-use Rattle.image.specs.Bytes.{decode, encode}
-use Rattle.image.specs.Picture.{odd}
+use Rattle.planes.specs.Bytes.{decode, encode}
+use Rattle.image.specs.Format.{odd}
 use Rattle.image.specs.Record.{frameOut, recordOf}
 use Rattle.transform.proofs.Fits.{mirror-fits}
 use Rattle.transform.proofs.Runs.{mirror-run}
@@ -48,7 +48,16 @@ same-length c = search needs
 
 returns-2 : tie.Need-returns-2
 unfolding odd
-returns-2 c = answers-as _ _ _ _ _ (mirror-run _ _ (taken (c .before .before .before .before .before .before .before .before)) _ (c .before .before .before .before .before .before .before .before .before .before .before .before .before .args .imir) ∙ ap (λ (v : Move). fitted (length (now (c .before .before .before .before .before .before .before .before .before .before .before .before .before .args .out))) (encode (moved v (decode (now (c .before .before .before .before .before .before .before .before .before .before .before .before .before .args .«record»)) (c .before .before .before .before .before .before .before .before .f .given .0 .0))))) (sym (c .before .before .before .before .mirror-move .ensures))) (c .before .before .draw .ensures)
+returns-2 c =
+    let mirror-move = c .before .before .before .before .mirror-move in
+    let after-f = c .before .before .before .before .before .before .before .before in
+    let f = after-f .f in
+    let start = after-f .before .before .before .before .before in
+    answers-as _ _ _ _ _
+    (mirror-run _ _ (taken after-f) _ (start .args .imir)
+    ∙ ap (λ (v : Move). fitted (length (now (start .args .out))) (encode (moved v (decode (now (start .args .«record»)) (f .given .0 .0)))))
+    (sym (mirror-move .ensures)))
+    (c .before .before .draw .ensures)
 
 pub apply-imir-spec : {M : Type 1} → statement M
 apply-imir-spec =

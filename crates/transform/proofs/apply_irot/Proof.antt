@@ -8,7 +8,7 @@ use borrow.Author.Needs.{needs}
 use Rattle.laws.proofs.Out.{answers-as, refused-answers, then-refused}
 use Rattle.laws.specs.Out.{Out, done, fitted}
 use Rattle.image.proofs.RecordLaws.{whole-sound}
-use Rattle.image.specs.Bytes.{decode, encode}
+use Rattle.planes.specs.Bytes.{decode, encode}
 use Rattle.image.specs.Record.{frameOut, recordOf}
 use Rattle.image.specs.inner.Placed.{Sound}
 use Rattle.transform.proofs.Fits.{half-fits, quarter-fits}
@@ -23,7 +23,7 @@ use Rattle.transform.proofs.apply_irot.Lts as lts
 use Rattle.image.proofs.parse_record.Reads as parse-record-reads
 use Rattle.transform.proofs.draw.Reads as draw-reads
 use Rattle.transform.proofs.half_move.Reads as half-move-reads
-use Rattle.image.proofs.hand_back.Reads as hand-back-reads
+use Rattle.planes.proofs.hand_back.Reads as hand-back-reads
 use Rattle.transform.proofs.quarter_move.Reads as quarter-move-reads
 
 taken : (c : tie.After-f) → recordOf (now (c .before .before .before .before .before .args .«record»)) ≡ done (c .f .given .0 .0)
@@ -52,7 +52,11 @@ same-length : tie.Need-same-length
 same-length c = search needs
 
 returns : tie.Need-returns
-returns c = answers-as _ _ _ _ _ (turn-none _ _ (taken (c .before .before .before .before .before .before .before .before)) _ (c .before .before .before .before .before .before .before .before .before .before .before .before .before .args .irot) (c .before .before .before .before .if1 .taken)) (c .before .before .hand-back .ensures)
+returns c =
+    let if1 = c .before .before .before .before .if1 in
+    let after-f = c .before .before .before .before .before .before .before .before in
+    let start = after-f .before .before .before .before .before in
+    answers-as _ _ _ _ _ (turn-none _ _ (taken after-f) _ (start .args .irot) (if1 .taken)) (c .before .before .hand-back .ensures)
 
 quarter-move-requires : tie.Need-quarter-move-requires
 quarter-move-requires c κs = sound (c .before .before .before .before .before) .form
@@ -65,7 +69,13 @@ same-length-2 c = search needs
 
 returns-2 : tie.Need-returns-2
 unfolding drawn
-returns-2 c = answers-as _ _ _ _ _ (turn-left _ _ (taken (c .before .before .before .before .before .before .before .before .before .before)) _ (c .before .before .before .before .before .before .before .before .before .before .before .before .before .before .before .args .irot) (c .before .before .before .before .before .if2 .taken) ∙ ap (drawn (c .before .before .before .before .before .before .before .before .before .before)) (sym (c .before .before .before .before .quarter-move .ensures))) (c .before .before .draw .ensures)
+returns-2 c =
+    let quarter-move = c .before .before .before .before .quarter-move in
+    let if2 = c .before .before .before .before .before .if2 in
+    let after-f = c .before .before .before .before .before .before .before .before .before .before in
+    let start = after-f .before .before .before .before .before in
+    answers-as _ _ _ _ _ (turn-left _ _ (taken after-f) _ (start .args .irot) (if2 .taken) ∙ ap (drawn after-f) (sym (quarter-move .ensures)))
+    (c .before .before .draw .ensures)
 
 half-move-requires : tie.Need-half-move-requires
 half-move-requires c κs = sound (c .before .before .before .before .before .before) .form
@@ -78,7 +88,13 @@ same-length-3 c = search needs
 
 returns-3 : tie.Need-returns-3
 unfolding drawn
-returns-3 c = answers-as _ _ _ _ _ (turn-half _ _ (taken (c .before .before .before .before .before .before .before .before .before .before .before)) _ (c .before .before .before .before .before .before .before .before .before .before .before .before .before .before .before .before .args .irot) (c .before .before .before .before .before .if3 .taken) ∙ ap (drawn (c .before .before .before .before .before .before .before .before .before .before .before)) (sym (c .before .before .before .before .half-move .ensures))) (c .before .before .draw2 .ensures)
+returns-3 c =
+    let half-move = c .before .before .before .before .half-move in
+    let if3 = c .before .before .before .before .before .if3 in
+    let after-f = c .before .before .before .before .before .before .before .before .before .before .before in
+    let start = after-f .before .before .before .before .before in
+    answers-as _ _ _ _ _ (turn-half _ _ (taken after-f) _ (start .args .irot) (if3 .taken) ∙ ap (drawn after-f) (sym (half-move .ensures)))
+    (c .before .before .draw2 .ensures)
 
 quarter-move-requires-2 : tie.Need-quarter-move-requires-2
 quarter-move-requires-2 c κs = sound (c .before .before .before .before .before .before) .form
@@ -95,7 +111,16 @@ same-length-4 c = search needs
 
 returns-5 : tie.Need-returns-5
 unfolding drawn
-returns-5 c = answers-as _ _ _ _ _ (turn-right _ _ (taken (c .before .before .before .before .before .before .before .before .before .before .before)) _ (c .before .before .before .before .before .before .before .before .before .before .before .before .before .before .before .before .args .irot) (c .before .before .before .before .before .before .before .if1 .left) (c .before .before .before .before .before .before .if2 .left) (c .before .before .before .before .before .if3 .left) ∙ ap (drawn (c .before .before .before .before .before .before .before .before .before .before .before)) (sym (c .before .before .before .before .quarter-move2 .ensures))) (c .before .before .draw3 .ensures)
+returns-5 c =
+    let quarter-move2 = c .before .before .before .before .quarter-move2 in
+    let if3 = c .before .before .before .before .before .if3 in
+    let if2 = c .before .before .before .before .before .before .if2 in
+    let if1 = c .before .before .before .before .before .before .before .if1 in
+    let after-f = c .before .before .before .before .before .before .before .before .before .before .before in
+    let start = after-f .before .before .before .before .before in
+    answers-as _ _ _ _ _
+    (turn-right _ _ (taken after-f) _ (start .args .irot) (if1 .left) (if2 .left) (if3 .left) ∙ ap (drawn after-f) (sym (quarter-move2 .ensures)))
+    (c .before .before .draw3 .ensures)
 
 pub apply-irot-spec : {M : Type 1} → statement M
 apply-irot-spec =

@@ -5,7 +5,7 @@ use borrow.Author.Needs.{needs}
 use Rattle.laws.proofs.Out.{answers-as, refused-answers, then-refused}
 use Rattle.laws.specs.Out.{done, fitted}
 use Rattle.image.proofs.RecordLaws.{whole-sound}
-use Rattle.image.specs.Bytes.{decode, encode}
+use Rattle.planes.specs.Bytes.{decode, encode}
 use Rattle.image.specs.Record.{frameOut, recordOf}
 use Rattle.transform.proofs.Runs.{crop-below, crop-flat, crop-inside, crop-right, crop-thin}
 use Rattle.transform.specs.inner.Move.{moved}
@@ -50,7 +50,11 @@ add-if3 : tie.Need-add-if3
 add-if3 c = search needs
 
 returns-3 : tie.Need-returns-3
-returns-3 c = refused-answers _ _ _ (crop-right _ _ (taken (c .before .before .before .before .before .before .before .before .before .before)) _ _ (c .before .before .before .before .before .before .if1 .left) (c .before .before .before .before .if2 .left) (c .if3 .taken))
+returns-3 c =
+    let if2 = c .before .before .before .before .if2 in
+    let if1 = c .before .before .before .before .before .before .if1 in
+    let after-f = c .before .before .before .before .before .before .before .before .before .before in
+    refused-answers _ _ _ (crop-right _ _ (taken after-f) _ _ (if1 .left) (if2 .left) (c .if3 .taken))
 
 cast-if4 : tie.Need-cast-if4
 cast-if4 c = search needs
@@ -65,13 +69,27 @@ add-if4 : tie.Need-add-if4
 add-if4 c = search needs
 
 returns-4 : tie.Need-returns-4
-returns-4 c = refused-answers _ _ _ (crop-below _ _ (taken (c .before .before .before .before .before .before .before .before .before .before .before .before .before .before)) _ _ (c .before .before .before .before .before .before .before .before .before .before .if1 .left) (c .before .before .before .before .before .before .before .before .if2 .left) (c .before .before .before .before .if3 .left) (c .if4 .taken))
+returns-4 c =
+    let if3 = c .before .before .before .before .if3 in
+    let if2 = c .before .before .before .before .before .before .before .before .if2 in
+    let else1 = c .before .before .before .before .before .before .before .before .before .before in
+    let if1 = else1 .if1 in
+    let after-f = else1 .before .before .before .before in
+    refused-answers _ _ _ (crop-below _ _ (taken after-f) _ _ (if1 .left) (if2 .left) (if3 .left) (c .if4 .taken))
 
 crop-move-requires : tie.Need-crop-move-requires
 crop-move-requires c κs = search needs
 
 draw-requires : tie.Need-draw-requires
-draw-requires c κs = (whole-sound _ _ (taken (c .before .before .before .before .before .before .before .before .before .before .before .before .before .before .before .before)) .0, rw (c .before .crop-move .ensures) (crop-inside _ _ (taken (c .before .before .before .before .before .before .before .before .before .before .before .before .before .before .before .before)) _ 0 (c .before .before .before .before .before .before .before .before .before .before .before .before .if1 .left) (c .before .before .before .before .before .before .before .before .before .before .if2 .left) (c .before .before .before .before .before .before .if3 .left) (c .before .before .if4 .left) .0))
+draw-requires c κs =
+    let if3 = c .before .before .before .before .before .before .if3 in
+    let else2 = c .before .before .before .before .before .before .before .before .before .before in
+    let if2 = else2 .if2 in
+    let if1 = else2 .before .before .if1 in
+    let after-f = else2 .before .before .before .before .before .before in (
+      whole-sound _ _ (taken after-f) .0,
+      rw (c .before .crop-move .ensures) (crop-inside _ _ (taken after-f) _ 0 (if1 .left) (if2 .left) (if3 .left) (c .before .before .if4 .left) .0),
+    )
 
 returns-5 : tie.Need-returns-5
 unfolding cropRun
@@ -81,7 +99,21 @@ same-length : tie.Need-same-length
 same-length c = search needs
 
 returns-6 : tie.Need-returns-6
-returns-6 c = answers-as _ _ _ _ _ (crop-inside _ _ (taken (c .before .before .before .before .before .before .before .before .before .before .before .before .before .before .before .before .before .before .before)) _ _ (c .before .before .before .before .before .before .before .before .before .before .before .before .before .before .before .if1 .left) (c .before .before .before .before .before .before .before .before .before .before .before .before .before .if2 .left) (c .before .before .before .before .before .before .before .before .before .if3 .left) (c .before .before .before .before .before .if4 .left) .1 ∙ ap (λ (v : Move). fitted (length (now (c .before .before .before .before .before .before .before .before .before .before .before .before .before .before .before .before .before .before .before .before .before .before .before .before .args .out))) (encode (moved v (decode (now (c .before .before .before .before .before .before .before .before .before .before .before .before .before .before .before .before .before .before .before .before .before .before .before .before .args .«record»)) (c .before .before .before .before .before .before .before .before .before .before .before .before .before .before .before .before .before .before .before .f .given .0 .0))))) (sym (c .before .before .before .before .crop-move .ensures))) (c .before .before .draw .ensures)
+returns-6 c =
+    let crop-move = c .before .before .before .before .crop-move in
+    let if4 = c .before .before .before .before .before .if4 in
+    let else3 = c .before .before .before .before .before .before .before .before .before in
+    let if3 = else3 .if3 in
+    let if2 = else3 .before .before .before .before .if2 in
+    let if1 = else3 .before .before .before .before .before .before .if1 in
+    let after-f = else3 .before .before .before .before .before .before .before .before .before .before in
+    let f = after-f .f in
+    let start = after-f .before .before .before .before .before in
+    answers-as _ _ _ _ _
+    (crop-inside _ _ (taken after-f) _ _ (if1 .left) (if2 .left) (if3 .left) (if4 .left) .1
+    ∙ ap (λ (v : Move). fitted (length (now (start .args .out))) (encode (moved v (decode (now (start .args .«record»)) (f .given .0 .0)))))
+    (sym (crop-move .ensures)))
+    (c .before .before .draw .ensures)
 
 pub crop-spec : {M : Type 1} → statement M
 crop-spec =

@@ -47,14 +47,22 @@ cast-t13 c = search needs
 returns : tie.Need-returns
 unfolding cropMove cropWith
 returns c =
+    let needs-444 = c .before .before .before .before .needs-444 in
+    let either2 = c .before .before .before .before .before .before .either2 in
+    let is-odd4 = c .before .before .before .before .before .before .before .is-odd4 in
+    let is-odd3 = c .before .before .before .before .before .before .before .before .is-odd3 in
+    let after-either = c .before .before .before .before .before .before .before .before .before in
+    let either = after-either .either in
+    let is-odd2 = after-either .before .is-odd2 in
+    let is-odd = after-either .before .before .is-odd in
     simp (
-      sym (c .before .before .before .before .before .before .before .before .before .before .before .is-odd .ensures),
-      sym (c .before .before .before .before .before .before .before .before .before .before .is-odd2 .ensures),
-      sym (c .before .before .before .before .before .before .before .before .before .either .ensures),
-      sym (c .before .before .before .before .before .before .before .before .is-odd3 .ensures),
-      sym (c .before .before .before .before .before .before .before .is-odd4 .ensures),
-      sym (c .before .before .before .before .before .before .either2 .ensures),
-      sym (c .before .before .before .before .needs-444 .ensures),
+      sym (is-odd .ensures),
+      sym (is-odd2 .ensures),
+      sym (either .ensures),
+      sym (is-odd3 .ensures),
+      sym (is-odd4 .ensures),
+      sym (either2 .ensures),
+      sym (needs-444 .ensures),
       sym (c .before .before .before .form-with .ensures),
       sym (c .before .before .sized .ensures),
     )

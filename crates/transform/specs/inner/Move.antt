@@ -6,14 +6,14 @@ use Prim.Native.Nat.{_*_, _+_, _-_, _<_, _^_, _≤_, ℕ}
 use lib.ListN.{length}
 use Rattle.laws.specs.Pick.{pick}
 use Rattle.laws.specs.Span.{span}
-use Rattle.image.specs.Bytes.{sampleIn, samplesOf}
-use Rattle.image.specs.Format.{bytesOf, columnsOf, cover, halfX, halfY, hasPart, rowsOf}
-use Rattle.image.specs.Picture.{Pic, as444, needs444, odd, promote, sized}
+use Rattle.planes.specs.Bytes.{sampleIn, samplesOf}
+use Rattle.image.specs.Format.{bytesOf, columnsOf, cover, halfX, halfY, hasPart, rowsOf, as444, needs444, odd, sized}
+use Rattle.planes.specs.Picture.{Pic, promote}
 use Rattle.image.specs.Sound.{FormSound}
 use Rattle.image.specs.declared.format.Form.{Form}
 use Rattle.image.specs.declared.format.Part.{Part}
 use Rattle.image.specs.declared.format.PixelFormat.{PixelFormat}
-use Rattle.image.specs.declared.samples.Line.{Line}
+use Rattle.planes.specs.declared.samples.Line.{Line}
 use Rattle.props.specs.declared.clap.CropRect.{CropRect}
 use Rattle.transform.specs.Turn.{Quarter, lopsided, q0, q1, q2, q3}
 use Rattle.transform.specs.declared.moves.Axis.{Axis}
@@ -74,14 +74,14 @@ walkBytes d bytes stride w columns rows = span (λ y. samplesOf bytes (λ x. wal
 -- ---- what walking asks
 
 -- so many steps along an axis: none goes below 0
-pub record AxisFits (a : Axis) (count : ℕ) : Type 0 where
+pub record StepsFit (a : Axis) (count : ℕ) : Type 0 where
   pub small : a .from < 2 ^ 31
-  pub few : count < 2 ^ 31
+  pub bounded : count < 2 ^ 31
   pub behind : (k : ℕ) → k < count → a .back ≡ true → k ≤ a .from
 
 -- the row y of a walk
-pub record RowFits (w : Walk) (bytes stride y : ℕ) : Type 0 where
-  pub few : y < 2 ^ 31
+pub record WalkRowFits (w : Walk) (bytes stride y : ℕ) : Type 0 where
+  pub bounded : y < 2 ^ 31
   pub acrossSmall : w .across .from < 2 ^ 31
   pub downSmall : w .down .from < 2 ^ 31
   pub across : w .swapped ≡ true → w .across .back ≡ true → y ≤ w .across .from
@@ -91,11 +91,11 @@ pub record RowFits (w : Walk) (bytes stride y : ℕ) : Type 0 where
 
 -- every sample of the walk is inside the plane's bytes
 pub record WalkInside (d : List ℕ) (bytes stride : ℕ) (w : Walk) (columns rows : ℕ) : Type 0 where
-  pub some : 1 ≤ bytes
-  pub few : bytes ≤ 2
+  pub positive : 1 ≤ bytes
+  pub bounded : bytes ≤ 2
   pub row : stride < 2 ^ 32
-  pub across : AxisFits (w .across) (pick (w .swapped) rows columns)
-  pub down : AxisFits (w .down) (pick (w .swapped) columns rows)
+  pub across : StepsFit (w .across) (pick (w .swapped) rows columns)
+  pub down : StepsFit (w .down) (pick (w .swapped) columns rows)
   pub inside : (x y : ℕ) → x < columns → y < rows → walkY w x y * stride + walkX w x y * bytes + bytes ≤ length d
 
 -- a move that every plane of a form can make
@@ -103,8 +103,8 @@ pub record MoveFits (m : Form) (v : Move) : Type 0 where
   pub sound : FormSound (v .form)
   pub bytes : bytesOf (v .form .format) ≡ bytesOf (m .format)
   pub parts : (p : Part) → hasPart (v .form .format) p ≡ hasPart (m .format) p
-  pub across : (p : Part) → hasPart (m .format) p ≡ true → AxisFits (walkOf (m .format) v p .across) (pick (v .swapped) (rowsOf (v .form) p) (columnsOf (v .form) p))
-  pub down : (p : Part) → hasPart (m .format) p ≡ true → AxisFits (walkOf (m .format) v p .down) (pick (v .swapped) (columnsOf (v .form) p) (rowsOf (v .form) p))
+  pub across : (p : Part) → hasPart (m .format) p ≡ true → StepsFit (walkOf (m .format) v p .across) (pick (v .swapped) (rowsOf (v .form) p) (columnsOf (v .form) p))
+  pub down : (p : Part) → hasPart (m .format) p ≡ true → StepsFit (walkOf (m .format) v p .down) (pick (v .swapped) (columnsOf (v .form) p) (rowsOf (v .form) p))
   pub inside : (p : Part) → hasPart (m .format) p ≡ true → (x y : ℕ) → x < columnsOf (v .form) p → y < rowsOf (v .form) p
       → (walkX (walkOf (m .format) v p) x y < columnsOf m p) × (walkY (walkOf (m .format) v p) x y < rowsOf m p)
 

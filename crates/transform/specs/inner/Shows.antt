@@ -3,8 +3,8 @@ use mathlib.Core.Bool.{Bool, false, true}
 use mathlib.Core.Path.{_≡_}
 use Prim.Native.Nat.{_+_, _-_, _<_, ℕ}
 use Rattle.image.specs.Format.{hasPart}
-use Rattle.image.specs.Picture.{Pic, pixel}
-use Rattle.image.specs.inner.Even.{Even}
+use Rattle.planes.specs.Picture.{Pic, pixel}
+use Rattle.planes.specs.inner.Even.{Even}
 use Rattle.image.specs.declared.format.Part.{Part}
 use Rattle.props.specs.declared.clap.CropRect.{CropRect}
 use Rattle.transform.specs.Place.{Place}

@@ -3,15 +3,15 @@ use borrow.Author.Needs.{needs}
 use denote.Ref.{now}
 use Rattle.session.specs.declared.state.Canvas.{Canvas}
 use Rattle.session.specs.Session.{placeOf}
-use Rattle.capi.proofs.CanvasLaws.{drawn-answers, drawn-short, state-read, state-short}
+use Rattle.words.proofs.CanvasLaws.{drawn-answers, drawn-short, state-read, state-short}
 use Rattle.capi.proofs.canvas.compose_canvas_place.Statement.{statement}
-use Rattle.capi.specs.Canvas.{placeRun}
+use Rattle.words.specs.Canvas.{placeRun}
 use Rattle.capi.proofs.canvas.compose_canvas_place.Tie as tie
 use Rattle.capi.proofs.canvas.compose_canvas_place.Reads as reads
 use Rattle.capi.proofs.canvas.compose_canvas_place.Lts as lts
-use Rattle.capi.proofs.canvas.canvas_of.Reads as canvas-of-reads
-use Rattle.capi.proofs.canvas.keep.Reads as keep-reads
-use Rattle.capi.proofs.code.refusal_code.Reads as refusal-code-reads
+use Rattle.words.proofs.canvas_of.Reads as canvas-of-reads
+use Rattle.words.proofs.keep.Reads as keep-reads
+use Rattle.words.proofs.refusal_code.Reads as refusal-code-reads
 use Rattle.session.proofs.state.Canvas.place.Reads as place-reads
 
 refusal-code-requires : tie.Need-refusal-code-requires
@@ -38,7 +38,16 @@ same-length-2 c = search needs
 
 returns-2 : tie.Need-returns-2
 unfolding placeRun
-returns-2 c = drawn-answers _ _ _ _ _ _ _ _ _ (state-read _ _ (c .before .before .before .before .before .before .before .before .before .before .if1 .left) ∙ ap (λ (s : Canvas). placeOf s (c .before .before .before .before .before .before .before .before .before .before .before .before .before .before .args .index) (now (c .before .before .before .before .before .before .before .before .before .before .before .before .before .before .args .record)) (now (c .before .before .before .before .before .before .before .before .before .before .before .before .before .before .args .buffer))) (sym (c .before .before .before .before .before .before .before .before .canvas-of .ensures))) (c .before .before .before .before .before .before .place .ensures .0) (c .before .before .keep .ensures) (c .before .before .before .before .before .before .place .ensures .1)
+returns-2 c =
+    let place = c .before .before .before .before .before .before .place in
+    let canvas-of = c .before .before .before .before .before .before .before .before .canvas-of in
+    let else1 = c .before .before .before .before .before .before .before .before .before .before in
+    let if1 = else1 .if1 in
+    let start = else1 .before .before .before .before in
+    drawn-answers _ _ _ _ _ _ _ _ _
+    (state-read _ _ (if1 .left)
+    ∙ ap (λ (s : Canvas). placeOf s (start .args .index) (now (start .args .record)) (now (start .args .buffer))) (sym (canvas-of .ensures)))
+    (place .ensures .0) (c .before .before .keep .ensures) (place .ensures .1)
 
 pub compose-canvas-place-spec : {M : Type 1} → statement M
 compose-canvas-place-spec =

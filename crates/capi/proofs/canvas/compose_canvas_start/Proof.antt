@@ -1,15 +1,15 @@
 use mathlib.Core.Path.{_∙_}
 use borrow.Author.Needs.{needs}
 use Rattle.laws.proofs.Out.{fitted-room, fitted-short, then-done, then-refused}
-use Rattle.capi.proofs.CanvasLaws.{called-done, called-refused, start-words}
-use Rattle.capi.proofs.Codes.{done-code, refused-code}
+use Rattle.words.proofs.CanvasLaws.{called-done, called-refused, start-words}
+use Rattle.words.proofs.Codes.{done-code, refused-code}
 use Rattle.capi.proofs.canvas.compose_canvas_start.Statement.{statement}
-use Rattle.capi.specs.Canvas.{startRun, wordsOf}
+use Rattle.words.specs.Canvas.{startRun, wordsOf}
 use Rattle.capi.proofs.canvas.compose_canvas_start.Tie as tie
 use Rattle.capi.proofs.canvas.compose_canvas_start.Reads as reads
 use Rattle.capi.proofs.canvas.compose_canvas_start.Lts as lts
-use Rattle.capi.proofs.canvas.put_canvas.Reads as put-canvas-reads
-use Rattle.capi.proofs.code.refusal_code.Reads as refusal-code-reads
+use Rattle.words.proofs.put_canvas.Reads as put-canvas-reads
+use Rattle.words.proofs.refusal_code.Reads as refusal-code-reads
 use Rattle.session.proofs.state.Canvas.start.Reads as start-reads
 
 start-requires : tie.Need-start-requires
@@ -29,7 +29,11 @@ refusal-code-requires-2 c κs = search needs
 
 returns : tie.Need-returns
 unfolding startRun
-returns c = refused-code _ _ _ _ (then-done _ (called-done _ _ _ _ (c .before .before .before .before .start .ensures) (c .before .before .enum-told .given .1)) ∙ fitted-short _ _ (rw (start-words _ _ (called-done _ _ _ _ (c .before .before .before .before .start .ensures) (c .before .before .enum-told .given .1))) (c .before .if1 .taken))) (c .refusal-code2 .ensures)
+returns c =
+    let start-call = c .before .before .before .before .start in
+    let called-done′ = called-done _ _ _ _ (start-call .ensures) (c .before .before .enum-told .given .1) in
+    refused-code _ _ _ _ (then-done _ called-done′ ∙ fitted-short _ _ (rw (start-words _ _ called-done′) (c .before .if1 .taken)))
+    (c .refusal-code2 .ensures)
 
 put-canvas-requires : tie.Need-put-canvas-requires
 put-canvas-requires c κs = search needs
@@ -43,7 +47,14 @@ same-length c = search needs
 
 returns-3 : tie.Need-returns-3
 unfolding startRun
-returns-3 c = done-code _ (wordsOf (c .before .before .before .before .before .before .before .start .result .canvas)) _ _ (then-done _ (called-done _ _ _ _ (c .before .before .before .before .before .before .before .start .ensures) (c .before .before .before .before .before .enum-told .given .1)) ∙ fitted-room _ _ (rw (c .before .before .put-canvas .ensures .0) (c .before .before .before .before .if1 .left))) (rw (c .before .before .put-canvas .ensures .0) (c .before .before .before .before .if1 .left)) (c .before .before .put-canvas .ensures .1)
+returns-3 c =
+    let if1 = c .before .before .before .before .if1 in
+    let enum-told′ = c .before .before .before .before .before .enum-told in
+    let start-call = c .before .before .before .before .before .before .before .start in
+    done-code _ (wordsOf (start-call .result .canvas)) _ _
+    (then-done _ (called-done _ _ _ _ (start-call .ensures) (enum-told′ .given .1))
+    ∙ fitted-room _ _ (rw (c .before .before .put-canvas .ensures .0) (if1 .left)))
+    (rw (c .before .before .put-canvas .ensures .0) (if1 .left)) (c .before .before .put-canvas .ensures .1)
 
 pub compose-canvas-start-spec : {M : Type 1} → statement M
 compose-canvas-start-spec =

@@ -1,11 +1,11 @@
 use mathlib.Core.Path.{_∙_, ap}
 use borrow.Author.Needs.{needs}
-use Rattle.capi.specs.Code.{answerCode}
+use Rattle.words.specs.Code.{answerCode}
 use Rattle.capi.proofs.composing.compose_grid.Statement.{statement}
 use Rattle.capi.proofs.composing.compose_grid.Tie as tie
 use Rattle.capi.proofs.composing.compose_grid.Reads as reads
 use Rattle.capi.proofs.composing.compose_grid.Lts as lts
-use Rattle.capi.proofs.code.answer_code.Reads as answer-code-reads
+use Rattle.words.proofs.answer_code.Reads as answer-code-reads
 use Rattle.grid.proofs.composite_grid.Reads as composite-grid-reads
 
 composite-grid-requires : tie.Need-composite-grid-requires

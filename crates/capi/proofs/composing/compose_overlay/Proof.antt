@@ -5,13 +5,13 @@ use borrow.Author.Needs.{needs}
 use Rattle.laws.specs.Out.{answerOf, written}
 use Rattle.fill.specs.declared.Colour.{Colour}
 use Rattle.overlay.specs.Run.{overlayRun}
-use Rattle.capi.specs.Code.{answerCode}
+use Rattle.words.specs.Code.{answerCode}
 use Rattle.capi.proofs.composing.compose_overlay.Statement.{statement}
 use Rattle.capi.proofs.composing.compose_overlay.Tie as tie
 use Rattle.capi.proofs.composing.compose_overlay.Reads as reads
 use Rattle.capi.proofs.composing.compose_overlay.Lts as lts
-use Rattle.capi.proofs.code.answer_code.Reads as answer-code-reads
-use Rattle.capi.proofs.fills.colour_of.Reads as colour-of-reads
+use Rattle.words.proofs.answer_code.Reads as answer-code-reads
+use Rattle.words.proofs.colour_of.Reads as colour-of-reads
 use Rattle.overlay.proofs.composite_overlay.Reads as composite-overlay-reads
 
 colour-of-requires : tie.Need-colour-of-requires
@@ -27,7 +27,21 @@ same-length : tie.Need-same-length
 same-length c = search needs
 
 returns : tie.Need-returns
-returns c = (c .answer-code .ensures ∙ ap answerCode (c .before .before .before .composite-overlay .ensures .0 ∙ ap (λ (k : Colour). answerOf (overlayRun (now (c .before .before .before .before .before .before .before .before .before .before .args .body)) (now (c .before .before .before .before .before .before .before .before .before .before .args .tray)) (now (c .before .before .before .before .before .before .before .before .before .before .args .premultiplied)) k (length (now (c .before .before .before .before .before .before .before .before .before .before .args .out))))) (c .before .before .before .before .before .colour-of .ensures)), c .before .before .before .composite-overlay .ensures .1 ∙ ap (λ (k : Colour). written (overlayRun (now (c .before .before .before .before .before .before .before .before .before .before .args .body)) (now (c .before .before .before .before .before .before .before .before .before .before .args .tray)) (now (c .before .before .before .before .before .before .before .before .before .before .args .premultiplied)) k (length (now (c .before .before .before .before .before .before .before .before .before .before .args .out)))) (now (c .before .before .before .before .before .before .before .before .before .before .args .out))) (c .before .before .before .before .before .colour-of .ensures))
+returns c =
+    let colour-of = c .before .before .before .before .before .colour-of in
+    let start = c .before .before .before .before .before .before .before .before .before .before in (
+      c .answer-code .ensures
+          ∙ ap answerCode
+          (c .before .before .before .composite-overlay .ensures .0
+          ∙ ap (λ (k : Colour). answerOf
+          (overlayRun (now (start .args .body)) (now (start .args .tray)) (now (start .args .premultiplied)) k (length (now (start .args .out)))))
+          (colour-of .ensures)),
+      c .before .before .before .composite-overlay .ensures .1
+          ∙ ap (λ (k : Colour). written
+          (overlayRun (now (start .args .body)) (now (start .args .tray)) (now (start .args .premultiplied)) k (length (now (start .args .out))))
+          (now (start .args .out)))
+          (colour-of .ensures),
+    )
 
 pub compose-overlay-spec : {M : Type 1} → statement M
 compose-overlay-spec =

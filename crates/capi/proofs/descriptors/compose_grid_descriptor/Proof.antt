@@ -4,15 +4,15 @@ use lib.ListN.{length}
 use denote.Ref.{now}
 use borrow.Author.Needs.{needs}
 use Rattle.laws.proofs.Out.{fitted-room, fitted-short, then-done, then-refused}
-use Rattle.capi.proofs.Codes.{done-code, refused-code, words-after}
-use Rattle.capi.specs.Descriptors.{gridRun, gridWords}
+use Rattle.words.proofs.Codes.{done-code, refused-code, words-after}
+use Rattle.words.specs.Descriptors.{gridWords, gridFields}
 use Rattle.derived.specs.Grid.{gridOut}
 use Rattle.capi.proofs.descriptors.compose_grid_descriptor.Statement.{statement}
 use Rattle.capi.proofs.descriptors.compose_grid_descriptor.Tie as tie
 use Rattle.capi.proofs.descriptors.compose_grid_descriptor.Reads as reads
 use Rattle.capi.proofs.descriptors.compose_grid_descriptor.Lts as lts
-use Rattle.capi.proofs.code.refusal_code.Reads as refusal-code-reads
-use Rattle.capi.proofs.descriptors.put_words.Reads as put-words-reads
+use Rattle.words.proofs.refusal_code.Reads as refusal-code-reads
+use Rattle.words.proofs.put_words.Reads as put-words-reads
 use Rattle.derived.proofs.grid.GridDescriptor.parse.Reads as parse-reads
 
 parse-requires : tie.Need-parse-requires
@@ -31,7 +31,7 @@ refusal-code-requires-2 : tie.Need-refusal-code-requires-2
 refusal-code-requires-2 c κs = search needs
 
 returns : tie.Need-returns
-unfolding gridRun gridWords
+unfolding gridWords gridFields
 returns c = refused-code _ _ _ _ (then-done _ (sym (c .before .before .before .before .before .parse .ensures) ∙ ap gridOut (c .before .before .before .g .given .1)) ∙ fitted-short _ _ (c .before .if1 .taken)) (c .refusal-code2 .ensures)
 
 cast-put-words : tie.Need-cast-put-words
@@ -53,15 +53,25 @@ put-words-requires-2 : tie.Need-put-words-requires-2
 put-words-requires-2 c κs = search needs
 
 returns-2 : tie.Need-returns-2
-unfolding gridRun
+unfolding gridWords
 returns-2 c = refused-code _ _ _ _ (then-refused _ (sym (c .before .before .before .before .parse .ensures) ∙ ap gridOut (c .before .before .e .given .1))) (c .refusal-code .ensures)
 
 same-length : tie.Need-same-length
 same-length c = search needs
 
 returns-3 : tie.Need-returns-3
-unfolding gridRun gridWords
-returns-3 c = done-code _ (gridWords (c .before .before .before .before .before .before .before .before .before .before .before .before .before .before .g .given .0 .0)) (now (c .before .before .before .before .before .before .before .before .before .before .before .before .before .before .before .before .before .before .before .args .answer)) _ (then-done _ (sym (c .before .before .before .before .before .before .before .before .before .before .before .before .before .before .before .before .parse .ensures) ∙ ap gridOut (c .before .before .before .before .before .before .before .before .before .before .before .before .before .before .g .given .1)) ∙ fitted-room (length (now (c .before .before .before .before .before .before .before .before .before .before .before .before .before .before .before .before .before .before .before .args .answer))) _ (c .before .before .before .before .before .before .before .before .before .before .before .before .if1 .left)) (c .before .before .before .before .before .before .before .before .before .before .before .before .if1 .left) (words-after _ _ _ (c .before .before .before .before .before .before .before .before .before .before .before .before .before .before .g .given .0 .0 .rows ∷ c .before .before .before .before .before .before .before .before .before .before .before .before .before .before .g .given .0 .0 .columns ∷ []) _ _ _ (c .before .before .before .before .before .before .before .before .put-words .ensures .1) (c .before .before .before .before .before .before .before .before .put-words .ensures .0) (c .before .before .put-words2 .ensures .1))
+unfolding gridWords gridFields
+returns-3 c =
+    let put-words = c .before .before .before .before .before .before .before .before .put-words in
+    let else1 = c .before .before .before .before .before .before .before .before .before .before .before .before in
+    let if1 = else1 .if1 in
+    let g = else1 .before .before .g in
+    let parse = else1 .before .before .before .before .parse in
+    let start = else1 .before .before .before .before .before .before .before in
+    done-code _ (gridFields (g .given .0 .0)) (now (start .args .answer)) _
+    (then-done _ (sym (parse .ensures) ∙ ap gridOut (g .given .1)) ∙ fitted-room (length (now (start .args .answer))) _ (if1 .left)) (if1 .left)
+    (words-after _ _ _ (g .given .0 .0 .rows ∷ g .given .0 .0 .columns ∷ []) _ _ _ (put-words .ensures .1) (put-words .ensures .0)
+    (c .before .before .put-words2 .ensures .1))
 
 pub compose-grid-descriptor-spec : {M : Type 1} → statement M
 compose-grid-descriptor-spec =

@@ -1,11 +1,11 @@
 use mathlib.Core.Path.{_∙_, ap}
 use borrow.Author.Needs.{needs}
-use Rattle.capi.specs.Code.{answerCode}
+use Rattle.words.specs.Code.{answerCode}
 use Rattle.capi.proofs.operation.compose_clap.Statement.{statement}
 use Rattle.capi.proofs.operation.compose_clap.Tie as tie
 use Rattle.capi.proofs.operation.compose_clap.Reads as reads
 use Rattle.capi.proofs.operation.compose_clap.Lts as lts
-use Rattle.capi.proofs.code.answer_code.Reads as answer-code-reads
+use Rattle.words.proofs.answer_code.Reads as answer-code-reads
 use Rattle.transform.proofs.apply_clap.Reads as apply-clap-reads
 
 apply-clap-requires : tie.Need-apply-clap-requires

@@ -1,11 +1,11 @@
 use mathlib.Core.Path.{_∙_, ap}
 use borrow.Author.Needs.{needs}
-use Rattle.capi.specs.Code.{answerCode}
+use Rattle.words.specs.Code.{answerCode}
 use Rattle.capi.proofs.operation.compose_crop.Statement.{statement}
 use Rattle.capi.proofs.operation.compose_crop.Tie as tie
 use Rattle.capi.proofs.operation.compose_crop.Reads as reads
 use Rattle.capi.proofs.operation.compose_crop.Lts as lts
-use Rattle.capi.proofs.code.answer_code.Reads as answer-code-reads
+use Rattle.words.proofs.answer_code.Reads as answer-code-reads
 use Rattle.transform.proofs.crop.Reads as crop-reads
 
 crop-requires : tie.Need-crop-requires

@@ -1,11 +1,11 @@
 use mathlib.Core.Path.{_∙_, ap}
 use borrow.Author.Needs.{needs}
-use Rattle.capi.specs.Code.{answerCode}
+use Rattle.words.specs.Code.{answerCode}
 use Rattle.capi.proofs.operation.compose_imir.Statement.{statement}
 use Rattle.capi.proofs.operation.compose_imir.Tie as tie
 use Rattle.capi.proofs.operation.compose_imir.Reads as reads
 use Rattle.capi.proofs.operation.compose_imir.Lts as lts
-use Rattle.capi.proofs.code.answer_code.Reads as answer-code-reads
+use Rattle.words.proofs.answer_code.Reads as answer-code-reads
 use Rattle.transform.proofs.apply_imir.Reads as apply-imir-reads
 
 apply-imir-requires : tie.Need-apply-imir-requires

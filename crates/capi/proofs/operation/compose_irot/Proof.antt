@@ -1,11 +1,11 @@
 use mathlib.Core.Path.{_∙_, ap}
 use borrow.Author.Needs.{needs}
-use Rattle.capi.specs.Code.{answerCode}
+use Rattle.words.specs.Code.{answerCode}
 use Rattle.capi.proofs.operation.compose_irot.Statement.{statement}
 use Rattle.capi.proofs.operation.compose_irot.Tie as tie
 use Rattle.capi.proofs.operation.compose_irot.Reads as reads
 use Rattle.capi.proofs.operation.compose_irot.Lts as lts
-use Rattle.capi.proofs.code.answer_code.Reads as answer-code-reads
+use Rattle.words.proofs.answer_code.Reads as answer-code-reads
 use Rattle.transform.proofs.apply_irot.Reads as apply-irot-reads
 
 apply-irot-requires : tie.Need-apply-irot-requires

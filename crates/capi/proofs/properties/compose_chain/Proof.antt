@@ -1,15 +1,15 @@
 use mathlib.Core.Path.{_∙_, ap, sym}
 use borrow.Author.Needs.{needs}
 use Rattle.laws.proofs.Out.{then-refused}
-use Rattle.capi.specs.Code.{codeOf}
-use Rattle.capi.specs.Properties.{chainCount}
+use Rattle.words.specs.Code.{codeOf}
+use Rattle.words.specs.Properties.{chainCount}
 use Rattle.props.proofs.ChainLaws.{judged-count, judged-refused}
 use Rattle.props.specs.Chain.{chainOut}
 use Rattle.capi.proofs.properties.compose_chain.Statement.{statement}
 use Rattle.capi.proofs.properties.compose_chain.Tie as tie
 use Rattle.capi.proofs.properties.compose_chain.Reads as reads
 use Rattle.capi.proofs.properties.compose_chain.Lts as lts
-use Rattle.capi.proofs.code.refusal_code.Reads as refusal-code-reads
+use Rattle.words.proofs.refusal_code.Reads as refusal-code-reads
 use Rattle.props.proofs.check_chain.Reads as check-chain-reads
 
 check-chain-requires : tie.Need-check-chain-requires

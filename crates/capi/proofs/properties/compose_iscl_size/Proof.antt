@@ -3,15 +3,15 @@ use lib.ListN.{length}
 use denote.Ref.{now}
 use borrow.Author.Needs.{needs}
 use Rattle.laws.proofs.Out.{fitted-room, fitted-short, then-done, then-refused}
-use Rattle.capi.proofs.Codes.{done-code, refused-code}
-use Rattle.capi.specs.Properties.{isclOf, isclRun, sizeWords}
-use Rattle.props.specs.Size.{sizeOut}
+use Rattle.words.proofs.Codes.{done-code, refused-code}
+use Rattle.words.specs.Properties.{isclOf, isclWords, sizeFields}
+use Rattle.image.specs.Format.{sizeOut}
 use Rattle.capi.proofs.properties.compose_iscl_size.Statement.{statement}
 use Rattle.capi.proofs.properties.compose_iscl_size.Tie as tie
 use Rattle.capi.proofs.properties.compose_iscl_size.Reads as reads
 use Rattle.capi.proofs.properties.compose_iscl_size.Lts as lts
-use Rattle.capi.proofs.code.refusal_code.Reads as refusal-code-reads
-use Rattle.capi.proofs.properties.put_sides.Reads as put-sides-reads
+use Rattle.words.proofs.refusal_code.Reads as refusal-code-reads
+use Rattle.words.proofs.put_sides.Reads as put-sides-reads
 use Rattle.props.proofs.iscl.Iscl.output_size.Reads as output-size-reads
 
 output-size-requires : tie.Need-output-size-requires
@@ -30,22 +30,30 @@ refusal-code-requires-2 : tie.Need-refusal-code-requires-2
 refusal-code-requires-2 c κs = search needs
 
 returns : tie.Need-returns
-unfolding isclRun isclOf sizeWords
+unfolding isclWords isclOf sizeFields
 returns c = refused-code _ _ _ _ (then-done _ (sym (c .before .before .before .before .before .output-size .ensures) ∙ ap sizeOut (c .before .before .before .z .given .1)) ∙ fitted-short _ _ (c .before .if1 .taken)) (c .refusal-code2 .ensures)
 
 put-sides-requires : tie.Need-put-sides-requires
 put-sides-requires c κs = search needs
 
 returns-2 : tie.Need-returns-2
-unfolding isclRun isclOf
+unfolding isclWords isclOf
 returns-2 c = refused-code _ _ _ _ (then-refused _ (sym (c .before .before .before .before .output-size .ensures) ∙ ap sizeOut (c .before .before .e .given .1))) (c .refusal-code .ensures)
 
 same-length : tie.Need-same-length
 same-length c = search needs
 
 returns-3 : tie.Need-returns-3
-unfolding isclRun isclOf sizeWords
-returns-3 c = let q = c .before .before .before .before .before .before .z .given .0 .0 in done-code _ (sizeWords q) (now (c .before .before .before .before .before .before .before .before .before .before .args .answer)) _ (then-done _ (sym (c .before .before .before .before .before .before .before .before .output-size .ensures) ∙ ap sizeOut (c .before .before .before .before .before .before .z .given .1)) ∙ fitted-room (length (now (c .before .before .before .before .before .before .before .before .before .before .args .answer))) _ (c .before .before .before .before .if1 .left)) (c .before .before .before .before .if1 .left) (c .before .before .put-sides .ensures .1)
+unfolding isclWords isclOf sizeFields
+returns-3 c =
+    let if1 = c .before .before .before .before .if1 in
+    let z = c .before .before .before .before .before .before .z in
+    let output-size = c .before .before .before .before .before .before .before .before .output-size in
+    let start = c .before .before .before .before .before .before .before .before .before .before in
+    let q = z .given .0 .0 in
+    done-code _ (sizeFields q) (now (start .args .answer)) _
+    (then-done _ (sym (output-size .ensures) ∙ ap sizeOut (z .given .1)) ∙ fitted-room (length (now (start .args .answer))) _ (if1 .left)) (if1 .left)
+    (c .before .before .put-sides .ensures .1)
 
 pub compose-iscl-size-spec : {M : Type 1} → statement M
 compose-iscl-size-spec =

@@ -1,11 +1,11 @@
 use mathlib.Core.Path.{_∙_, ap}
 use borrow.Author.Needs.{needs}
-use Rattle.capi.specs.Code.{answerCode}
+use Rattle.words.specs.Code.{answerCode}
 use Rattle.capi.proofs.properties.compose_steps.Statement.{statement}
 use Rattle.capi.proofs.properties.compose_steps.Tie as tie
 use Rattle.capi.proofs.properties.compose_steps.Reads as reads
 use Rattle.capi.proofs.properties.compose_steps.Lts as lts
-use Rattle.capi.proofs.code.answer_code.Reads as answer-code-reads
+use Rattle.words.proofs.answer_code.Reads as answer-code-reads
 use Rattle.steps_text.proofs.steps_text.Reads as steps-text-reads
 
 steps-text-requires : tie.Need-steps-text-requires

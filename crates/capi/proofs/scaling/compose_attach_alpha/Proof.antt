@@ -1,11 +1,11 @@
 use mathlib.Core.Path.{_∙_, ap}
 use borrow.Author.Needs.{needs}
-use Rattle.capi.specs.Code.{answerCode}
+use Rattle.words.specs.Code.{answerCode}
 use Rattle.capi.proofs.scaling.compose_attach_alpha.Statement.{statement}
 use Rattle.capi.proofs.scaling.compose_attach_alpha.Tie as tie
 use Rattle.capi.proofs.scaling.compose_attach_alpha.Reads as reads
 use Rattle.capi.proofs.scaling.compose_attach_alpha.Lts as lts
-use Rattle.capi.proofs.code.answer_code.Reads as answer-code-reads
+use Rattle.words.proofs.answer_code.Reads as answer-code-reads
 use Rattle.resample.proofs.attach_alpha.Reads as attach-alpha-reads
 
 attach-alpha-requires : tie.Need-attach-alpha-requires

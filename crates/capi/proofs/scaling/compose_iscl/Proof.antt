@@ -1,11 +1,11 @@
 use mathlib.Core.Path.{_∙_, ap}
 use borrow.Author.Needs.{needs}
-use Rattle.capi.specs.Code.{answerCode}
+use Rattle.words.specs.Code.{answerCode}
 use Rattle.capi.proofs.scaling.compose_iscl.Statement.{statement}
 use Rattle.capi.proofs.scaling.compose_iscl.Tie as tie
 use Rattle.capi.proofs.scaling.compose_iscl.Reads as reads
 use Rattle.capi.proofs.scaling.compose_iscl.Lts as lts
-use Rattle.capi.proofs.code.answer_code.Reads as answer-code-reads
+use Rattle.words.proofs.answer_code.Reads as answer-code-reads
 use Rattle.resample.proofs.apply_iscl.Reads as apply-iscl-reads
 
 apply-iscl-requires : tie.Need-apply-iscl-requires

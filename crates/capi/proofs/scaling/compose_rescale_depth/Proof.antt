@@ -1,11 +1,11 @@
 use mathlib.Core.Path.{_∙_, ap}
 use borrow.Author.Needs.{needs}
-use Rattle.capi.specs.Code.{answerCode}
+use Rattle.words.specs.Code.{answerCode}
 use Rattle.capi.proofs.scaling.compose_rescale_depth.Statement.{statement}
 use Rattle.capi.proofs.scaling.compose_rescale_depth.Tie as tie
 use Rattle.capi.proofs.scaling.compose_rescale_depth.Reads as reads
 use Rattle.capi.proofs.scaling.compose_rescale_depth.Lts as lts
-use Rattle.capi.proofs.code.answer_code.Reads as answer-code-reads
+use Rattle.words.proofs.answer_code.Reads as answer-code-reads
 use Rattle.resample.proofs.rescale_depth.Reads as rescale-depth-reads
 
 rescale-depth-requires : tie.Need-rescale-depth-requires

@@ -1,11 +1,11 @@
 use mathlib.Core.Path.{_∙_, ap}
 use borrow.Author.Needs.{needs}
-use Rattle.capi.specs.Code.{answerCode}
+use Rattle.words.specs.Code.{answerCode}
 use Rattle.capi.proofs.scaling.compose_resize_nearest.Statement.{statement}
 use Rattle.capi.proofs.scaling.compose_resize_nearest.Tie as tie
 use Rattle.capi.proofs.scaling.compose_resize_nearest.Reads as reads
 use Rattle.capi.proofs.scaling.compose_resize_nearest.Lts as lts
-use Rattle.capi.proofs.code.answer_code.Reads as answer-code-reads
+use Rattle.words.proofs.answer_code.Reads as answer-code-reads
 use Rattle.resample.proofs.resize_nearest.Reads as resize-nearest-reads
 
 resize-nearest-requires : tie.Need-resize-nearest-requires

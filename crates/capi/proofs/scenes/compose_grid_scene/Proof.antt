@@ -1,12 +1,12 @@
 use mathlib.Core.Path.{_∙_, ap}
 use borrow.Author.Needs.{needs}
 use Rattle.capi.proofs.scenes.compose_grid_scene.Statement.{statement}
-use Rattle.capi.specs.Code.{answerCode}
-use Rattle.capi.specs.Spots.{flagOf}
+use Rattle.words.specs.Code.{answerCode}
+use Rattle.words.specs.Spots.{flagOf}
 use Rattle.capi.proofs.scenes.compose_grid_scene.Tie as tie
 use Rattle.capi.proofs.scenes.compose_grid_scene.Reads as reads
 use Rattle.capi.proofs.scenes.compose_grid_scene.Lts as lts
-use Rattle.capi.proofs.code.answer_code.Reads as answer-code-reads
+use Rattle.words.proofs.answer_code.Reads as answer-code-reads
 use Rattle.scene.proofs.grid_scene.Reads as grid-scene-reads
 
 grid-scene-requires : tie.Need-grid-scene-requires

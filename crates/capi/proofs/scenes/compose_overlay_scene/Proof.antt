@@ -1,13 +1,13 @@
 use mathlib.Core.Path.{_∙_, ap}
 use borrow.Author.Needs.{needs}
 use Rattle.capi.proofs.scenes.compose_overlay_scene.Statement.{statement}
-use Rattle.capi.specs.Code.{answerCode}
-use Rattle.capi.specs.Spots.{flagOf}
+use Rattle.words.specs.Code.{answerCode}
+use Rattle.words.specs.Spots.{flagOf}
 use Rattle.capi.proofs.scenes.compose_overlay_scene.Tie as tie
 use Rattle.capi.proofs.scenes.compose_overlay_scene.Reads as reads
 use Rattle.capi.proofs.scenes.compose_overlay_scene.Lts as lts
-use Rattle.capi.proofs.code.answer_code.Reads as answer-code-reads
-use Rattle.capi.proofs.fills.colour_of.Reads as colour-of-reads
+use Rattle.words.proofs.answer_code.Reads as answer-code-reads
+use Rattle.words.proofs.colour_of.Reads as colour-of-reads
 use Rattle.scene.proofs.overlay_scene.Reads as overlay-scene-reads
 
 colour-of-requires : tie.Need-colour-of-requires
@@ -27,7 +27,11 @@ same-length-2 c = search needs
 
 returns : tie.Need-returns
 unfolding flagOf
-returns c = rw (← c .before .before .before .before .before .before .before .before .colour-of .ensures) (c .answer-code .ensures ∙ ap answerCode (c .before .before .before .before .before .overlay-scene .ensures .0), c .before .before .before .before .before .overlay-scene .ensures .1, c .before .before .before .before .before .overlay-scene .ensures .2)
+returns c =
+    let overlay-scene = c .before .before .before .before .before .overlay-scene in
+    let colour-of = c .before .before .before .before .before .before .before .before .colour-of in
+    rw (← colour-of .ensures)
+    (c .answer-code .ensures ∙ ap answerCode (overlay-scene .ensures .0), overlay-scene .ensures .1, overlay-scene .ensures .2)
 
 pub compose-overlay-scene-spec : {M : Type 1} → statement M
 compose-overlay-scene-spec =

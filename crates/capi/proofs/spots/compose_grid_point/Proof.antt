@@ -1,11 +1,11 @@
 use borrow.Author.Needs.{needs}
-use Rattle.capi.proofs.Codes.{spot-as}
+use Rattle.words.proofs.Codes.{spot-as}
 use Rattle.capi.proofs.spots.compose_grid_point.Statement.{statement}
-use Rattle.capi.specs.Spots.{flagOf}
+use Rattle.words.specs.Spots.{flagOf}
 use Rattle.capi.proofs.spots.compose_grid_point.Tie as tie
 use Rattle.capi.proofs.spots.compose_grid_point.Reads as reads
 use Rattle.capi.proofs.spots.compose_grid_point.Lts as lts
-use Rattle.capi.proofs.spots.put_point.Reads as put-point-reads
+use Rattle.words.proofs.put_point.Reads as put-point-reads
 use Rattle.point.proofs.grid_point.Reads as grid-point-reads
 
 grid-point-requires : tie.Need-grid-point-requires

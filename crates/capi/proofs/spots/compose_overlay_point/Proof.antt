@@ -1,11 +1,11 @@
 use borrow.Author.Needs.{needs}
-use Rattle.capi.proofs.Codes.{spot-as}
+use Rattle.words.proofs.Codes.{spot-as}
 use Rattle.capi.proofs.spots.compose_overlay_point.Statement.{statement}
-use Rattle.capi.specs.Spots.{flagOf}
+use Rattle.words.specs.Spots.{flagOf}
 use Rattle.capi.proofs.spots.compose_overlay_point.Tie as tie
 use Rattle.capi.proofs.spots.compose_overlay_point.Reads as reads
 use Rattle.capi.proofs.spots.compose_overlay_point.Lts as lts
-use Rattle.capi.proofs.spots.put_point.Reads as put-point-reads
+use Rattle.words.proofs.put_point.Reads as put-point-reads
 use Rattle.point.proofs.overlay_point.Reads as overlay-point-reads
 
 overlay-point-requires : tie.Need-overlay-point-requires

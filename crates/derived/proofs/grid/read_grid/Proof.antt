@@ -58,19 +58,33 @@ enum-known-c : tie.Need-enum-known-c
 enum-known-c c = search needs
 
 add-t16 : tie.Need-add-t16
-add-t16 c = omega (arith, field-below _ _ 1 _ _ (λ i. omega (arith, c .before .before .before .before .before .before .before .before .before .before .before .before .shared-slice-known .given i)) (sym (c .before .before .before .before .before .before .before .before .before .before .before .field .ensures) ∙ c .before .before .before .before .before .before .before .before .before .rows .given .1))
+add-t16 c =
+    let after-rows = c .before .before .before .before .before .before .before .before .before in
+    let rows = after-rows .rows in
+    let field = after-rows .before .before .field in
+    let shared-slice-known = after-rows .before .before .before .shared-slice-known in
+    omega (arith, field-below _ _ 1 _ _ (λ i. omega (arith, shared-slice-known .given i)) (sym (field .ensures) ∙ rows .given .1))
 
 add-t17 : tie.Need-add-t17
-add-t17 c = omega (arith, field-below _ _ 1 _ _ (λ i. omega (arith, c .before .before .before .before .before .before .before .before .before .before .before .before .shared-slice-known .given i)) (sym (c .before .before .before .before .before .before .before .field2 .ensures) ∙ c .before .before .before .before .before .columns .given .1))
+add-t17 c =
+    let columns = c .before .before .before .before .before .columns in
+    let field2 = c .before .before .before .before .before .before .before .field2 in
+    let shared-slice-known = c .before .before .before .before .before .before .before .before .before .before .before .before .shared-slice-known in
+    omega (arith, field-below _ _ 1 _ _ (λ i. omega (arith, shared-slice-known .given i)) (sym (field2 .ensures) ∙ columns .given .1))
 
 returns-3 : tie.Need-returns-3
 unfolding gridAt onField andThen
 returns-3 c =
+    let columns = c .before .before .before .before .before .columns in
+    let field2 = c .before .before .before .before .before .before .before .field2 in
+    let after-rows = c .before .before .before .before .before .before .before .before .before in
+    let rows = after-rows .rows in
+    let field = after-rows .before .before .field in
     simp (
-      sym (c .before .before .before .before .before .before .before .before .before .before .before .field .ensures),
-      c .before .before .before .before .before .before .before .before .before .rows .given .1,
-      sym (c .before .before .before .before .before .before .before .field2 .ensures),
-      c .before .before .before .before .before .columns .given .1,
+      sym (field .ensures),
+      rows .given .1,
+      sym (field2 .ensures),
+      columns .given .1,
       sym (c .before .before .before .read-canvas .ensures),
       c .before .e .given .1,
     )
@@ -78,11 +92,16 @@ returns-3 c =
 returns-4 : tie.Need-returns-4
 unfolding gridAt onField andThen
 returns-4 c =
+    let columns = c .before .before .before .before .before .columns in
+    let field2 = c .before .before .before .before .before .before .before .field2 in
+    let after-rows = c .before .before .before .before .before .before .before .before .before in
+    let rows = after-rows .rows in
+    let field = after-rows .before .before .field in
     simp (
-      sym (c .before .before .before .before .before .before .before .before .before .before .before .field .ensures),
-      c .before .before .before .before .before .before .before .before .before .rows .given .1,
-      sym (c .before .before .before .before .before .before .before .field2 .ensures),
-      c .before .before .before .before .before .columns .given .1,
+      sym (field .ensures),
+      rows .given .1,
+      sym (field2 .ensures),
+      columns .given .1,
       sym (c .before .before .before .read-canvas .ensures),
       c .before .c .given .1,
     )

@@ -4,7 +4,8 @@ use borrow.Author.Needs.{needs}
 use denote.Ref.{now}
 use Rattle.laws.proofs.Out.{done-answers, refused-answers, then-refused}
 use Rattle.laws.specs.Out.{done}
-use Rattle.image.specs.Bytes.{Bytes, sizeOf}
+use Rattle.laws.specs.Puts.{Bytes}
+use Rattle.planes.specs.Bytes.{sizeOf}
 use Rattle.grid.proofs.Composed.{grid-fits, grid-short, length-gridOn}
 use Rattle.grid.proofs.GridLaws.{tiles-taken}
 use Rattle.grid.proofs.compose.composite_grid.Statement.{statement}
@@ -17,7 +18,7 @@ use Rattle.grid.proofs.compose.composite_grid.Lts as lts
 use Rattle.grid.proofs.compose.draw_grid.Reads as draw-grid-reads
 use Rattle.grid.proofs.tiles.canvas_form.Reads as canvas-form-reads
 use Rattle.grid.proofs.tiles.read_tiles.Reads as read-tiles-reads
-use Rattle.image.proofs.record_size.Reads as record-size-reads
+use Rattle.planes.proofs.record_size.Reads as record-size-reads
 
 taken : (c : tie.After-t) → tilesOf (now (c .before .before .before .before .before .before .args .body)) (now (c .before .before .before .before .before .before .args .tray)) ≡ done (c .t .given .0 .0)
 taken c = sym (c .before .before .read-tiles .ensures) ∙ ap tilesOut (c .t .given .1)
@@ -55,7 +56,17 @@ same-length : tie.Need-same-length
 same-length c = search needs
 
 returns-3 : tie.Need-returns-3
-returns-3 c = done-answers _ _ _ _ _ (grid-fits _ _ _ _ (taken ((c .before .before .before .before .before .before .before .before))) (rw (c .before .before .before .before .before .record-size .ensures, c .before .before .before .before .before .before .canvas-form .ensures) at (c .before .before .before .before .if1 .left))) (rw (length-gridOn (now (c .before .before .before .before .before .before .before .before .before .before .before .before .before .before .args .tray)) (c .before .before .before .before .before .before .before .before .t .given .0 .0)) (rw (c .before .before .before .before .before .record-size .ensures, c .before .before .before .before .before .before .canvas-form .ensures) at (c .before .before .before .before .if1 .left))) (c .before .before .before .before .before .record-size .ensures ∙ ap sizeOf (c .before .before .before .before .before .before .canvas-form .ensures) ∙ sym (length-gridOn (now (c .before .before .before .before .before .before .before .before .before .before .before .before .before .before .args .tray)) (c .before .before .before .before .before .before .before .before .t .given .0 .0))) (c .before .before .draw-grid .ensures)
+returns-3 c =
+    let if1 = c .before .before .before .before .if1 in
+    let record-size = c .before .before .before .before .before .record-size in
+    let canvas-form = c .before .before .before .before .before .before .canvas-form in
+    let after-t = c .before .before .before .before .before .before .before .before in
+    let t = after-t .t in
+    let start = after-t .before .before .before .before .before .before in
+    done-answers _ _ _ _ _ (grid-fits _ _ _ _ (taken after-t) (rw (record-size .ensures, canvas-form .ensures) at (if1 .left)))
+    (rw (length-gridOn (now (start .args .tray)) (t .given .0 .0)) (rw (record-size .ensures, canvas-form .ensures) at (if1 .left)))
+    (record-size .ensures ∙ ap sizeOf (canvas-form .ensures) ∙ sym (length-gridOn (now (start .args .tray)) (t .given .0 .0)))
+    (c .before .before .draw-grid .ensures)
 
 pub composite-grid-spec : {M : Type 1} → statement M
 composite-grid-spec =

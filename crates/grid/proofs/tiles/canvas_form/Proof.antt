@@ -2,13 +2,14 @@ use mathlib.Core.Path.{_∙_, ap}
 use borrow.Author.Needs.{needs}
 use Rattle.image.specs.declared.format.Form.{Form}
 use Rattle.grid.proofs.tiles.canvas_form.Statement.{statement}
-use Rattle.grid.specs.Tiles.{canvasForm, withAlpha}
+use Rattle.grid.specs.Tiles.{canvasForm}
+use Rattle.image.specs.Format.{withAlpha}
 use Rattle.grid.proofs.tiles.canvas_form.Tie as tie
 use Rattle.grid.proofs.tiles.canvas_form.Reads as reads
 use Rattle.grid.proofs.tiles.canvas_form.Lts as lts
 use Rattle.grid.proofs.cell.tile_form.Reads as tile-form-reads
 use Rattle.grid.proofs.tiles.promotes.Reads as promotes-reads
-use Rattle.grid.proofs.tiles.with_alpha.Reads as with-alpha-reads
+use Rattle.image.proofs.format.Form.with_alpha.Reads as with-alpha-reads
 use Rattle.image.proofs.format.Form.sized.Reads as sized-reads
 
 sized-requires : tie.Need-sized-requires

@@ -32,7 +32,19 @@ either-requires c κs = search needs
 
 returns : tie.Need-returns
 unfolding promotesOf
-returns c = c .either .ensures ∙ simp (c .before .before .before .before .needs-444 .ensures, c .before .needs-4442 .ensures, c .before .before .before .before .before .before .is-odd .ensures, c .before .before .before .before .before .is-odd2 .ensures, c .before .before .before .is-odd3 .ensures, c .before .before .is-odd4 .ensures)
+returns c =
+    let needs-444 = c .before .before .before .before .needs-444 in
+    let is-odd2 = c .before .before .before .before .before .is-odd2 in
+    let is-odd = c .before .before .before .before .before .before .is-odd in
+    c .either .ensures
+    ∙ simp (
+      needs-444 .ensures,
+      c .before .needs-4442 .ensures,
+      is-odd .ensures,
+      is-odd2 .ensures,
+      c .before .before .before .is-odd3 .ensures,
+      c .before .before .is-odd4 .ensures,
+    )
 
 pub promotes-spec : {M : Type 1} → statement M
 promotes-spec =

@@ -53,7 +53,13 @@ mul-if1 c = omega (arith, mul-below (2 ^ 32 - 1) (2 ^ 32 - 1) (c .before .before
 
 returns-2 : tie.Need-returns-2
 unfolding countOf
-returns-2 c = sym (tiles-number _ _ _ _ (sym (c .before .before .before .before .before .before .before .before .before .before .read-number .ensures) ∙ c .before .before .before .before .before .before .before .before .count .given .1) ∙ tiles-count _ _ _ _ _ (sym (c .before .before .before .before .before .before .parse .ensures) ∙ ap gridOut (c .before .before .before .before .g .given .1)) (c .if1 .taken))
+returns-2 c =
+    let g = c .before .before .before .before .g in
+    let parse = c .before .before .before .before .before .before .parse in
+    let count = c .before .before .before .before .before .before .before .before .count in
+    let read-number = c .before .before .before .before .before .before .before .before .before .before .read-number in
+    sym (tiles-number _ _ _ _ (sym (read-number .ensures) ∙ count .given .1)
+    ∙ tiles-count _ _ _ _ _ (sym (parse .ensures) ∙ ap gridOut (g .given .1)) (c .if1 .taken))
 
 check-records-requires : tie.Need-check-records-requires
 check-records-requires c κs = search needs
@@ -66,18 +72,45 @@ enum-known-n c = search needs
 
 judge-tiles-requires : tie.Need-judge-tiles-requires
 unfolding countOf
-judge-tiles-requires c κs = let k = grid-taken _ _ (λ i. omega (arith, c .before .before .before .before .before .before .before .before .before .before .before .before .before .before .before .before .shared-slice-known .given i)) (sym (c .before .before .before .before .before .before .before .before .before .before .parse .ensures) ∙ ap gridOut (c .before .before .before .before .before .before .before .before .g .given .1)) in (count-taken _ _ _ _ (ap trayOut (sym (c .before .n .given .1)) ∙ c .before .before .before .check-records .ensures), rw (c .before .before .before .before .if1 .left) (count-some (c .before .before .before .before .before .before .before .before .g .given .0 .0) (k .someRows) (k .someColumns)))
+judge-tiles-requires c κs =
+    let if1 = c .before .before .before .before .if1 in
+    let g = c .before .before .before .before .before .before .before .before .g in
+    let after-parse = c .before .before .before .before .before .before .before .before .before .before in
+    let parse = after-parse .parse in
+    let shared-slice-known = after-parse .before .before .before .before .before .before .shared-slice-known in
+    let k = grid-taken _ _ (λ i. omega (arith, shared-slice-known .given i)) (sym (parse .ensures) ∙ ap gridOut (g .given .1)) in (
+      count-taken _ _ _ _ (ap trayOut (sym (c .before .n .given .1)) ∙ c .before .before .before .check-records .ensures),
+      rw (if1 .left) (count-some (g .given .0 .0) (k .positiveRows) (k .positiveColumns)),
+    )
 
 returns-3 : tie.Need-returns-3
 returns-3 c = sym (tiles-number _ _ _ _ (sym (c .before .before .before .before .before .before .before .read-number .ensures) ∙ c .before .before .before .before .before .count .given .1) ∙ tiles-body _ _ _ _ _ (sym (c .before .before .before .parse .ensures) ∙ ap gridOut (c .before .e .given .1)))
 
 returns-4 : tie.Need-returns-4
 unfolding countOf
-returns-4 c = sym (tiles-number _ _ _ _ (sym (c .before .before .before .before .before .before .before .before .before .before .before .before .before .before .read-number .ensures) ∙ c .before .before .before .before .before .before .before .before .before .before .before .before .count .given .1) ∙ tiles-frames _ _ _ _ _ (sym (c .before .before .before .before .before .before .before .before .before .before .parse .ensures) ∙ ap gridOut (c .before .before .before .before .before .before .before .before .g .given .1)) (c .before .before .before .before .if1 .left) ∙ then-refused _ (count-refused _ _ _ _ (ap trayOut (sym (c .before .e2 .given .1)) ∙ c .before .before .before .check-records .ensures)))
+returns-4 c =
+    let if1 = c .before .before .before .before .if1 in
+    let g = c .before .before .before .before .before .before .before .before .g in
+    let after-parse = c .before .before .before .before .before .before .before .before .before .before in
+    let parse = after-parse .parse in
+    let count = after-parse .before .before .count in
+    let read-number = after-parse .before .before .before .before .read-number in
+    sym (tiles-number _ _ _ _ (sym (read-number .ensures) ∙ count .given .1)
+    ∙ tiles-frames _ _ _ _ _ (sym (parse .ensures) ∙ ap gridOut (g .given .1)) (if1 .left)
+    ∙ then-refused _ (count-refused _ _ _ _ (ap trayOut (sym (c .before .e2 .given .1)) ∙ c .before .before .before .check-records .ensures)))
 
 returns-5 : tie.Need-returns-5
 unfolding countOf
-returns-5 c = c .judge-tiles .ensures ∙ sym (tiles-number _ _ _ _ (sym (c .before .before .before .before .before .before .before .before .before .before .before .before .before .before .before .read-number .ensures) ∙ c .before .before .before .before .before .before .before .before .before .before .before .before .before .count .given .1) ∙ tiles-frames _ _ _ _ _ (sym (c .before .before .before .before .before .before .before .before .before .before .before .parse .ensures) ∙ ap gridOut (c .before .before .before .before .before .before .before .before .before .g .given .1)) (c .before .before .before .before .before .if1 .left))
+returns-5 c =
+    let if1 = c .before .before .before .before .before .if1 in
+    let after-g = c .before .before .before .before .before .before .before .before .before in
+    let g = after-g .g in
+    let parse = after-g .before .before .parse in
+    let count = after-g .before .before .before .before .count in
+    let read-number = after-g .before .before .before .before .before .before .read-number in
+    c .judge-tiles .ensures
+    ∙ sym (tiles-number _ _ _ _ (sym (read-number .ensures) ∙ count .given .1)
+    ∙ tiles-frames _ _ _ _ _ (sym (parse .ensures) ∙ ap gridOut (g .given .1)) (if1 .left))
 
 pub read-tiles-spec : {M : Type 1} → statement M
 read-tiles-spec =

@@ -1,6 +1,6 @@
 use borrow.Author.Needs.{needs}
 use Rattle.image.proofs.format.is_odd.Statement.{statement}
-use Rattle.image.specs.Picture.{odd}
+use Rattle.image.specs.Format.{odd}
 use Rattle.image.proofs.format.is_odd.Tie as tie
 use Rattle.image.proofs.format.is_odd.Reads as reads
 use Rattle.image.proofs.format.is_odd.Lts as lts

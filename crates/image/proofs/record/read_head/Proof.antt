@@ -57,11 +57,15 @@ enum-told-3 c = search needs
 returns-3 : tie.Need-returns-3
 unfolding headAt onNumber
 returns-3 c =
+    let height = c .before .before .before .before .height in
+    let read-number2 = c .before .before .before .before .before .before .read-number2 in
+    let width = c .before .before .before .before .before .before .before .before .width in
+    let read-number = c .before .before .before .before .before .before .before .before .before .before .read-number in
     simp (
-      sym (c .before .before .before .before .before .before .before .before .before .before .read-number .ensures),
-      c .before .before .before .before .before .before .before .before .width .given .1,
-      sym (c .before .before .before .before .before .before .read-number2 .ensures),
-      c .before .before .before .before .height .given .1,
+      sym (read-number .ensures),
+      width .given .1,
+      sym (read-number2 .ensures),
+      height .given .1,
       sym (c .before .before .read-number3 .ensures),
       c .enum-told3 .given .1,
     )
@@ -78,13 +82,20 @@ enum-told-4 c = search needs
 returns-4 : tie.Need-returns-4
 unfolding headAt onNumber
 returns-4 c =
+    let chroma = c .before .before .before .before .chroma in
+    let read-number3 = c .before .before .before .before .before .before .read-number3 in
+    let height = c .before .before .before .before .before .before .before .before .height in
+    let after-read-number2 = c .before .before .before .before .before .before .before .before .before .before in
+    let read-number2 = after-read-number2 .read-number2 in
+    let width = after-read-number2 .before .before .width in
+    let read-number = after-read-number2 .before .before .before .before .read-number in
     simp (
-      sym (c .before .before .before .before .before .before .before .before .before .before .before .before .before .before .read-number .ensures),
-      c .before .before .before .before .before .before .before .before .before .before .before .before .width .given .1,
-      sym (c .before .before .before .before .before .before .before .before .before .before .read-number2 .ensures),
-      c .before .before .before .before .before .before .before .before .height .given .1,
-      sym (c .before .before .before .before .before .before .read-number3 .ensures),
-      c .before .before .before .before .chroma .given .1,
+      sym (read-number .ensures),
+      width .given .1,
+      sym (read-number2 .ensures),
+      height .given .1,
+      sym (read-number3 .ensures),
+      chroma .given .1,
       sym (c .before .before .read-number4 .ensures),
       c .enum-told4 .given .1,
     )
@@ -101,15 +112,24 @@ enum-told-5 c = search needs
 returns-5 : tie.Need-returns-5
 unfolding headAt onNumber
 returns-5 c =
+    let depth = c .before .before .before .before .depth in
+    let read-number4 = c .before .before .before .before .before .before .read-number4 in
+    let chroma = c .before .before .before .before .before .before .before .before .chroma in
+    let after-read-number3 = c .before .before .before .before .before .before .before .before .before .before in
+    let read-number3 = after-read-number3 .read-number3 in
+    let height = after-read-number3 .before .before .height in
+    let read-number2 = after-read-number3 .before .before .before .before .read-number2 in
+    let width = after-read-number3 .before .before .before .before .before .before .width in
+    let read-number = after-read-number3 .before .before .before .before .before .before .before .before .read-number in
     simp (
-      sym (c .before .before .before .before .before .before .before .before .before .before .before .before .before .before .before .before .before .before .read-number .ensures),
-      c .before .before .before .before .before .before .before .before .before .before .before .before .before .before .before .before .width .given .1,
-      sym (c .before .before .before .before .before .before .before .before .before .before .before .before .before .before .read-number2 .ensures),
-      c .before .before .before .before .before .before .before .before .before .before .before .before .height .given .1,
-      sym (c .before .before .before .before .before .before .before .before .before .before .read-number3 .ensures),
-      c .before .before .before .before .before .before .before .before .chroma .given .1,
-      sym (c .before .before .before .before .before .before .read-number4 .ensures),
-      c .before .before .before .before .depth .given .1,
+      sym (read-number .ensures),
+      width .given .1,
+      sym (read-number2 .ensures),
+      height .given .1,
+      sym (read-number3 .ensures),
+      chroma .given .1,
+      sym (read-number4 .ensures),
+      depth .given .1,
       sym (c .before .before .read-number5 .ensures),
       c .enum-told5 .given .1,
     )
@@ -120,16 +140,26 @@ judge-head-requires c κs = search needs
 returns-6 : tie.Need-returns-6
 unfolding headAt onNumber
 returns-6 c =
+    let read-number5 = c .before .before .before .before .read-number5 in
+    let depth = c .before .before .before .before .before .before .depth in
+    let read-number4 = c .before .before .before .before .before .before .before .before .read-number4 in
+    let after-chroma = c .before .before .before .before .before .before .before .before .before .before in
+    let chroma = after-chroma .chroma in
+    let read-number3 = after-chroma .before .before .read-number3 in
+    let height = after-chroma .before .before .before .before .height in
+    let read-number2 = after-chroma .before .before .before .before .before .before .read-number2 in
+    let width = after-chroma .before .before .before .before .before .before .before .before .width in
+    let read-number = after-chroma .before .before .before .before .before .before .before .before .before .before .read-number in
     simp (
-      sym (c .before .before .before .before .before .before .before .before .before .before .before .before .before .before .before .before .before .before .before .before .read-number .ensures),
-      c .before .before .before .before .before .before .before .before .before .before .before .before .before .before .before .before .before .before .width .given .1,
-      sym (c .before .before .before .before .before .before .before .before .before .before .before .before .before .before .before .before .read-number2 .ensures),
-      c .before .before .before .before .before .before .before .before .before .before .before .before .before .before .height .given .1,
-      sym (c .before .before .before .before .before .before .before .before .before .before .before .before .read-number3 .ensures),
-      c .before .before .before .before .before .before .before .before .before .before .chroma .given .1,
-      sym (c .before .before .before .before .before .before .before .before .read-number4 .ensures),
-      c .before .before .before .before .before .before .depth .given .1,
-      sym (c .before .before .before .before .read-number5 .ensures),
+      sym (read-number .ensures),
+      width .given .1,
+      sym (read-number2 .ensures),
+      height .given .1,
+      sym (read-number3 .ensures),
+      chroma .given .1,
+      sym (read-number4 .ensures),
+      depth .given .1,
+      sym (read-number5 .ensures),
       c .before .before .alpha .given .1,
       sym (c .judge-head .ensures),
     )

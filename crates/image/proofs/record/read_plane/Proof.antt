@@ -22,8 +22,16 @@ stride-small c = read-bounds _ _ _ _ (sym (c .before .before .read-number .ensur
 ends : (c : tie.After-len) → c .len .given .0 .1 .0 ≤ length (now (c .before .before .before .before .before .before .before .before .args .s))
 ends c = read-bounds _ _ _ _ (sym (c .before .before .read-number2 .ensures) ∙ c .len .given .1) .1
 
-product : (c : tie.Else1) → c .before .before .before .before .before .before .stride .given .0 .0 * (c .before .before .before .before .before .before .before .before .before .before .args .rows - 1) ≤ 4294967295 * 4294967294
-product c = mul-below 4294967295 4294967294 (c .before .before .before .before .before .before .stride .given .0 .0) (c .before .before .before .before .before .before .before .before .before .before .args .rows - 1) (omega (arith, stride-small (c .before .before .before .before .before .before))) (omega (arith, c .before .before .before .before .before .before .before .before .before .before .pre))
+product : (c : tie.Else1)
+    → let stride = c .before .before .before .before .before .before .stride in
+    let start = c .before .before .before .before .before .before .before .before .before .before in
+    stride .given .0 .0 * (start .args .rows - 1) ≤ 4294967295 * 4294967294
+product c =
+    let after-stride = c .before .before .before .before .before .before in
+    let stride = after-stride .stride in
+    let start = after-stride .before .before .before .before in
+    mul-below 4294967295 4294967294 (stride .given .0 .0) (start .args .rows - 1) (omega (arith, stride-small after-stride))
+    (omega (arith, start .pre))
 
 read-number-requires : tie.Need-read-number-requires
 read-number-requires c κs = search needs
@@ -86,7 +94,11 @@ mul-if2 : tie.Need-mul-if2
 mul-if2 c = omega (arith, product c)
 
 add-if2 : tie.Need-add-if2
-add-if2 c = let h : c .before .before .before .before .before .before .stride .given .0 .0 * (c .before .before .before .before .before .before .before .before .before .before .args .rows - 1) + c .before .before .before .before .before .before .before .before .before .before .args .row < 2 ^ 64 = omega (arith, product c, c .before .before .before .before .before .before .before .before .before .before .pre) in record { fits = h }
+add-if2 c =
+    let stride = c .before .before .before .before .before .before .stride in
+    let start = c .before .before .before .before .before .before .before .before .before .before in
+    let h : stride .given .0 .0 * (start .args .rows - 1) + start .args .row < 2 ^ 64 = omega (arith, product c, start .pre) in
+    record { fits = h }
 
 returns-4 : tie.Need-returns-4
 unfolding planeAt onNumber refuse
@@ -108,11 +120,15 @@ sub-if3 c = omega (arith, ends (c .before .before .before))
 returns-5 : tie.Need-returns-5
 unfolding planeAt onNumber refuse
 returns-5 c =
+    let len = c .before .before .before .before .len in
+    let read-number2 = c .before .before .before .before .before .before .read-number2 in
+    let stride = c .before .before .before .before .before .before .before .before .stride in
+    let read-number = c .before .before .before .before .before .before .before .before .before .before .read-number in
     simp (
-      sym (c .before .before .before .before .before .before .before .before .before .before .read-number .ensures),
-      c .before .before .before .before .before .before .before .before .stride .given .1,
-      sym (c .before .before .before .before .before .before .read-number2 .ensures),
-      c .before .before .before .before .len .given .1,
+      sym (read-number .ensures),
+      stride .given .1,
+      sym (read-number2 .ensures),
+      len .given .1,
       le-ltb _ _ (c .before .before .if1 .left),
       le-leb _ _ (c .before .before .if1 .left),
       le-ltb _ _ (c .before .if2 .left),
@@ -124,11 +140,15 @@ returns-5 c =
 returns-6 : tie.Need-returns-6
 unfolding planeAt onNumber refuse
 returns-6 c =
+    let len = c .before .before .before .before .len in
+    let read-number2 = c .before .before .before .before .before .before .read-number2 in
+    let stride = c .before .before .before .before .before .before .before .before .stride in
+    let read-number = c .before .before .before .before .before .before .before .before .before .before .read-number in
     simp (
-      sym (c .before .before .before .before .before .before .before .before .before .before .read-number .ensures),
-      c .before .before .before .before .before .before .before .before .stride .given .1,
-      sym (c .before .before .before .before .before .before .read-number2 .ensures),
-      c .before .before .before .before .len .given .1,
+      sym (read-number .ensures),
+      stride .given .1,
+      sym (read-number2 .ensures),
+      len .given .1,
       le-ltb _ _ (c .before .before .if1 .left),
       le-leb _ _ (c .before .before .if1 .left),
       le-ltb _ _ (c .before .if2 .left),

@@ -55,7 +55,13 @@ loop-less : tie.Need-loop-less Inv-loop μ-loop
 loop-less c = search needs
 
 loop-again : tie.Need-loop-again Inv-loop μ-loop
-loop-again c = let r = c .before .before .loop in (omega arith, ap (λ (v : ℕ). v * 256 + getD (now (c .before .before .before .before .before .args .s)) (c .before .before .before .before .before .args .self .at + r .i) 0) (r .inv .1) ∙ sym (bigEndian-more _ _ _), weight-more (r .i) (r .value) _ (r .inv .2) (omega (arith, c .shared-slice-known .given (c .before .before .before .before .before .args .self .at + r .i))))
+loop-again c =
+    let start = c .before .before .before .before .before in
+    let r = c .before .before .loop in (
+      omega arith,
+      ap (λ (v : ℕ). v * 256 + getD (now (start .args .s)) (start .args .self .at + r .i) 0) (r .inv .1) ∙ sym (bigEndian-more _ _ _),
+      weight-more (r .i) (r .value) _ (r .inv .2) (omega (arith, c .shared-slice-known .given (start .args .self .at + r .i))),
+    )
 
 cast-t16 : tie.Need-cast-t16 Inv-loop μ-loop
 cast-t16 c = let r = c .before .loop in let h : r .value < 256 ^ 4 = omega (arith, weight-small (r .i) 4 (omega arith)) in omega arith

@@ -6,7 +6,7 @@ use Rattle.overlay.proofs.blend.reach.Tie as tie
 use Rattle.overlay.proofs.blend.reach.Reads as reads
 use Rattle.overlay.proofs.blend.reach.Lts as lts
 use Rattle.overlay.proofs.blend.before.Reads as before-reads
-use Rattle.overlay.proofs.blend.less.Reads as less-reads
+use Rattle.numbers.proofs.saturating_sub.Reads as saturating-sub-reads
 
 cast-ahead : tie.Need-cast-ahead
 cast-ahead c = search needs
@@ -14,17 +14,17 @@ cast-ahead c = search needs
 cast-behind : tie.Need-cast-behind
 cast-behind c = search needs
 
-less-requires : tie.Need-less-requires
-less-requires c κs = search needs
+saturating-sub-requires : tie.Need-saturating-sub-requires
+saturating-sub-requires c κs = search needs
 
 before-requires : tie.Need-before-requires
 before-requires c κs = search needs
 
-add-less : tie.Need-add-less
-add-less c = search needs
+add-saturating-sub : tie.Need-add-saturating-sub
+add-saturating-sub c = search needs
 
-less-requires-2 : tie.Need-less-requires-2
-less-requires-2 c κs = search needs
+saturating-sub-requires-2 : tie.Need-saturating-sub-requires-2
+saturating-sub-requires-2 c κs = search needs
 
 before-requires-2 : tie.Need-before-requires-2
 before-requires-2 c κs = search needs
@@ -33,9 +33,9 @@ returns : tie.Need-returns
 unfolding stretchOf
 returns c =
     simp (
-      sym (c .before .before .before .less .ensures),
+      sym (c .before .before .before .saturating-sub .ensures),
       sym (c .before .before .before2 .ensures),
-      sym (c .before .less2 .ensures),
+      sym (c .before .saturating-sub2 .ensures),
       sym (c .before3 .ensures),
     )
 
@@ -45,9 +45,9 @@ reach-spec =
     (tie.spec
     cast-ahead
     cast-behind
-    less-requires
+    saturating-sub-requires
     before-requires
-    add-less
-    less-requires-2
+    add-saturating-sub
+    saturating-sub-requires-2
     before-requires-2
     returns)

@@ -4,7 +4,7 @@ use borrow.Author.Needs.{needs}
 use denote.Ref.{now}
 use Rattle.laws.proofs.Order.{pick-false, pick-true}
 use Rattle.image.proofs.FormLaws.{bytes-few}
-use Rattle.image.specs.Bytes.{sampleIn}
+use Rattle.planes.specs.Bytes.{sampleIn}
 use Rattle.image.specs.Format.{hasAlpha, hasPart}
 use Rattle.overlay.proofs.blend.source_alpha.Statement.{statement}
 use Rattle.overlay.specs.inner.Block.{alphaIn}
@@ -13,7 +13,7 @@ use Rattle.overlay.proofs.blend.source_alpha.Reads as reads
 use Rattle.overlay.proofs.blend.source_alpha.Lts as lts
 use Rattle.image.proofs.format.PixelFormat.bytes_per_sample.Reads as bytes-per-sample-reads
 use Rattle.image.proofs.format.PixelFormat.has.Reads as has-reads
-use Rattle.image.proofs.sample.Reads as sample-reads
+use Rattle.planes.proofs.sample.Reads as sample-reads
 
 has-requires : tie.Need-has-requires
 has-requires c κs = search needs
@@ -27,7 +27,12 @@ sample-requires c κs = rw (c .bytes-per-sample .ensures) (bytes-few _ .0, bytes
 
 returns : tie.Need-returns
 unfolding alphaIn hasPart
-returns c = c .sample .ensures ∙ ap (λ (b : ℕ). sampleIn (now (c .before .before .before .before .before .before .args .alpha)) b (c .before .before .before .before .before .before .args .s .«alpha_stride») (c .before .before .before .before .before .before .args .x) (c .before .before .before .before .before .before .args .y)) (c .before .bytes-per-sample .ensures) ∙ sym (pick-true (hasAlpha (c .before .before .before .before .before .before .args .s .format)) _ _ (sym (c .before .before .before .has .ensures) ∙ c .before .before .if1 .taken))
+returns c =
+    let start = c .before .before .before .before .before .before in
+    c .sample .ensures
+    ∙ ap (λ (b : ℕ). sampleIn (now (start .args .alpha)) b (start .args .s .«alpha_stride») (start .args .x) (start .args .y))
+    (c .before .bytes-per-sample .ensures)
+    ∙ sym (pick-true (hasAlpha (start .args .s .format)) _ _ (sym (c .before .before .before .has .ensures) ∙ c .before .before .if1 .taken))
 
 returns-2 : tie.Need-returns-2
 unfolding alphaIn hasPart

@@ -21,24 +21,61 @@ enum-told : tie.Need-enum-told
 enum-told c = search needs
 
 returns : tie.Need-returns
-returns c = not-done _ _ (sym (ap filledOut (c .enum-told .given .1)) ∙ c .before .before .fill-to-ycbcr .ensures ∙ fill-taken (c .before .before .before .before .before .before .before .before .before .before .before .args .plan .descriptor .«canvas_fill») (c .before .before .before .before .before .before .before .before .before .before .before .args .plan .form .format .depth) (c .before .before .before .before .before .before .before .before .before .before .before .args .colour) (c .before .before .before .before .before .before .before .before .before .before .before .pre .0 .form .low) (c .before .before .before .before .before .before .before .before .before .before .before .pre .0 .form .high))
+returns c =
+    let start = c .before .before .before .before .before .before .before .before .before .before .before in
+    not-done _ _
+    (sym (ap filledOut (c .enum-told .given .1))
+    ∙ c .before .before .fill-to-ycbcr .ensures
+    ∙ fill-taken (start .args .plan .descriptor .«canvas_fill») (start .args .plan .form .format .depth) (start .args .colour)
+    (start .pre .0 .form .low) (start .pre .0 .form .high))
 
 fill-alpha-requires : tie.Need-fill-alpha-requires
-fill-alpha-requires c κs = c .before .before .before .before .before .before .before .before .before .before .before .before .pre .0 .form .high
+fill-alpha-requires c κs =
+    let start = c .before .before .before .before .before .before .before .before .before .before .before .before in
+    start .pre .0 .form .high
 
 top-requires : tie.Need-top-requires
-top-requires c κs = c .before .before .before .before .before .before .before .before .before .before .before .before .before .pre .0 .form .high
+top-requires c κs =
+    let start = c .before .before .before .before .before .before .before .before .before .before .before .before .before in
+    start .pre .0 .form .high
 
 write-overlay-requires : tie.Need-write-overlay-requires
 unfolding fillFor
-write-overlay-requires c κs = (c .before .before .before .before .before .before .before .before .before .before .before .before .before .before .before .pre .0, c .before .top .ensures, drawn-room (c .before .before .before .before .before .before .before .before .before .before .before .before .before .before .before .args .plan .form) _ _ _ _ (layersAt (now (c .before .before .before .before .before .before .before .before .before .before .before .before .before .before .before .args .body)) (now (c .before .before .before .before .before .before .before .before .before .before .before .before .before .before .before .args .tray)) (now (c .before .before .before .before .before .before .before .before .before .before .before .before .before .before .before .args .premultiplied)) (c .before .before .before .before .before .before .before .before .before .before .before .before .before .before .before .args .plan)) _ (done-same _ _ (sym (ap filledOut (c .before .before .before .before .samples .given .1)) ∙ c .before .before .before .before .before .before .fill-to-ycbcr .ensures ∙ fill-taken (c .before .before .before .before .before .before .before .before .before .before .before .before .before .before .before .args .plan .descriptor .«canvas_fill») (c .before .before .before .before .before .before .before .before .before .before .before .before .before .before .before .args .plan .form .format .depth) (c .before .before .before .before .before .before .before .before .before .before .before .before .before .before .before .args .colour) (c .before .before .before .before .before .before .before .before .before .before .before .before .before .before .before .pre .0 .form .low) (c .before .before .before .before .before .before .before .before .before .before .before .before .before .before .before .pre .0 .form .high))) (c .before .before .fill-alpha .ensures) (c .before .before .before .before .before .before .before .before .before .before .before .before .before .before .before .pre .1))
+write-overlay-requires c κs =
+    let samples = c .before .before .before .before .samples in
+    let fill-to-ycbcr = c .before .before .before .before .before .before .fill-to-ycbcr in
+    let start = c .before .before .before .before .before .before .before .before .before .before .before .before .before .before .before in (
+      start .pre .0,
+      c .before .top .ensures,
+      drawn-room (start .args .plan .form) _ _ _ _
+          (layersAt (now (start .args .body)) (now (start .args .tray)) (now (start .args .premultiplied)) (start .args .plan)) _
+          (done-same _ _
+          (sym (ap filledOut (samples .given .1))
+          ∙ fill-to-ycbcr .ensures
+          ∙ fill-taken (start .args .plan .descriptor .«canvas_fill») (start .args .plan .form .format .depth) (start .args .colour)
+          (start .pre .0 .form .low) (start .pre .0 .form .high)))
+          (c .before .before .fill-alpha .ensures) (start .pre .1),
+    )
 
 same-length : tie.Need-same-length
 same-length c = search needs
 
 returns-2 : tie.Need-returns-2
 unfolding fillFor
-returns-2 c = drawn-answer (c .before .before .before .before .before .before .before .before .before .before .before .before .before .before .before .before .before .before .args .plan .form) _ _ _ _ (layersAt (now (c .before .before .before .before .before .before .before .before .before .before .before .before .before .before .before .before .before .before .args .body)) (now (c .before .before .before .before .before .before .before .before .before .before .before .before .before .before .before .before .before .before .args .tray)) (now (c .before .before .before .before .before .before .before .before .before .before .before .before .before .before .before .before .before .before .args .premultiplied)) (c .before .before .before .before .before .before .before .before .before .before .before .before .before .before .before .before .before .before .args .plan)) _ _ _ (done-same _ _ (sym (ap filledOut (c .before .before .before .before .before .before .before .samples .given .1)) ∙ c .before .before .before .before .before .before .before .before .before .fill-to-ycbcr .ensures ∙ fill-taken (c .before .before .before .before .before .before .before .before .before .before .before .before .before .before .before .before .before .before .args .plan .descriptor .«canvas_fill») (c .before .before .before .before .before .before .before .before .before .before .before .before .before .before .before .before .before .before .args .plan .form .format .depth) (c .before .before .before .before .before .before .before .before .before .before .before .before .before .before .before .before .before .before .args .colour) (c .before .before .before .before .before .before .before .before .before .before .before .before .before .before .before .before .before .before .pre .0 .form .low) (c .before .before .before .before .before .before .before .before .before .before .before .before .before .before .before .before .before .before .pre .0 .form .high))) (c .before .before .before .before .before .fill-alpha .ensures) (c .before .before .write-overlay .ensures)
+returns-2 c =
+    let fill-alpha = c .before .before .before .before .before .fill-alpha in
+    let samples = c .before .before .before .before .before .before .before .samples in
+    let after-fill-to-ycbcr = c .before .before .before .before .before .before .before .before .before in
+    let fill-to-ycbcr = after-fill-to-ycbcr .fill-to-ycbcr in
+    let start = after-fill-to-ycbcr .before .before .before .before .before .before .before .before .before in
+    drawn-answer (start .args .plan .form) _ _ _ _
+    (layersAt (now (start .args .body)) (now (start .args .tray)) (now (start .args .premultiplied)) (start .args .plan)) _ _ _
+    (done-same _ _
+    (sym (ap filledOut (samples .given .1))
+    ∙ fill-to-ycbcr .ensures
+    ∙ fill-taken (start .args .plan .descriptor .«canvas_fill») (start .args .plan .form .format .depth) (start .args .colour)
+    (start .pre .0 .form .low) (start .pre .0 .form .high)))
+    (fill-alpha .ensures) (c .before .before .write-overlay .ensures)
 
 pub draw-overlay-spec : {M : Type 1} → statement M
 draw-overlay-spec =

@@ -9,25 +9,32 @@ use Rattle.laws.proofs.Span.{span-end, span-step}
 use Rattle.laws.proofs.Writing.{Writing, writing-as, writing-done, writing-fits, writing-run, writing-start}
 use Rattle.laws.specs.Puts.{puts}
 use Rattle.laws.specs.Span.{span}
-use Rattle.image.proofs.ByteLaws.{length-sampleBytes, length-samplesOf}
-use Rattle.image.specs.Bytes.{sampleBytes, samplesOf}
+use Rattle.planes.proofs.ByteLaws.{length-sampleBytes, length-samplesOf}
+use Rattle.planes.specs.Bytes.{sampleBytes, samplesOf}
 use Rattle.overlay.proofs.draw.write_run.Statement.{statement}
-use Rattle.overlay.specs.Overlay.{settled}
+use Rattle.overlay.specs.Overlay.{finalSample}
 use Rattle.overlay.proofs.draw.write_run.Tie as tie
 use Rattle.overlay.proofs.draw.write_run.Reads as reads
 use Rattle.overlay.proofs.draw.write_run.Lts as lts
-use Rattle.image.proofs.put_sample.Reads as put-sample-reads
+use Rattle.planes.proofs.put_sample.Reads as put-sample-reads
 use Rattle.overlay.proofs.draw.fill_part.Reads as fill-part-reads
-use Rattle.overlay.proofs.draw.finish.Reads as finish-reads
+use Rattle.overlay.proofs.draw.final_sample.Reads as final-sample-reads
 
 abbrev Inv-loop : tie.InvT-loop
-Inv-loop out₀ at bytes colour opacity n part top fill i₀ k₀ out i k = (k ≤ n) × (i ≡ at + k * bytes) × Writing out₀ at (samplesOf bytes (λ j. settled top part fill (getD colour j 0) (getD opacity j 0)) n) out i (span (λ j. sampleBytes bytes (settled top part fill (getD colour j 0) (getD opacity j 0))) k n)
+Inv-loop out₀ at bytes colour opacity n part top fill i₀ k₀ out i k =
+    (k ≤ n) × (i ≡ at + k * bytes)
+    × Writing out₀ at (samplesOf bytes (λ j. finalSample top part fill (getD colour j 0) (getD opacity j 0)) n) out i
+    (span (λ j. sampleBytes bytes (finalSample top part fill (getD colour j 0) (getD opacity j 0))) k n)
 
 abbrev μ-loop : tie.MeasureT-loop
 μ-loop out₀ at bytes colour opacity n part top fill i₀ k₀ out i k = n - k
 
 item : (c : tie.In-loop Inv-loop μ-loop) → ℕ → List ℕ
-item c j = sampleBytes (c .before .before .before .before .before .before .args .bytes) (settled (c .before .before .before .before .before .before .args .g .top) (c .before .before .before .before .before .before .args .part) (c .before .before .fill-part .result) (getD (now (c .before .before .before .before .before .before .args .colour)) j 0) (getD (now (c .before .before .before .before .before .before .args .opacity)) j 0))
+item c j =
+    let start = c .before .before .before .before .before .before in
+    sampleBytes (start .args .bytes)
+    (finalSample (start .args .g .top) (start .args .part) (c .before .before .fill-part .result) (getD (now (start .args .colour)) j 0)
+    (getD (now (start .args .opacity)) j 0))
 
 long : (c : tie.In-loop Inv-loop μ-loop) → length (item c (c .before .loop .k)) ≡ c .before .before .before .before .before .before .args .bytes
 unfolding item
@@ -36,7 +43,14 @@ long c = length-sampleBytes (c .before .before .before .before .before .before .
 step : (c : tie.In-loop Inv-loop μ-loop) → span (item c) (c .before .loop .k) (c .before .before .before .before .before .before .args .n) ≡ item c (c .before .loop .k) ++ span (item c) (c .before .loop .k + 1) (c .before .before .before .before .before .before .args .n)
 step c = span-step (item c) (c .before .loop .k) (c .before .before .before .before .before .before .args .n) (c .loop-test .taken)
 
-going : (c : tie.In-loop Inv-loop μ-loop) → Writing (now (c .before .before .before .before .before .before .args .out)) (c .before .before .before .before .before .before .args .at) (samplesOf (c .before .before .before .before .before .before .args .bytes) (λ j. settled (c .before .before .before .before .before .before .args .g .top) (c .before .before .before .before .before .before .args .part) (c .before .before .fill-part .result) (getD (now (c .before .before .before .before .before .before .args .colour)) j 0) (getD (now (c .before .before .before .before .before .before .args .opacity)) j 0)) (c .before .before .before .before .before .before .args .n)) (c .before .loop .out) (c .before .loop .i) (item c (c .before .loop .k) ++ span (item c) (c .before .loop .k + 1) (c .before .before .before .before .before .before .args .n))
+going : (c : tie.In-loop Inv-loop μ-loop)
+    → let start = c .before .before .before .before .before .before in
+    Writing (now (start .args .out)) (start .args .at)
+    (samplesOf (start .args .bytes)
+    (λ j. finalSample (start .args .g .top) (start .args .part) (c .before .before .fill-part .result) (getD (now (start .args .colour)) j 0)
+    (getD (now (start .args .opacity)) j 0))
+    (start .args .n))
+    (c .before .loop .out) (c .before .loop .i) (item c (c .before .loop .k) ++ span (item c) (c .before .loop .k + 1) (start .args .n))
 unfolding item
 going c = writing-as (c .before .loop .inv .2) (step c)
 
@@ -45,7 +59,20 @@ fill-part-requires c κs = search needs
 
 loop-holds : tie.Need-loop-holds Inv-loop μ-loop
 unfolding samplesOf
-loop-holds c = (omega arith, omega arith, writing-start _ _ _ (omega (arith, c .before .before .before .before .pre .4, length-samplesOf (c .before .before .before .before .args .bytes) (λ j. settled (c .before .before .before .before .args .g .top) (c .before .before .before .before .args .part) (c .fill-part .result) (getD (now (c .before .before .before .before .args .colour)) j 0) (getD (now (c .before .before .before .before .args .opacity)) j 0)) (c .before .before .before .before .args .n) (c .before .before .before .before .pre .0) (c .before .before .before .before .pre .1))))
+loop-holds c =
+    let start = c .before .before .before .before in (
+      omega arith,
+      omega arith,
+      writing-start _ _ _
+          (omega (
+            arith,
+            start .pre .4,
+            length-samplesOf (start .args .bytes)
+                (λ j. finalSample (start .args .g .top) (start .args .part) (c .fill-part .result) (getD (now (start .args .colour)) j 0)
+                (getD (now (start .args .opacity)) j 0))
+                (start .args .n) (start .pre .0) (start .pre .1),
+          )),
+    )
 
 mul-v : tie.Need-mul-v Inv-loop μ-loop
 mul-v c = omega (arith, c .before .before .before .before .before .before .pre .2, c .loop-test .taken)
@@ -59,11 +86,15 @@ mul-a c = omega (arith, c .before .before .before .before .before .before .befor
 shared-slice-read-a : tie.Need-shared-slice-read-a Inv-loop μ-loop
 shared-slice-read-a c = omega (arith, c .before .before .before .before .before .before .before .before .pre .3, c .before .before .loop-test .taken)
 
-finish-requires : tie.Need-finish-requires Inv-loop μ-loop
-finish-requires c κs = search needs
+final-sample-requires : tie.Need-final-sample-requires Inv-loop μ-loop
+final-sample-requires c κs = search needs
 
 put-sample-requires : tie.Need-put-sample-requires Inv-loop μ-loop
-put-sample-requires c κs = (c .before .before .before .before .before .before .before .before .before .before .pre .0, c .before .before .before .before .before .before .before .before .before .before .pre .1, rw (← (long ((c .before .before .before .before)))) (writing-fits (item ((c .before .before .before .before)) (c .before .before .before .before .before .loop .k)) _ (going ((c .before .before .before .before)))))
+put-sample-requires c κs =
+    let in-loop = c .before .before .before .before in
+    let loop = in-loop .before .loop in
+    let start = in-loop .before .before .before .before .before .before in
+    (start .pre .0, start .pre .1, rw (← (long in-loop)) (writing-fits (item in-loop (loop .k)) _ (going in-loop)))
 
 add-k : tie.Need-add-k Inv-loop μ-loop
 add-k c = search needs
@@ -73,13 +104,34 @@ loop-less c = search needs
 
 loop-again : tie.Need-loop-again Inv-loop μ-loop
 unfolding item
-loop-again c = (omega (arith, c .before .before .before .before .before .before .before .loop-test .taken), omega (arith, c .before .before .put-sample .ensures .0, c .before .before .before .before .before .before .before .before .loop .inv .1), writing-run (item ((c .before .before .before .before .before .before .before)) (c .before .before .before .before .before .before .before .before .loop .k)) (going ((c .before .before .before .before .before .before .before))) (c .before .before .put-sample .ensures .0 ∙ ap (λ (k : ℕ). c .before .before .before .before .before .before .before .before .loop .i + k) (sym (long ((c .before .before .before .before .before .before .before))))) (c .before .before .put-sample .ensures .1 ∙ ap (puts (c .before .before .before .before .before .before .before .before .loop .out) (c .before .before .before .before .before .before .before .before .loop .i)) (ap (sampleBytes (c .before .before .before .before .before .before .before .before .before .before .before .before .before .args .bytes)) (c .before .before .before .finish .ensures))))
+loop-again c =
+    let in-loop = c .before .before .before .before .before .before .before in
+    let loop-test = in-loop .loop-test in
+    let loop = in-loop .before .loop in
+    let start = in-loop .before .before .before .before .before .before in (
+      omega (arith, loop-test .taken),
+      omega (arith, c .before .before .put-sample .ensures .0, loop .inv .1),
+      writing-run (item in-loop (loop .k)) (going in-loop)
+          (c .before .before .put-sample .ensures .0 ∙ ap (λ (k : ℕ). loop .i + k) (sym (long in-loop)))
+          (c .before .before .put-sample .ensures .1
+          ∙ ap (puts (loop .out) (loop .i)) (ap (sampleBytes (start .args .bytes)) (c .before .before .before .final-sample .ensures))),
+    )
 
 same-length : tie.Need-same-length Inv-loop μ-loop
 same-length c = c .before .loop .inv .2 .long
 
 returns : tie.Need-returns Inv-loop μ-loop
-returns c = let e : c .before .loop .k ≡ c .before .before .before .before .before .before .args .n = omega (arith, c .before .loop .inv .0, c .loop-test .left) in (c .before .loop .inv .1 ∙ ap (λ (x : ℕ). c .before .before .before .before .before .before .args .at + x * c .before .before .before .before .before .before .args .bytes) e, writing-done (writing-as (c .before .loop .inv .2) (span-end _ _ _ (c .loop-test .left))) .1 ∙ ap (puts (now (c .before .before .before .before .before .before .args .out)) (c .before .before .before .before .before .before .args .at)) (ap (λ (q : ℕ). samplesOf (c .before .before .before .before .before .before .args .bytes) (λ j. settled (c .before .before .before .before .before .before .args .g .top) (c .before .before .before .before .before .before .args .part) q (getD (now (c .before .before .before .before .before .before .args .colour)) j 0) (getD (now (c .before .before .before .before .before .before .args .opacity)) j 0)) (c .before .before .before .before .before .before .args .n)) (c .before .before .fill-part .ensures)))
+returns c =
+    let start = c .before .before .before .before .before .before in
+    let e : c .before .loop .k ≡ start .args .n = omega (arith, c .before .loop .inv .0, c .loop-test .left) in (
+      c .before .loop .inv .1 ∙ ap (λ (x : ℕ). start .args .at + x * start .args .bytes) e,
+      writing-done (writing-as (c .before .loop .inv .2) (span-end _ _ _ (c .loop-test .left))) .1
+          ∙ ap (puts (now (start .args .out)) (start .args .at))
+          (ap (λ (q : ℕ). samplesOf (start .args .bytes)
+          (λ j. finalSample (start .args .g .top) (start .args .part) q (getD (now (start .args .colour)) j 0) (getD (now (start .args .opacity)) j 0))
+          (start .args .n))
+          (c .before .before .fill-part .ensures)),
+    )
 
 pub write-run-spec : {M : Type 1} → statement M
 write-run-spec =
@@ -93,7 +145,7 @@ write-run-spec =
     shared-slice-read-v
     mul-a
     shared-slice-read-a
-    finish-requires
+    final-sample-requires
     put-sample-requires
     add-k
     loop-less

@@ -1,7 +1,7 @@
 use mathlib.Core.Path.{_∙_, ap, sym}
 use native.Mathlib.Omega.{arith}
 use borrow.Author.Needs.{needs}
-use Rattle.image.specs.Bytes.{Bytes}
+use Rattle.laws.specs.Puts.{Bytes}
 use Rattle.props.proofs.ChainLaws.{judged-chain}
 use Rattle.props.specs.Chain.{chainOut}
 use Rattle.sight.specs.Sight.{sightOut}
@@ -59,14 +59,42 @@ returns-2 : tie.Need-returns-2
 returns-2 c = grid-chain _ _ _ _ _ _ (sym (c .before .before .before .before .before .before .read-number .ensures) ∙ c .before .before .before .before .enum-told .given .1) _ (sym (c .before .before .before .check-chain .ensures) ∙ ap chainOut (c .before .e .given .1))
 
 returns-3 : tie.Need-returns-3
-returns-3 c = grid-tiles _ _ _ _ _ _ (sym (c .before .before .before .before .before .before .before .before .before .before .read-number .ensures) ∙ c .before .before .before .before .before .before .before .before .enum-told .given .1) _ (sym (c .before .before .before .before .before .before .before .check-chain .ensures) ∙ ap chainOut (c .before .before .before .before .before .c .given .1)) _ (sym (c .before .before .before .read-tiles .ensures) ∙ ap tilesOut (c .before .e2 .given .1))
+returns-3 c =
+    let c′ = c .before .before .before .before .before .c in
+    let check-chain = c .before .before .before .before .before .before .before .check-chain in
+    let enum-told′ = c .before .before .before .before .before .before .before .before .enum-told in
+    let read-number = c .before .before .before .before .before .before .before .before .before .before .read-number in
+    grid-tiles _ _ _ _ _ _ (sym (read-number .ensures) ∙ enum-told′ .given .1) _ (sym (check-chain .ensures) ∙ ap chainOut (c′ .given .1)) _
+    (sym (c .before .before .before .read-tiles .ensures) ∙ ap tilesOut (c .before .e2 .given .1))
 
 returns-4 : tie.Need-returns-4
-returns-4 c = grid-sight _ _ _ _ _ _ (sym (c .before .before .before .before .before .before .before .before .before .before .before .before .before .before .before .read-number .ensures) ∙ c .before .before .before .before .before .before .before .before .before .before .before .before .before .enum-told .given .1) _ (sym (c .before .before .before .before .before .before .before .before .before .before .before .before .check-chain .ensures) ∙ ap chainOut (c .before .before .before .before .before .before .before .before .before .before .c .given .1)) _ (sym (c .before .before .before .before .before .before .before .before .read-tiles .ensures) ∙ ap tilesOut (c .before .before .before .before .before .before .tiles .given .1)) _ (sym (c .before .before .before .reduce-judged .ensures) ∙ ap sightOut (c .before .e3 .given .1))
+returns-4 c =
+    let tiles = c .before .before .before .before .before .before .tiles in
+    let read-tiles = c .before .before .before .before .before .before .before .before .read-tiles in
+    let after-c = c .before .before .before .before .before .before .before .before .before .before in
+    let c′ = after-c .c in
+    let check-chain = after-c .before .before .check-chain in
+    let enum-told′ = after-c .before .before .before .enum-told in
+    let read-number = after-c .before .before .before .before .before .read-number in
+    grid-sight _ _ _ _ _ _ (sym (read-number .ensures) ∙ enum-told′ .given .1) _ (sym (check-chain .ensures) ∙ ap chainOut (c′ .given .1)) _
+    (sym (read-tiles .ensures) ∙ ap tilesOut (tiles .given .1)) _
+    (sym (c .before .before .before .reduce-judged .ensures) ∙ ap sightOut (c .before .e3 .given .1))
 
 returns-5 : tie.Need-returns-5
 unfolding Bytes
-returns-5 c = grid-done _ _ _ _ _ _ (sym (c .before .before .before .before .before .before .before .before .before .before .before .before .before .before .before .read-number .ensures) ∙ c .before .before .before .before .before .before .before .before .before .before .before .before .before .enum-told .given .1) _ (sym (c .before .before .before .before .before .before .before .before .before .before .before .before .check-chain .ensures) ∙ ap chainOut (c .before .before .before .before .before .before .before .before .before .before .c .given .1)) _ (sym (c .before .before .before .before .before .before .before .before .read-tiles .ensures) ∙ ap tilesOut (c .before .before .before .before .before .before .tiles .given .1)) _ (sym (c .before .before .before .reduce-judged .ensures) ∙ ap sightOut (c .before .sight .given .1)) (λ i. omega (arith, c .before .before .before .before .before .before .before .before .before .before .before .before .before .before .before .before .before .before .shared-slice-known .given i))
+returns-5 c =
+    let tiles = c .before .before .before .before .before .before .tiles in
+    let read-tiles = c .before .before .before .before .before .before .before .before .read-tiles in
+    let after-c = c .before .before .before .before .before .before .before .before .before .before in
+    let c′ = after-c .c in
+    let check-chain = after-c .before .before .check-chain in
+    let enum-told′ = after-c .before .before .before .enum-told in
+    let read-number = after-c .before .before .before .before .before .read-number in
+    let shared-slice-known = after-c .before .before .before .before .before .before .before .before .shared-slice-known in
+    grid-done _ _ _ _ _ _ (sym (read-number .ensures) ∙ enum-told′ .given .1) _ (sym (check-chain .ensures) ∙ ap chainOut (c′ .given .1)) _
+    (sym (read-tiles .ensures) ∙ ap tilesOut (tiles .given .1)) _
+    (sym (c .before .before .before .reduce-judged .ensures) ∙ ap sightOut (c .before .sight .given .1))
+    (λ i. omega (arith, shared-slice-known .given i))
 
 pub look-grid-spec : {M : Type 1} → statement M
 look-grid-spec =

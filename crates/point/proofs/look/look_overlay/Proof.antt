@@ -3,14 +3,14 @@ use borrow.Author.Needs.{needs}
 use Rattle.props.proofs.ChainLaws.{judged-chain}
 use Rattle.props.specs.Chain.{chainOut}
 use Rattle.sight.specs.Sight.{sightOut}
-use Rattle.overlay.specs.inner.Block.{planOut}
+use Rattle.inputs.specs.inner.Summary.{planOut}
 use Rattle.point.proofs.PointLaws.{overlay-alpha, overlay-chain, overlay-done, overlay-inputs, overlay-malformed, overlay-sight}
 use Rattle.point.proofs.look.look_overlay.Statement.{statement}
 use Rattle.point.proofs.look.look_overlay.Tie as tie
 use Rattle.point.proofs.look.look_overlay.Reads as reads
 use Rattle.point.proofs.look.look_overlay.Lts as lts
 use Rattle.numbers.proofs.read_number.Reads as read-number-reads
-use Rattle.overlay.proofs.read_inputs.Reads as read-inputs-reads
+use Rattle.inputs.proofs.read_inputs.Reads as read-inputs-reads
 use Rattle.props.proofs.check_chain.Reads as check-chain-reads
 use Rattle.sight.proofs.reduce_judged.Reads as reduce-judged-reads
 
@@ -45,7 +45,15 @@ enum-known-q : tie.Need-enum-known-q
 enum-known-q c = search needs
 
 returns-2 : tie.Need-returns-2
-returns-2 c = overlay-alpha _ _ _ _ _ _ _ (sym (c .before .before .before .before .before .before .before .before .before .before .before .before .read-number .ensures) ∙ c .before .before .before .before .before .before .before .before .before .before .count .given .1) _ (sym (c .before .before .before .before .before .before .before .before .check-chain .ensures) ∙ ap chainOut (c .before .before .before .before .before .before .c .given .1)) _ (sym (c .before .before .before .before .read-inputs .ensures) ∙ ap planOut (c .before .before .q .given .1)) (c .if1 .taken)
+returns-2 c =
+    let read-inputs = c .before .before .before .before .read-inputs in
+    let c′ = c .before .before .before .before .before .before .c in
+    let check-chain = c .before .before .before .before .before .before .before .before .check-chain in
+    let after-count = c .before .before .before .before .before .before .before .before .before .before in
+    let count = after-count .count in
+    let read-number = after-count .before .before .read-number in
+    overlay-alpha _ _ _ _ _ _ _ (sym (read-number .ensures) ∙ count .given .1) _ (sym (check-chain .ensures) ∙ ap chainOut (c′ .given .1)) _
+    (sym (read-inputs .ensures) ∙ ap planOut (c .before .before .q .given .1)) (c .if1 .taken)
 
 reduce-judged-requires : tie.Need-reduce-judged-requires
 reduce-judged-requires c κs = judged-chain _ _ _ (sym (c .before .before .before .before .before .before .before .before .before .check-chain .ensures) ∙ ap chainOut (c .before .before .before .before .before .before .before .c .given .1)) .0
@@ -60,13 +68,42 @@ returns-3 : tie.Need-returns-3
 returns-3 c = overlay-chain _ _ _ _ _ _ _ (sym (c .before .before .before .before .before .before .before .read-number .ensures) ∙ c .before .before .before .before .before .count .given .1) _ (sym (c .before .before .before .check-chain .ensures) ∙ ap chainOut (c .before .e .given .1))
 
 returns-4 : tie.Need-returns-4
-returns-4 c = overlay-inputs _ _ _ _ _ _ _ (sym (c .before .before .before .before .before .before .before .before .before .before .before .read-number .ensures) ∙ c .before .before .before .before .before .before .before .before .before .count .given .1) _ (sym (c .before .before .before .before .before .before .before .check-chain .ensures) ∙ ap chainOut (c .before .before .before .before .before .c .given .1)) _ (sym (c .before .before .before .read-inputs .ensures) ∙ ap planOut (c .before .e2 .given .1))
+returns-4 c =
+    let c′ = c .before .before .before .before .before .c in
+    let check-chain = c .before .before .before .before .before .before .before .check-chain in
+    let after-count = c .before .before .before .before .before .before .before .before .before in
+    let count = after-count .count in
+    let read-number = after-count .before .before .read-number in
+    overlay-inputs _ _ _ _ _ _ _ (sym (read-number .ensures) ∙ count .given .1) _ (sym (check-chain .ensures) ∙ ap chainOut (c′ .given .1)) _
+    (sym (c .before .before .before .read-inputs .ensures) ∙ ap planOut (c .before .e2 .given .1))
 
 returns-5 : tie.Need-returns-5
-returns-5 c = overlay-sight _ _ _ _ _ _ _ (sym (c .before .before .before .before .before .before .before .before .before .before .before .before .before .before .before .before .before .read-number .ensures) ∙ c .before .before .before .before .before .before .before .before .before .before .before .before .before .before .before .count .given .1) _ (sym (c .before .before .before .before .before .before .before .before .before .before .before .before .before .check-chain .ensures) ∙ ap chainOut (c .before .before .before .before .before .before .before .before .before .before .before .c .given .1)) _ (sym (c .before .before .before .before .before .before .before .before .before .read-inputs .ensures) ∙ ap planOut (c .before .before .before .before .before .before .before .q .given .1)) (c .before .before .before .before .before .if1 .left) _ (sym (c .before .before .before .reduce-judged .ensures) ∙ ap sightOut (c .before .e3 .given .1))
+returns-5 c =
+    let if1 = c .before .before .before .before .before .if1 in
+    let q = c .before .before .before .before .before .before .before .q in
+    let after-read-inputs = c .before .before .before .before .before .before .before .before .before in
+    let read-inputs = after-read-inputs .read-inputs in
+    let c′ = after-read-inputs .before .before .c in
+    let check-chain = after-read-inputs .before .before .before .before .check-chain in
+    let count = after-read-inputs .before .before .before .before .before .before .count in
+    let read-number = after-read-inputs .before .before .before .before .before .before .before .before .read-number in
+    overlay-sight _ _ _ _ _ _ _ (sym (read-number .ensures) ∙ count .given .1) _ (sym (check-chain .ensures) ∙ ap chainOut (c′ .given .1)) _
+    (sym (read-inputs .ensures) ∙ ap planOut (q .given .1)) (if1 .left) _
+    (sym (c .before .before .before .reduce-judged .ensures) ∙ ap sightOut (c .before .e3 .given .1))
 
 returns-6 : tie.Need-returns-6
-returns-6 c = overlay-done _ _ _ _ _ _ _ (sym (c .before .before .before .before .before .before .before .before .before .before .before .before .before .before .before .before .before .read-number .ensures) ∙ c .before .before .before .before .before .before .before .before .before .before .before .before .before .before .before .count .given .1) _ (sym (c .before .before .before .before .before .before .before .before .before .before .before .before .before .check-chain .ensures) ∙ ap chainOut (c .before .before .before .before .before .before .before .before .before .before .before .c .given .1)) _ (sym (c .before .before .before .before .before .before .before .before .before .read-inputs .ensures) ∙ ap planOut (c .before .before .before .before .before .before .before .q .given .1)) (c .before .before .before .before .before .if1 .left) _ (sym (c .before .before .before .reduce-judged .ensures) ∙ ap sightOut (c .before .sight .given .1))
+returns-6 c =
+    let if1 = c .before .before .before .before .before .if1 in
+    let q = c .before .before .before .before .before .before .before .q in
+    let after-read-inputs = c .before .before .before .before .before .before .before .before .before in
+    let read-inputs = after-read-inputs .read-inputs in
+    let c′ = after-read-inputs .before .before .c in
+    let check-chain = after-read-inputs .before .before .before .before .check-chain in
+    let count = after-read-inputs .before .before .before .before .before .before .count in
+    let read-number = after-read-inputs .before .before .before .before .before .before .before .before .read-number in
+    overlay-done _ _ _ _ _ _ _ (sym (read-number .ensures) ∙ count .given .1) _ (sym (check-chain .ensures) ∙ ap chainOut (c′ .given .1)) _
+    (sym (read-inputs .ensures) ∙ ap planOut (q .given .1)) (if1 .left) _
+    (sym (c .before .before .before .reduce-judged .ensures) ∙ ap sightOut (c .before .sight .given .1))
 
 pub look-overlay-spec : {M : Type 1} → statement M
 look-overlay-spec =

@@ -29,7 +29,12 @@ spot-at-requires-2 : tie.Need-spot-at-requires-2
 spot-at-requires-2 c κs = not-false _ (ap not (sym (c .before .before .reaches2 .ensures)) ∙ c .before .if2 .left)
 
 returns-3 : tie.Need-returns-3
-returns-3 c = lies-over _ _ _ _ _ (ap not (sym (c .before .before .before .before .before .reaches .ensures)) ∙ c .before .before .before .before .if1 .left) (ap not (sym (c .before .before .before .reaches2 .ensures)) ∙ c .before .before .if2 .left) _ _ (c .before .spot-at .ensures) (c .spot-at2 .ensures)
+returns-3 c =
+    let if1 = c .before .before .before .before .if1 in
+    let reaches = c .before .before .before .before .before .reaches in
+    lies-over _ _ _ _ _ (ap not (sym (reaches .ensures)) ∙ if1 .left)
+    (ap not (sym (c .before .before .before .reaches2 .ensures)) ∙ c .before .before .if2 .left) _ _ (c .before .spot-at .ensures)
+    (c .spot-at2 .ensures)
 
 pub name-input-spec : {M : Type 1} → statement M
 name-input-spec =

@@ -4,10 +4,10 @@ use native.Mathlib.Nat.{sub-zero}
 use native.Mathlib.Omega.{arith}
 use borrow.Author.Needs.{needs}
 use Rattle.image.specs.Record.{frameOut}
-use Rattle.overlay.specs.inner.Block.{framesFrom}
+use Rattle.image.specs.inner.Frames.{framesFrom}
 use Rattle.point.proofs.PointLaws.{top-next, top-none, top-refused}
 use Rattle.point.proofs.names.name_topmost.Statement.{statement}
-use Rattle.point.specs.Point.{topmostFrom}
+use Rattle.point.specs.Point.{topmostNamed}
 use Rattle.point.specs.inner.Look.{placeIn}
 use Rattle.point.specs.declared.Named.{Named}
 use Rattle.point.proofs.names.name_topmost.Tie as tie
@@ -18,7 +18,7 @@ use Rattle.image.proofs.read_record.Reads as read-record-reads
 use Rattle.point.proofs.names.name_input.Reads as name-input-reads
 
 abbrev Inv-loop : tie.InvT-loop
-Inv-loop body tray d first l count at₀ i₀ found₀ at i found = (i ≤ d .count) × (topmostFrom body d (placeIn l) 0 Named.Fill (framesFrom (d .count) tray first) ≡ topmostFrom body d (placeIn l) i found (framesFrom (d .count - i) tray at))
+Inv-loop body tray d first l count at₀ i₀ found₀ at i found = (i ≤ d .count) × (topmostNamed body d (placeIn l) 0 Named.Fill (framesFrom (d .count) tray first) ≡ topmostNamed body d (placeIn l) i found (framesFrom (d .count - i) tray at))
 
 abbrev μ-loop : tie.MeasureT-loop
 μ-loop body tray d first l count at₀ i₀ found₀ at i found = d .count - i
@@ -45,13 +45,24 @@ name-input-requires : tie.Need-name-input-requires Inv-loop μ-loop
 name-input-requires c κs = search needs
 
 add-i : tie.Need-add-i Inv-loop μ-loop
-add-i c = omega (arith, c .before .before .before .before .before .before .loop-test .taken, c .before .before .before .before .before .before .before .before .before .before .pre .count)
+add-i c =
+    let loop-test = c .before .before .before .before .before .before .loop-test in
+    let start = c .before .before .before .before .before .before .before .before .before .before in
+    omega (arith, loop-test .taken, start .pre .count)
 
 loop-less : tie.Need-loop-less Inv-loop μ-loop
 loop-less c = search needs
 
 loop-again : tie.Need-loop-again Inv-loop μ-loop
-loop-again c = (omega (arith, c .before .before .before .before .before .before .loop-test .taken), c .before .before .before .before .before .before .before .loop .inv .1 ∙ top-next _ _ _ _ _ _ _ _ _ _ (c .before .before .before .before .before .before .loop-test .taken) (sym (c .before .before .before .before .before .read-record .ensures) ∙ ap frameOut (c .before .before .before .fr .given .1)) (c .before .offset .ensures) (c .name-input .ensures))
+loop-again c =
+    let read-record = c .before .before .before .before .before .read-record in
+    let loop-test = c .before .before .before .before .before .before .loop-test in
+    let loop = c .before .before .before .before .before .before .before .loop in (
+      omega (arith, loop-test .taken),
+      loop .inv .1
+          ∙ top-next _ _ _ _ _ _ _ _ _ _ (loop-test .taken) (sym (read-record .ensures) ∙ ap frameOut (c .before .before .before .fr .given .1))
+          (c .before .offset .ensures) (c .name-input .ensures),
+    )
 
 returns-2 : tie.Need-returns-2 Inv-loop μ-loop
 returns-2 c = sym (c .before .loop .inv .1 ∙ top-none _ _ _ _ _ _ _ (omega (arith, c .loop-test .left)))

@@ -2,7 +2,7 @@ use mathlib.Core.Path.{refl}
 use native.Mathlib.Omega.{arith}
 use borrow.Author.Needs.{needs}
 use Rattle.laws.proofs.Order.{mul-below}
-use Rattle.props.specs.Scale.{scaled}
+use Rattle.props.specs.Scale.{scaledSide}
 use Rattle.props.proofs.iscl.scaled_side.Statement.{statement}
 use Rattle.props.proofs.iscl.scaled_side.Tie as tie
 use Rattle.props.proofs.iscl.scaled_side.Reads as reads
@@ -21,7 +21,7 @@ div-result : tie.Need-div-result
 div-result c = search needs
 
 returns : tie.Need-returns
-unfolding scaled
+unfolding scaledSide
 returns c = refl
 
 pub scaled-side-spec : {M : Type 1} → statement M

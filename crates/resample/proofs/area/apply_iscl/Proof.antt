@@ -6,7 +6,7 @@ use Rattle.laws.specs.Out.{done}
 use Rattle.image.proofs.RecordLaws.{whole-sound}
 use Rattle.image.specs.Record.{frameOut, recordOf}
 use Rattle.props.specs.Scale.{scaleOf}
-use Rattle.props.specs.Size.{sizeOut}
+use Rattle.image.specs.Format.{sizeOut}
 use Rattle.resample.proofs.RunLaws.{iscl-fits, iscl-refused, iscl-run}
 use Rattle.resample.proofs.area.apply_iscl.Statement.{statement}
 use Rattle.resample.specs.Run.{isclRun}
@@ -20,7 +20,10 @@ use Rattle.resample.proofs.area.resize_area.Reads as resize-area-reads
 taken : (c : tie.After-f) → recordOf (now (c .before .before .before .before .before .args .«record»)) ≡ done (c .f .given .0 .0)
 taken c = sym (c .before .before .parse-record .ensures) ∙ ap frameOut (c .f .given .1)
 
-judged : (c : tie.After-z) → scaleOf (c .before .before .before .before .before .before .before .before .before .before .args .iscl) (c .before .before .before .before .before .f .given .0 .0 .form .width) (c .before .before .before .before .before .f .given .0 .0 .form .height) ≡ done (c .z .given .0 .0)
+judged : (c : tie.After-z)
+    → let f = c .before .before .before .before .before .f in
+    let start = c .before .before .before .before .before .before .before .before .before .before in
+    scaleOf (start .args .iscl) (f .given .0 .0 .form .width) (f .given .0 .0 .form .height) ≡ done (c .z .given .0 .0)
 judged c = sym (c .before .before .output-size .ensures) ∙ ap sizeOut (c .z .given .1)
 
 parse-record-requires : tie.Need-parse-record-requires
@@ -42,7 +45,10 @@ enum-known-z : tie.Need-enum-known-z
 enum-known-z c = search needs
 
 resize-area-requires : tie.Need-resize-area-requires
-resize-area-requires c κs = (whole-sound _ _ (taken ((c .before .before .before .before .before .before .before))) .0, iscl-fits _ _ (taken ((c .before .before .before .before .before .before .before))) (c .before .before .before .before .before .before .before .before .before .before .before .before .args .iscl) 0 _ (judged ((c .before .before))))
+resize-area-requires c κs =
+    let after-f = c .before .before .before .before .before .before .before in
+    let start = after-f .before .before .before .before .before in
+    (whole-sound _ _ (taken after-f) .0, iscl-fits _ _ (taken after-f) (start .args .iscl) 0 _ (judged (c .before .before)))
 
 returns : tie.Need-returns
 unfolding isclRun
@@ -55,7 +61,10 @@ same-length : tie.Need-same-length
 same-length c = search needs
 
 returns-3 : tie.Need-returns-3
-returns-3 c = answers-as _ _ _ _ _ (iscl-run _ _ (taken ((c .before .before .before .before .before .before .before .before .before .before))) _ _ _ (judged ((c .before .before .before .before .before)))) (c .before .before .resize-area .ensures)
+returns-3 c =
+    let after-z = c .before .before .before .before .before in
+    let after-f = after-z .before .before .before .before .before in
+    answers-as _ _ _ _ _ (iscl-run _ _ (taken after-f) _ _ _ (judged after-z)) (c .before .before .resize-area .ensures)
 
 pub apply-iscl-spec : {M : Type 1} → statement M
 apply-iscl-spec = tie.close (tie.spec parse-record-requires enum-known-e enum-known-f output-size-requires enum-known-e-2 enum-known-z resize-area-requires returns returns-2 same-length returns-3)

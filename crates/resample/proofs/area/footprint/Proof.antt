@@ -1,18 +1,17 @@
 use mathlib.Core.Path.{_∙_, ap, sym}
-use Prim.Native.Nat.{_*_, _+_, _-_, ℕ}
+use Prim.Native.Nat.{_*_, _+_, _-_, min, ℕ}
 use native.Mathlib.Omega.{arith}
 use borrow.Author.Needs.{needs}
 use borrow.Author.Tests.{le-leb, lt-leb}
 use Rattle.laws.proofs.Order.{pick-false, pick-true}
-use Rattle.resample.proofs.FootLaws.{axis-small, least-le}
+use Rattle.resample.proofs.FootLaws.{axis-small, min-le}
 use Rattle.resample.proofs.area.footprint.Statement.{statement}
 use Rattle.resample.specs.Area.{aroundOf, footOf, shareOf}
-use Rattle.resample.specs.Rounded.{least}
 use Rattle.resample.proofs.area.footprint.Tie as tie
 use Rattle.resample.proofs.area.footprint.Reads as reads
 use Rattle.resample.proofs.area.footprint.Lts as lts
-use Rattle.resample.proofs.area.above.Reads as above-reads
-use Rattle.resample.proofs.area.least.Reads as least-reads
+use Rattle.numbers.proofs.saturating_sub.Reads as saturating-sub-reads
+use Rattle.numbers.proofs.min.Reads as min-reads
 
 mul-t8 : tie.Need-mul-t8
 mul-t8 c = omega (arith, axis-small (c .before .args .k) (c .before .args .a .from) (omega (arith, c .before .pre .0, c .before .pre .2)) (c .before .pre .3))
@@ -57,24 +56,24 @@ mul-centre-4 c = search needs
 div-centre : tie.Need-div-centre
 div-centre c = search needs
 
-above-requires : tie.Need-above-requires
-above-requires c κs = search needs
+saturating-sub-requires : tie.Need-saturating-sub-requires
+saturating-sub-requires c κs = search needs
 
-sub-least : tie.Need-sub-least
-sub-least c = search needs
+sub-min : tie.Need-sub-min
+sub-min c = search needs
 
-mul-least : tie.Need-mul-least
-mul-least c = search needs
+mul-min : tie.Need-mul-min
+mul-min c = search needs
 
-least-requires : tie.Need-least-requires
-least-requires c κs = search needs
+min-requires : tie.Need-min-requires
+min-requires c κs = search needs
 
 add-t17 : tie.Need-add-t17
-add-t17 c = omega (arith, c .least .ensures, least-le (c .before .above .result) (256 * (c .before .before .before .args .a .from - 1)) .1, c .before .before .before .pre .3)
+add-t17 c = omega (arith, c .min .ensures, min-le (c .before .saturating-sub .result) (256 * (c .before .before .before .args .a .from - 1)) .1, c .before .before .before .pre .3)
 
 returns-2 : tie.Need-returns-2
 unfolding footOf aroundOf
-returns-2 c = ap (λ (n : ℕ). record { start = n; end = n + 256 }) (c .least .ensures ∙ ap (λ (n : ℕ). least n (256 * (c .before .before .before .args .a .from - 1))) (c .before .above .ensures)) ∙ sym (pick-false _ _ _ (lt-leb _ _ (c .before .before .if1 .left)))
+returns-2 c = ap (λ (n : ℕ). record { start = n; end = n + 256 }) (c .min .ensures ∙ ap (λ (n : ℕ). min n (256 * (c .before .before .before .args .a .from - 1))) (c .before .saturating-sub .ensures)) ∙ sym (pick-false _ _ _ (lt-leb _ _ (c .before .before .if1 .left)))
 
 pub footprint-spec : {M : Type 1} → statement M
 footprint-spec =
@@ -94,9 +93,9 @@ footprint-spec =
     mul-centre-3
     mul-centre-4
     div-centre
-    above-requires
-    sub-least
-    mul-least
-    least-requires
+    saturating-sub-requires
+    sub-min
+    mul-min
+    min-requires
     add-t17
     returns-2)

@@ -20,11 +20,16 @@ use Rattle.resample.proofs.attach.write_attached.Reads as write-attache
 taken : (c : tie.After-f) → recordOf (now (c .before .before .before .before .before .before .args .master)) ≡ done (c .f .given .0 .0)
 taken c = sym (c .before .before .parse-record .ensures) ∙ ap frameOut (c .f .given .1)
 
-taken2 : (c : tie.After-g) → recordOf (now (c .before .before .before .before .before .before .before .before .before .before .args .alpha)) ≡ done (c .g .given .0 .0)
+taken2 : (c : tie.After-g)
+    → let start = c .before .before .before .before .before .before .before .before .before .before in
+    recordOf (now (start .args .alpha)) ≡ done (c .g .given .0 .0)
 taken2 c = sym (c .before .before .parse-record2 .ensures) ∙ ap frameOut (c .g .given .1)
 
 abbrev bs : (c : tie.After-attached-size) → List ℕ
-bs c = attachBytes (now (c .before .before .before .before .before .before .before .before .before .before .before .before .args .master)) (c .before .before .before .before .before .before .f .given .0 .0) (now (c .before .before .before .before .before .before .before .before .before .before .before .before .args .alpha)) (c .before .before .g .given .0 .0)
+bs c =
+    let f = c .before .before .before .before .before .before .f in
+    let start = c .before .before .before .before .before .before .before .before .before .before .before .before in
+    attachBytes (now (start .args .master)) (f .given .0 .0) (now (start .args .alpha)) (c .before .before .g .given .0 .0)
 
 parse-record-requires : tie.Need-parse-record-requires
 parse-record-requires c κs = search needs
@@ -64,7 +69,15 @@ same-length : tie.Need-same-length
 same-length c = search needs
 
 returns-4 : tie.Need-returns-4
-returns-4 c = let h = rw (c .before .before .before .before .before .attached-size .ensures) at (c .before .before .before .before .if1 .left) in done-answers _ (bs ((c .before .before .before .before .before))) _ _ _ (attach-run _ _ (taken ((c .before .before .before .before .before .before .before .before .before .before .before))) _ _ (taken2 ((c .before .before .before .before .before .before .before))) _ ∙ fitted-room _ _ h) h (c .before .before .write-attached .ensures .0) (c .before .before .write-attached .ensures .1)
+returns-4 c =
+    let if1 = c .before .before .before .before .if1 in
+    let after-attached-size = c .before .before .before .before .before in
+    let attached-size = after-attached-size .attached-size in
+    let after-g = after-attached-size .before .before in
+    let after-f = after-g .before .before .before .before in
+    let h = rw (attached-size .ensures) at (if1 .left) in
+    done-answers _ (bs after-attached-size) _ _ _ (attach-run _ _ (taken after-f) _ _ (taken2 after-g) _ ∙ fitted-room _ _ h) h
+    (c .before .before .write-attached .ensures .0) (c .before .before .write-attached .ensures .1)
 
 pub attach-alpha-spec : {M : Type 1} → statement M
 attach-alpha-spec = tie.close (tie.spec parse-record-requires enum-known-e enum-known-f parse-record-requires-2 enum-known-e-2 enum-known-g attached-size-requires returns write-attached-requires returns-2 returns-3 same-length returns-4)

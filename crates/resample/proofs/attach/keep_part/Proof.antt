@@ -21,7 +21,9 @@ use Rattle.resample.proofs.attach.keep_plane.Reads as keep-plane-reads
 there : (c : tie.After-plane) → hasPart (c .before .before .before .before .before .before .before .before .args .fr .form .format) (c .before .before .before .before .before .before .before .before .args .part) ≡ true
 there c = sym (c .before .before .before .has .ensures) ∙ c .before .before .if1 .taken
 
-same : (c : tie.After-plane) → keptPlane (now (c .before .before .before .before .before .before .before .before .args .s)) (c .plane .result) ≡ keptPart (now (c .before .before .before .before .before .before .before .before .args .s)) (c .before .before .before .before .before .before .before .before .args .fr) (c .before .before .before .before .before .before .before .before .args .part)
+same : (c : tie.After-plane)
+    → let start = c .before .before .before .before .before .before .before .before in
+    keptPlane (now (start .args .s)) (c .plane .result) ≡ keptPart (now (start .args .s)) (start .args .fr) (start .args .part)
 same c = ap (keptPlane (now (c .before .before .before .before .before .before .before .before .args .s))) (c .plane .ensures) ∙ sym (kept-some _ _ _ (there c))
 
 has-requires : tie.Need-has-requires
@@ -37,7 +39,11 @@ same-length : tie.Need-same-length
 same-length c = search needs
 
 returns : tie.Need-returns
-returns c = (c .before .before .keep-plane .ensures .0 ∙ ap (λ (l : List ℕ). c .before .before .before .before .before .before .before .before .before .before .before .args .at + length l) (same ((c .before .before .before))), c .before .before .keep-plane .ensures .1 ∙ ap (puts (now (c .before .before .before .before .before .before .before .before .before .before .before .args .out)) (c .before .before .before .before .before .before .before .before .before .before .before .args .at)) (same ((c .before .before .before))))
+returns c =
+    let start = c .before .before .before .before .before .before .before .before .before .before .before in (
+      c .before .before .keep-plane .ensures .0 ∙ ap (λ (l : List ℕ). start .args .at + length l) (same (c .before .before .before)),
+      c .before .before .keep-plane .ensures .1 ∙ ap (puts (now (start .args .out)) (start .args .at)) (same (c .before .before .before)),
+    )
 
 returns-2 : tie.Need-returns-2
 returns-2 c = writing-none (now (c .before .before .before .before .before .before .args .out)) (c .before .before .before .before .before .before .args .at) _ (kept-none _ _ _ (sym (c .before .has .ensures) ∙ c .if1 .left))

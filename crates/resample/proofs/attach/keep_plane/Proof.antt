@@ -8,14 +8,14 @@ use denote.Ref.{now}
 use Rattle.laws.proofs.Writing.{Writing, writing-fits, writing-last, writing-run, writing-start}
 use Rattle.laws.specs.Puts.{puts}
 use Rattle.numbers.specs.Number.{numberBytes}
-use Rattle.image.specs.Bytes.{dataOf}
+use Rattle.image.specs.Record.{dataOf}
 use Rattle.resample.proofs.attach.keep_plane.Statement.{statement}
 use Rattle.resample.specs.Attach.{keptPlane}
 use Rattle.resample.proofs.attach.keep_plane.Tie as tie
 use Rattle.resample.proofs.attach.keep_plane.Reads as reads
 use Rattle.resample.proofs.attach.keep_plane.Lts as lts
-use Rattle.image.proofs.copy_row.Reads as copy-row-reads
-use Rattle.image.proofs.plane_data.Reads as plane-data-reads
+use Rattle.planes.proofs.copy_row.Reads as copy-row-reads
+use Rattle.planes.proofs.plane_data.Reads as plane-data-reads
 use Rattle.numbers.proofs.write_number.Reads as write-number-reads
 
 begun : (c : tie.Start) → Writing (now (c .args .out)) (c .args .at) (keptPlane (now (c .args .s)) (c .args .q)) (now (c .args .out)) (c .args .at) (numberBytes (c .args .q .stride) ++ (numberBytes (c .args .q .len) ++ dataOf (now (c .args .s)) (c .args .q)))
@@ -26,11 +26,20 @@ begun c = writing-start _ _ _ (c .pre .1)
 room : (c : tie.Start) → c .args .at + (length (numberBytes (c .args .q .stride)) + (length (numberBytes (c .args .q .len)) + length (dataOf (now (c .args .s)) (c .args .q)))) ≤ length (now (c .args .out))
 room c = omega (arith, begun c .room, length-append (numberBytes (c .args .q .stride)) (numberBytes (c .args .q .len) ++ dataOf (now (c .args .s)) (c .args .q)), length-append (numberBytes (c .args .q .len)) (dataOf (now (c .args .s)) (c .args .q)))
 
-w1 : (c : tie.After-write-number) → Writing (now (c .before .before .before .before .before .args .out)) (c .before .before .before .before .before .args .at) (keptPlane (now (c .before .before .before .before .before .args .s)) (c .before .before .before .before .before .args .q)) (c .write-number .last .0) (c .write-number .result) (numberBytes (c .before .before .before .before .before .args .q .len) ++ dataOf (now (c .before .before .before .before .before .args .s)) (c .before .before .before .before .before .args .q))
+w1 : (c : tie.After-write-number)
+    → let start = c .before .before .before .before .before in
+    Writing (now (start .args .out)) (start .args .at) (keptPlane (now (start .args .s)) (start .args .q)) (c .write-number .last .0)
+    (c .write-number .result) (numberBytes (start .args .q .len) ++ dataOf (now (start .args .s)) (start .args .q))
 w1 c = writing-run (numberBytes (c .before .before .before .before .before .args .q .stride)) (begun ((c .before .before .before .before .before))) (c .write-number .ensures .0) (c .write-number .ensures .1)
 
-w2 : (c : tie.After-write-number2) → Writing (now (c .before .before .before .before .before .before .before .before .before .before .args .out)) (c .before .before .before .before .before .before .before .before .before .before .args .at) (keptPlane (now (c .before .before .before .before .before .before .before .before .before .before .args .s)) (c .before .before .before .before .before .before .before .before .before .before .args .q)) (c .write-number2 .last .0) (c .write-number2 .result) (dataOf (now (c .before .before .before .before .before .before .before .before .before .before .args .s)) (c .before .before .before .before .before .before .before .before .before .before .args .q))
-w2 c = writing-run (numberBytes (c .before .before .before .before .before .before .before .before .before .before .args .q .len)) (w1 ((c .before .before .before .before .before))) (c .write-number2 .ensures .0) (c .write-number2 .ensures .1)
+w2 : (c : tie.After-write-number2)
+    → let start = c .before .before .before .before .before .before .before .before .before .before in
+    Writing (now (start .args .out)) (start .args .at) (keptPlane (now (start .args .s)) (start .args .q)) (c .write-number2 .last .0)
+    (c .write-number2 .result) (dataOf (now (start .args .s)) (start .args .q))
+w2 c =
+    let after-write-number = c .before .before .before .before .before in
+    let start = after-write-number .before .before .before .before .before in
+    writing-run (numberBytes (start .args .q .len)) (w1 after-write-number) (c .write-number2 .ensures .0) (c .write-number2 .ensures .1)
 
 cast-write-number : tie.Need-cast-write-number
 cast-write-number c = search needs
@@ -54,7 +63,13 @@ same-length : tie.Need-same-length
 same-length c = search needs
 
 returns : tie.Need-returns
-returns c = writing-last (w2 ((c .before .before .before .before .before .before .before))) (c .before .before .copy-row .ensures .0 ∙ ap (λ (l : List ℕ). c .before .before .before .before .before .before .before .write-number2 .result + length l) (c .before .before .before .plane-data .ensures)) (c .before .before .copy-row .ensures .1 ∙ ap (puts (c .before .before .before .before .before .before .before .write-number2 .last .0) (c .before .before .before .before .before .before .before .write-number2 .result)) (c .before .before .before .plane-data .ensures))
+returns c =
+    let after-write-number2 = c .before .before .before .before .before .before .before in
+    let write-number2 = after-write-number2 .write-number2 in
+    writing-last (w2 after-write-number2)
+    (c .before .before .copy-row .ensures .0 ∙ ap (λ (l : List ℕ). write-number2 .result + length l) (c .before .before .before .plane-data .ensures))
+    (c .before .before .copy-row .ensures .1
+    ∙ ap (puts (write-number2 .last .0) (write-number2 .result)) (c .before .before .before .plane-data .ensures))
 
 pub keep-plane-spec : {M : Type 1} → statement M
 keep-plane-spec =

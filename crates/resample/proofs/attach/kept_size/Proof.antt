@@ -27,7 +27,12 @@ add-result-2 : tie.Need-add-result-2
 add-result-2 c = search needs
 
 returns : tie.Need-returns
-returns c = let l = length-keptPlane (now (c .before .before .before .before .args .s)) (c .before .before .before .before .args .q) (c .before .before .before .before .pre .inside) in (omega (arith, c .before .number-length .ensures .0, c .number-length2 .ensures .0, l), omega (arith, c .before .number-length .ensures .1, c .number-length2 .ensures .1, c .before .before .before .before .pre .len))
+returns c =
+    let start = c .before .before .before .before in
+    let l = length-keptPlane (now (start .args .s)) (start .args .q) (start .pre .inside) in (
+      omega (arith, c .before .number-length .ensures .0, c .number-length2 .ensures .0, l),
+      omega (arith, c .before .number-length .ensures .1, c .number-length2 .ensures .1, start .pre .len),
+    )
 
 pub kept-size-spec : {M : Type 1} → statement M
 kept-size-spec =

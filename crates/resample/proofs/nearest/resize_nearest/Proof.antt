@@ -4,12 +4,11 @@ use borrow.Author.Needs.{needs}
 use denote.Ref.{now}
 use Rattle.laws.proofs.Out.{answers-as, refused-answers, then-refused}
 use Rattle.laws.specs.Out.{done, fitted}
-use Rattle.image.proofs.RecordLaws.{whole-sound}
-use Rattle.image.specs.Bytes.{decode, encode}
+use Rattle.image.proofs.RecordLaws.{whole-sound, judged-sound}
+use Rattle.planes.specs.Bytes.{decode, encode}
 use Rattle.image.specs.Record.{frameOut, recordOf}
 use Rattle.image.specs.declared.format.Form.{Form}
-use Rattle.props.proofs.SizeLaws.{judged-sound}
-use Rattle.props.specs.Size.{judgedSize, sizeOut}
+use Rattle.image.specs.Format.{judgedSize, sizeOut}
 use Rattle.resample.proofs.RunLaws.{near-fits, nearRule, nearest-drawn, nearest-refused, nearest-same}
 use Rattle.resample.proofs.nearest.resize_nearest.Statement.{statement}
 use Rattle.resample.specs.inner.Redraw.{redrawn}
@@ -18,9 +17,9 @@ use Rattle.resample.proofs.nearest.resize_nearest.Tie as tie
 use Rattle.resample.proofs.nearest.resize_nearest.Reads as reads
 use Rattle.resample.proofs.nearest.resize_nearest.Lts as lts
 use Rattle.image.proofs.parse_record.Reads as parse-record-reads
-use Rattle.props.proofs.size.Size.judge.Reads as judge-reads
-use Rattle.resample.proofs.write.same_size.Reads as same-size-reads
-use Rattle.image.proofs.hand_back.Reads as hand-back-reads
+use Rattle.image.proofs.size.Size.judge.Reads as judge-reads
+use Rattle.image.proofs.format.Form.has_size.Reads as has-size-reads
+use Rattle.planes.proofs.hand_back.Reads as hand-back-reads
 use Rattle.image.proofs.format.Form.sized.Reads as sized-reads
 use Rattle.resample.proofs.write.draw.Reads as draw-reads
 
@@ -48,8 +47,8 @@ enum-known-e-2 c = search needs
 enum-known-z : tie.Need-enum-known-z
 enum-known-z c = search needs
 
-same-size-requires : tie.Need-same-size-requires
-same-size-requires c κs = search needs
+has-size-requires : tie.Need-has-size-requires
+has-size-requires c κs = search needs
 
 hand-back-requires : tie.Need-hand-back-requires
 hand-back-requires c κs = search needs
@@ -58,13 +57,23 @@ same-length : tie.Need-same-length
 same-length c = search needs
 
 returns : tie.Need-returns
-returns c = answers-as _ _ _ _ _ (nearest-same _ _ (taken ((c .before .before .before .before .before .before .before .before .before .before .before .before))) _ _ _ _ (judged ((c .before .before .before .before .before .before .before .before))) (sym (c .before .before .before .before .before .same-size .ensures) ∙ c .before .before .before .before .if1 .taken)) (c .before .before .hand-back .ensures)
+returns c =
+    let if1 = c .before .before .before .before .if1 in
+    let same-size = c .before .before .before .before .before .has-size in
+    let after-z = c .before .before .before .before .before .before .before .before in
+    let after-f = after-z .before .before .before .before in
+    answers-as _ _ _ _ _ (nearest-same _ _ (taken after-f) _ _ _ _ (judged after-z) (sym (same-size .ensures) ∙ if1 .taken))
+    (c .before .before .hand-back .ensures)
 
 sized-requires : tie.Need-sized-requires
 sized-requires c κs = search needs
 
 draw-requires : tie.Need-draw-requires
-draw-requires c κs = let k = whole-sound _ _ (taken ((c .before .before .before .before .before .before .before .before .before .before .before))) .0 in (k, rw (c .before .sized .ensures) (near-fits _ _ (k .form) (judged-sound _ _ _ (judged ((c .before .before .before .before .before .before .before))))))
+draw-requires c κs =
+    let after-z = c .before .before .before .before .before .before .before in
+    let after-f = after-z .before .before .before .before in
+    let k = whole-sound _ _ (taken after-f) .0 in
+    (k, rw (c .before .sized .ensures) (near-fits _ _ (k .form) (judged-sound _ _ _ (judged after-z))))
 
 returns-2 : tie.Need-returns-2
 unfolding nearestRun
@@ -77,7 +86,21 @@ same-length-2 : tie.Need-same-length-2
 same-length-2 c = search needs
 
 returns-4 : tie.Need-returns-4
-returns-4 c = answers-as _ _ _ _ _ (nearest-drawn _ _ (taken ((c .before .before .before .before .before .before .before .before .before .before .before .before .before .before))) _ _ _ _ (judged ((c .before .before .before .before .before .before .before .before .before .before))) (sym (c .before .before .before .before .before .before .before .same-size .ensures) ∙ c .before .before .before .before .before .before .if1 .left) ∙ ap (λ (n : Form). fitted (length (now (c .before .before .before .before .before .before .before .before .before .before .before .before .before .before .before .before .before .before .before .args .out))) (encode (redrawn n (nearRule (c .before .before .before .before .before .before .before .before .before .before .before .before .before .before .f .given .0 .0 .form .format .depth) (c .before .before .before .before .before .before .before .before .before .before .before .before .before .before .f .given .0 .0 .form .format .depth)) (decode (now (c .before .before .before .before .before .before .before .before .before .before .before .before .before .before .before .before .before .before .before .args .«record»)) (c .before .before .before .before .before .before .before .before .before .before .before .before .before .before .f .given .0 .0))))) (sym (c .before .before .before .before .sized .ensures))) (c .before .before .draw .ensures)
+returns-4 c =
+    let sized = c .before .before .before .before .sized in
+    let if1 = c .before .before .before .before .before .before .if1 in
+    let same-size = c .before .before .before .before .before .before .before .has-size in
+    let after-z = c .before .before .before .before .before .before .before .before .before .before in
+    let after-f = after-z .before .before .before .before in
+    let f = after-f .f in
+    let start = after-f .before .before .before .before .before in
+    answers-as _ _ _ _ _
+    (nearest-drawn _ _ (taken after-f) _ _ _ _ (judged after-z) (sym (same-size .ensures) ∙ if1 .left)
+    ∙ ap (λ (n : Form). fitted (length (now (start .args .out)))
+    (encode (redrawn n (nearRule (f .given .0 .0 .form .format .depth) (f .given .0 .0 .form .format .depth))
+    (decode (now (start .args .«record»)) (f .given .0 .0)))))
+    (sym (sized .ensures)))
+    (c .before .before .draw .ensures)
 
 pub resize-nearest-spec : {M : Type 1} → statement M
-resize-nearest-spec = tie.close (tie.spec parse-record-requires enum-known-e enum-known-f judge-requires enum-known-e-2 enum-known-z same-size-requires hand-back-requires same-length returns sized-requires draw-requires returns-2 returns-3 same-length-2 returns-4)
+resize-nearest-spec = tie.close (tie.spec parse-record-requires enum-known-e enum-known-f judge-requires enum-known-e-2 enum-known-z has-size-requires hand-back-requires same-length returns sized-requires draw-requires returns-2 returns-3 same-length-2 returns-4)

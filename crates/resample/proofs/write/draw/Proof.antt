@@ -3,14 +3,14 @@ use lib.ListN.{length}
 use borrow.Author.Needs.{needs}
 use denote.Ref.{now}
 use Rattle.laws.proofs.Out.{done-answers, fitted-room, fitted-short, refused-answers}
-use Rattle.image.proofs.RoundTrip.{length-encode}
-use Rattle.image.specs.Bytes.{decode, encode}
+use Rattle.planes.proofs.RoundTrip.{length-encode}
+use Rattle.planes.specs.Bytes.{decode, encode}
 use Rattle.resample.proofs.write.draw.Statement.{statement}
 use Rattle.resample.specs.inner.Redraw.{redrawn}
 use Rattle.resample.proofs.write.draw.Tie as tie
 use Rattle.resample.proofs.write.draw.Reads as reads
 use Rattle.resample.proofs.write.draw.Lts as lts
-use Rattle.image.proofs.record_size.Reads as record-size-reads
+use Rattle.planes.proofs.record_size.Reads as record-size-reads
 use Rattle.resample.proofs.write.write_record.Reads as write-record-reads
 
 -- how long the new record is
@@ -31,7 +31,13 @@ same-length : tie.Need-same-length
 same-length c = search needs
 
 returns-2 : tie.Need-returns-2
-returns-2 c = let h = rw (size ((c .before .before .before .before .before))) at (c .before .before .before .before .if1 .left) in done-answers _ (encode (redrawn (c .before .before .before .before .before .before .before .before .args .form) (c .before .before .before .before .before .before .before .before .args .rule) (decode (now (c .before .before .before .before .before .before .before .before .args .«record»)) (c .before .before .before .before .before .before .before .before .args .fr)))) _ _ _ (fitted-room _ _ h) h (c .before .before .write-record .ensures .0) (c .before .before .write-record .ensures .1)
+returns-2 c =
+    let if1 = c .before .before .before .before .if1 in
+    let after-record-size = c .before .before .before .before .before in
+    let start = after-record-size .before .before .before in
+    let h = rw (size after-record-size) at (if1 .left) in
+    done-answers _ (encode (redrawn (start .args .form) (start .args .rule) (decode (now (start .args .«record»)) (start .args .fr)))) _ _ _
+    (fitted-room _ _ h) h (c .before .before .write-record .ensures .0) (c .before .before .write-record .ensures .1)
 
 pub draw-spec : {M : Type 1} → statement M
 draw-spec = tie.close (tie.spec record-size-requires returns write-record-requires same-length returns-2)

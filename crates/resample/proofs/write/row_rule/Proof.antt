@@ -19,7 +19,7 @@ enum-told c = search needs
 
 footprint-requires : tie.Need-footprint-requires
 unfolding RuleFits
-footprint-requires c κs = let k = rw (c .enum-told .given .1) at (c .before .before .before .pre .0) in (c .before .before .before .pre .2, c .before .before .before .pre .1 .some, k .1 .new, k .1 .old)
+footprint-requires c κs = let k = rw (c .enum-told .given .1) at (c .before .before .before .pre .0) in (c .before .before .before .pre .2, c .before .before .before .pre .1 .positive, k .1 .new, k .1 .old)
 
 returns : tie.Need-returns
 unfolding rowOf

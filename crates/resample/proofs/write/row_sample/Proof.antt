@@ -2,7 +2,7 @@ use mathlib.Core.Path.{_∙_, ap, sym}
 use Prim.Native.Nat.{_*_, _<_, _^_, _≤_, ℕ}
 use borrow.Author.Needs.{needs}
 use denote.Ref.{now}
-use Rattle.image.specs.Bytes.{sampleIn}
+use Rattle.planes.specs.Bytes.{sampleIn}
 use Rattle.resample.proofs.PlaceLaws.{near-in}
 use Rattle.resample.proofs.RedrawLaws.{area-fits}
 use Rattle.resample.proofs.write.row_sample.Statement.{statement}
@@ -10,24 +10,27 @@ use Rattle.resample.specs.Area.{areaMean}
 use Rattle.resample.specs.inner.Sums.{FootIn}
 use Rattle.resample.specs.Depth.{levelOf}
 use Rattle.resample.specs.inner.Depths.{DepthsFit}
-use Rattle.resample.specs.inner.Redraw.{AreaAxis, RowFits, rasterAt, rowAt}
+use Rattle.resample.specs.inner.Redraw.{AreaAxis, RuleRowFits, rasterAt, rowAt}
 use Rattle.resample.specs.declared.area.Foot.{Foot}
 use Rattle.resample.specs.declared.write.RowRule.{RowRule}
 use Rattle.resample.proofs.write.row_sample.Tie as tie
 use Rattle.resample.proofs.write.row_sample.Reads as reads
 use Rattle.resample.proofs.write.row_sample.Lts as lts
-use Rattle.image.proofs.sample.Reads as sample-reads
+use Rattle.planes.proofs.sample.Reads as sample-reads
 use Rattle.resample.proofs.area.area_sample.Reads as area-sample-reads
 use Rattle.resample.proofs.area.footprint.Reads as footprint-reads
 use Rattle.resample.proofs.depth.Depths.level.Reads as level-reads
 use Rattle.resample.proofs.nearest.nearest_place.Reads as nearest-place-reads
 
 near : (c : tie.After-row) → DepthsFit (c .row .given .0 .0 .depths) × (c .row .given .0 .0 .y < c .before .before .before .before .args .r .down .from)
-unfolding RowFits
+unfolding RuleRowFits
 near c = rw (c .row .given .1) at (c .before .before .before .before .pre .1)
 
-far : (c : tie.After-row2) → AreaAxis (c .before .before .before .before .args .r .across) × FootIn (c .row2 .given .0 .0) (c .before .before .before .before .args .r .down .from) × (c .before .before .before .before .args .r .across .from * c .before .before .before .before .args .r .down .from ≤ 2 ^ 30)
-unfolding RowFits
+far : (c : tie.After-row2)
+    → let start = c .before .before .before .before in
+    AreaAxis (start .args .r .across) × FootIn (c .row2 .given .0 .0) (start .args .r .down .from)
+    × (start .args .r .across .from * start .args .r .down .from ≤ 2 ^ 30)
+unfolding RuleRowFits
 far c = rw (c .row2 .given .1) at (c .before .before .before .before .pre .1)
 
 enum-known-row : tie.Need-enum-known-row
@@ -37,7 +40,13 @@ nearest-place-requires : tie.Need-nearest-place-requires
 nearest-place-requires c κs = search needs
 
 sample-requires : tie.Need-sample-requires
-sample-requires c κs = (c .before .before .before .before .before .before .before .pre .0 .some, c .before .before .before .before .before .before .before .pre .0 .few, c .before .before .before .before .before .before .before .pre .0 .inside _ _ (rw (c .nearest-place .ensures) (near-in _ _ _ (c .before .before .before .before .before .before .before .pre .0 .across .some) (c .before .before .before .before .before .before .before .pre .2))) (near ((c .before .before .before)) .1))
+sample-requires c κs =
+    let start = c .before .before .before .before .before .before .before in (
+      start .pre .0 .positive,
+      start .pre .0 .bounded,
+      start .pre .0 .inside _ _ (rw (c .nearest-place .ensures) (near-in _ _ _ (start .pre .0 .across .positive) (start .pre .2)))
+          (near (c .before .before .before) .1),
+    )
 
 level-requires : tie.Need-level-requires
 level-requires c κs = near ((c .before .before .before .before)) .0
@@ -46,18 +55,32 @@ enum-known-row-2 : tie.Need-enum-known-row-2
 enum-known-row-2 c = search needs
 
 footprint-requires : tie.Need-footprint-requires
-footprint-requires c κs = let k = far ((c .before)) .0 in (c .before .before .before .before .before .pre .2, c .before .before .before .before .before .pre .0 .across .some, k .new, k .old)
+footprint-requires c κs = let k = far ((c .before)) .0 in (c .before .before .before .before .before .pre .2, c .before .before .before .before .before .pre .0 .across .positive, k .new, k .old)
 
 area-sample-requires : tie.Need-area-sample-requires
 area-sample-requires c κs = rw (c .footprint .ensures) (area-fits _ _ _ _ (c .before .before .before .before .before .before .pre .0) (rw (c .before .before .row2 .given .1) at (c .before .before .before .before .before .before .pre .1)) (c .before .before .before .before .before .before .pre .2))
 
 returns : tie.Need-returns
 unfolding rasterAt rowAt
-returns c = c .level .ensures ∙ ap (levelOf (c .before .before .before .before .before .row .given .0 .0 .depths .old) (c .before .before .before .before .before .row .given .0 .0 .depths .new)) (c .before .sample .ensures ∙ ap (λ (u : ℕ). sampleIn (now (c .before .before .before .before .before .before .before .before .before .args .plane)) (c .before .before .before .before .before .before .before .before .before .args .r .bytes) (c .before .before .before .before .before .before .before .before .before .args .r .stride) u (c .before .before .before .before .before .row .given .0 .0 .y)) (c .before .before .nearest-place .ensures)) ∙ sym (ap (λ (q : RowRule). rasterAt (now (c .before .before .before .before .before .before .before .before .before .args .plane)) (c .before .before .before .before .before .before .before .before .before .args .r) q (c .before .before .before .before .before .before .before .before .before .args .x)) (c .before .before .before .before .before .row .given .1))
+returns c =
+    let row = c .before .before .before .before .before .row in
+    let start = c .before .before .before .before .before .before .before .before .before in
+    c .level .ensures
+    ∙ ap (levelOf (row .given .0 .0 .depths .old) (row .given .0 .0 .depths .new))
+    (c .before .sample .ensures
+    ∙ ap (λ (u : ℕ). sampleIn (now (start .args .plane)) (start .args .r .bytes) (start .args .r .stride) u (row .given .0 .0 .y))
+    (c .before .before .nearest-place .ensures))
+    ∙ sym (ap (λ (q : RowRule). rasterAt (now (start .args .plane)) (start .args .r) q (start .args .x)) (row .given .1))
 
 returns-2 : tie.Need-returns-2
 unfolding rasterAt rowAt
-returns-2 c = c .area-sample .ensures ∙ ap (λ (f : Foot). areaMean f (c .before .before .before .row2 .given .0 .0) (λ x y. sampleIn (now (c .before .before .before .before .before .before .before .args .plane)) (c .before .before .before .before .before .before .before .args .r .bytes) (c .before .before .before .before .before .before .before .args .r .stride) x y)) (c .before .footprint .ensures) ∙ sym (ap (λ (q : RowRule). rasterAt (now (c .before .before .before .before .before .before .before .args .plane)) (c .before .before .before .before .before .before .before .args .r) q (c .before .before .before .before .before .before .before .args .x)) (c .before .before .before .row2 .given .1))
+returns-2 c =
+    let start = c .before .before .before .before .before .before .before in
+    c .area-sample .ensures
+    ∙ ap (λ (f : Foot). areaMean f (c .before .before .before .row2 .given .0 .0)
+    (λ x y. sampleIn (now (start .args .plane)) (start .args .r .bytes) (start .args .r .stride) x y))
+    (c .before .footprint .ensures)
+    ∙ sym (ap (λ (q : RowRule). rasterAt (now (start .args .plane)) (start .args .r) q (start .args .x)) (c .before .before .before .row2 .given .1))
 
 pub row-sample-spec : {M : Type 1} → statement M
 row-sample-spec =

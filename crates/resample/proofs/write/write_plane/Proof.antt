@@ -7,10 +7,11 @@ use borrow.Author.Needs.{needs}
 use denote.Ref.{now}
 use Rattle.laws.proofs.Writing.{Writing, writing-begin, writing-fits, writing-last, writing-none, writing-run}
 use Rattle.laws.specs.Puts.{puts}
-use Rattle.image.proofs.RoundTrip.{plane-none}
-use Rattle.image.specs.Bytes.{dataOf, decode, planeBytes, planeHead}
+use Rattle.planes.proofs.RoundTrip.{plane-none}
+use Rattle.image.specs.Record.{dataOf, planeOf}
+use Rattle.planes.specs.Bytes.{decode, planeBytes, planeHead}
 use Rattle.image.specs.Format.{hasPart}
-use Rattle.image.specs.Record.{planeOf}
+use Rattle.planes.specs.Picture.{Pic}
 use Rattle.image.specs.declared.record.Plane.{Plane}
 use Rattle.resample.proofs.RedrawLaws.{Worked, length-rasterBytes, plane-drawn, plane-raster, plane-rule, worked-bytes, worked-fits, worked-rule, worked-size}
 use Rattle.resample.proofs.write.write_plane.Statement.{statement}
@@ -20,11 +21,15 @@ use Rattle.resample.proofs.write.write_plane.Tie as tie
 use Rattle.resample.proofs.write.write_plane.Reads as reads
 use Rattle.resample.proofs.write.write_plane.Lts as lts
 use Rattle.image.proofs.format.PixelFormat.has.Reads as has-reads
-use Rattle.image.proofs.write_plane_head.Reads as write-plane-head-reads
+use Rattle.planes.proofs.write_plane_head.Reads as write-plane-head-reads
 use Rattle.image.proofs.record.Frame.plane.Reads as plane-reads
 use Rattle.resample.proofs.write.plane_raster.Reads as plane-raster-reads
-use Rattle.image.proofs.plane_data.Reads as plane-data-reads
+use Rattle.planes.proofs.plane_data.Reads as plane-data-reads
 use Rattle.resample.proofs.write.write_rows.Reads as write-rows-reads
+
+-- the picture of which a plane is written
+abbrev picture : tie.Start → Pic
+picture start = redrawn (start .args .form) (start .args .rule) (decode (now (start .args .s)) (start .args .fr))
 
 -- the plane is there
 module _ (c : tie.Then1) where
@@ -43,27 +48,51 @@ module _ (c : tie.Then1) where
   there : hasPart (c .before .before .before .before .before .args .form .format) (c .before .before .before .before .before .args .part) ≡ true
   there = sym (c .before .has .ensures) ∙ c .if1 .taken
 
-  start : Writing (now (c .before .before .before .before .before .args .out)) (c .before .before .before .before .before .args .at) (planeBytes (redrawn (c .before .before .before .before .before .args .form) (c .before .before .before .before .before .args .rule) (decode (now (c .before .before .before .before .before .args .s)) (c .before .before .before .before .before .args .fr))) (c .before .before .before .before .before .args .part)) (now (c .before .before .before .before .before .args .out)) (c .before .before .before .before .before .args .at) (head ++ rest)
-  start = writing-begin _ _ _ _ (plane-drawn (now (c .before .before .before .before .before .args .s)) (c .before .before .before .before .before .args .fr) (c .before .before .before .before .before .args .form) (c .before .before .before .before .before .args .rule) (c .before .before .before .before .before .args .part) there (c .before .before .before .before .before .pre .0) (c .before .before .before .before .before .pre .1)) (c .before .before .before .before .before .pre .2)
+  start :
+      let entry = c .before .before .before .before .before in
+      Writing (now (entry .args .out)) (entry .args .at) (planeBytes (picture entry) (entry .args .part)) (now (entry .args .out)) (entry .args .at)
+      (head ++ rest)
+  start =
+      let entry = c .before .before .before .before .before in
+      writing-begin _ _ _ _
+      (plane-drawn (now (entry .args .s)) (entry .args .fr) (entry .args .form) (entry .args .rule) (entry .args .part) there (entry .pre .0)
+      (entry .pre .1))
+      (entry .pre .2)
 
   fits : RasterFits (dataOf (now (c .before .before .before .before .before .args .s)) q) r
-  fits = plane-raster (now (c .before .before .before .before .before .args .s)) (c .before .before .before .before .before .args .fr) (c .before .before .before .before .before .args .form) (c .before .before .before .before .before .args .rule) (c .before .before .before .before .before .args .part) there (c .before .before .before .before .before .pre .0) (c .before .before .before .before .before .pre .1)
+  fits =
+      let entry = c .before .before .before .before .before in
+      plane-raster (now (entry .args .s)) (entry .args .fr) (entry .args .form) (entry .args .rule) (entry .args .part) there (entry .pre .0)
+      (entry .pre .1)
 
   rule : RuleFits (r .rule) (r .across) (r .down)
   unfolding rasterOf
-  rule = plane-rule (now (c .before .before .before .before .before .args .s)) (c .before .before .before .before .before .args .fr) (c .before .before .before .before .before .args .form) (c .before .before .before .before .before .args .rule) (c .before .before .before .before .before .args .part) there (c .before .before .before .before .before .pre .0) (c .before .before .before .before .before .pre .1)
+  rule =
+      let entry = c .before .before .before .before .before in
+      plane-rule (now (entry .args .s)) (entry .args .fr) (entry .args .form) (entry .args .rule) (entry .args .part) there (entry .pre .0)
+      (entry .pre .1)
 
   size : length rest ≡ r .down .to * (r .across .to * r .«to_bytes»)
   size = length-rasterBytes _ _ fits
 
-first : (c : tie.After-write-plane-head) → Writing (now (c .before .before .before .before .before .before .before .args .out)) (c .before .before .before .before .before .before .before .args .at) (planeBytes (redrawn (c .before .before .before .before .before .before .before .args .form) (c .before .before .before .before .before .before .before .args .rule) (decode (now (c .before .before .before .before .before .before .before .args .s)) (c .before .before .before .before .before .before .before .args .fr))) (c .before .before .before .before .before .before .before .args .part)) (c .write-plane-head .last .0) (c .write-plane-head .result) (rest ((c .before .before)))
+first : (c : tie.After-write-plane-head)
+    → let entry = c .before .before .before .before .before .before .before in
+    Writing (now (entry .args .out)) (entry .args .at) (planeBytes (picture entry) (entry .args .part)) (c .write-plane-head .last .0)
+    (c .write-plane-head .result) (rest (c .before .before))
 first c = writing-run (head ((c .before .before))) (start ((c .before .before))) (c .write-plane-head .ensures .0) (c .write-plane-head .ensures .1)
 
-worked : (c : tie.After-plane-data) → Worked (dataOf (now (c .before .before .before .before .before .before .before .before .before .before .before .before .before .args .s)) (q ((c .before .before .before .before .before .before .before .before)))) (now (c .plane-data .result)) (r ((c .before .before .before .before .before .before .before .before))) (c .before .before .plane-raster .result)
-worked c = record {
-  bits = c .plane-data .ensures ∙ ap (dataOf (now (c .before .before .before .before .before .before .before .before .before .before .before .before .before .args .s))) (c .before .before .before .plane .ensures);
-  same = c .before .before .plane-raster .ensures ∙ ap (λ (k : Plane). rasterOf (c .before .before .before .before .before .before .before .before .before .before .before .before .before .args .fr .form) (c .before .before .before .before .before .before .before .before .before .before .before .before .before .args .form) (k .stride) (c .before .before .before .before .before .before .before .before .before .before .before .before .before .args .part) (c .before .before .before .before .before .before .before .before .before .before .before .before .before .args .rule)) (c .before .before .before .plane .ensures);
-}
+worked : (c : tie.After-plane-data)
+    → let then1 = c .before .before .before .before .before .before .before .before in
+    let entry = then1 .before .before .before .before .before in
+    Worked (dataOf (now (entry .args .s)) (q then1)) (now (c .plane-data .result)) (r then1) (c .before .before .plane-raster .result)
+worked c =
+    let entry = c .before .before .before .before .before .before .before .before .before .before .before .before .before in
+    record {
+      bits = c .plane-data .ensures ∙ ap (dataOf (now (entry .args .s))) (c .before .before .before .plane .ensures);
+      same = c .before .before .plane-raster .ensures
+          ∙ ap (λ (k : Plane). rasterOf (entry .args .fr .form) (entry .args .form) (k .stride) (entry .args .part) (entry .args .rule))
+          (c .before .before .before .plane .ensures);
+    }
 
 has-requires : tie.Need-has-requires
 has-requires c κs = search needs
@@ -78,20 +107,40 @@ plane-raster-requires : tie.Need-plane-raster-requires
 plane-raster-requires c κs = search needs
 
 plane-data-requires : tie.Need-plane-data-requires
-plane-data-requires c κs = rw (c .before .before .plane .ensures) (c .before .before .before .before .before .before .before .before .before .before .before .before .pre .0 .planes (c .before .before .before .before .before .before .before .before .before .before .before .before .args .part) (c .before .before .before .before .before .before .before .before .before .before .before .before .pre .1 .parts _ (there ((c .before .before .before .before .before .before .before)))) .inside)
+plane-data-requires c κs =
+    let then1 = c .before .before .before .before .before .before .before in
+    let entry = then1 .before .before .before .before .before in
+    rw (c .before .before .plane .ensures) (entry .pre .0 .planes (entry .args .part) (entry .pre .1 .parts _ (there then1)) .inside)
 
 write-rows-requires : tie.Need-write-rows-requires
-write-rows-requires c κs = (worked-fits (worked (c)) (fits ((c .before .before .before .before .before .before .before .before))), worked-rule (worked (c)) (rule ((c .before .before .before .before .before .before .before .before))), rw (worked-size (worked (c)) ∙ sym (size ((c .before .before .before .before .before .before .before .before)))) (first ((c .before .before .before .before .before .before)) .room))
+write-rows-requires c κs =
+    let after-write-plane-head = c .before .before .before .before .before .before in
+    let then1 = after-write-plane-head .before .before in (
+      worked-fits (worked c) (fits then1),
+      worked-rule (worked c) (rule then1),
+      rw (worked-size (worked c) ∙ sym (size then1)) (first after-write-plane-head .room),
+    )
 
 same-length : tie.Need-same-length
 same-length c = search needs
 
 returns : tie.Need-returns
-returns c = writing-last (first ((c .before .before .before .before .before .before .before .before .before))) (c .before .before .write-rows .ensures .0 ∙ ap (λ (k : ℕ). c .before .before .before .before .before .before .before .before .before .write-plane-head .result + k) (worked-size (worked ((c .before .before .before))) ∙ sym (size ((c .before .before .before .before .before .before .before .before .before .before .before))))) (c .before .before .write-rows .ensures .1 ∙ ap (puts (c .before .before .before .before .before .before .before .before .before .write-plane-head .last .0) (c .before .before .before .before .before .before .before .before .before .write-plane-head .result)) (worked-bytes (worked ((c .before .before .before)))))
+returns c =
+    let after-write-plane-head = c .before .before .before .before .before .before .before .before .before in
+    let write-plane-head = after-write-plane-head .write-plane-head in
+    let then1 = after-write-plane-head .before .before in
+    writing-last (first after-write-plane-head)
+    (c .before .before .write-rows .ensures .0
+    ∙ ap (λ (k : ℕ). write-plane-head .result + k) (worked-size (worked (c .before .before .before)) ∙ sym (size then1)))
+    (c .before .before .write-rows .ensures .1
+    ∙ ap (puts (write-plane-head .last .0) (write-plane-head .result)) (worked-bytes (worked (c .before .before .before))))
 
 returns-2 : tie.Need-returns-2
 unfolding redrawn
-returns-2 c = writing-none (now (c .before .before .before .before .before .args .out)) (c .before .before .before .before .before .args .at) _ (plane-none (redrawn (c .before .before .before .before .before .args .form) (c .before .before .before .before .before .args .rule) (decode (now (c .before .before .before .before .before .args .s)) (c .before .before .before .before .before .args .fr))) (c .before .before .before .before .before .args .part) (sym (c .before .has .ensures) ∙ c .if1 .left))
+returns-2 c =
+    let entry = c .before .before .before .before .before in
+    writing-none (now (entry .args .out)) (entry .args .at) _
+    (plane-none (picture entry) (entry .args .part) (sym (c .before .has .ensures) ∙ c .if1 .left))
 
 pub write-plane-spec : {M : Type 1} → statement M
 write-plane-spec = tie.close (tie.spec has-requires write-plane-head-requires plane-requires plane-raster-requires plane-data-requires write-rows-requires same-length returns returns-2)

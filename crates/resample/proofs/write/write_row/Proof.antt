@@ -8,15 +8,15 @@ use Rattle.laws.proofs.Span.{span-end, span-step}
 use Rattle.laws.proofs.Writing.{Writing, writing-as, writing-done, writing-fits, writing-run, writing-start}
 use Rattle.laws.specs.Puts.{puts}
 use Rattle.laws.specs.Span.{span}
-use Rattle.image.proofs.ByteLaws.{length-sampleBytes}
-use Rattle.image.specs.Bytes.{sampleBytes, samplesOf}
+use Rattle.planes.proofs.ByteLaws.{length-sampleBytes}
+use Rattle.planes.specs.Bytes.{sampleBytes, samplesOf}
 use Rattle.resample.proofs.RedrawLaws.{length-rasterRow}
 use Rattle.resample.proofs.write.write_row.Statement.{statement}
 use Rattle.resample.specs.inner.Redraw.{rasterAt, rasterRow}
 use Rattle.resample.proofs.write.write_row.Tie as tie
 use Rattle.resample.proofs.write.write_row.Reads as reads
 use Rattle.resample.proofs.write.write_row.Lts as lts
-use Rattle.image.proofs.put_sample.Reads as put-sample-reads
+use Rattle.planes.proofs.put_sample.Reads as put-sample-reads
 use Rattle.resample.proofs.write.row_sample.Reads as row-sample-reads
 
 abbrev Inv-loop : tie.InvT-loop
@@ -37,7 +37,7 @@ module _ (c : tie.In-loop Inv-loop μ-loop) where
   step = span-step item (c .before .loop .x) (c .before .before .before .before .before .args .r .across .to) left
 
   long : length (item (c .before .loop .x)) ≡ c .before .before .before .before .before .args .r .«to_bytes»
-  long = length-sampleBytes (c .before .before .before .before .before .args .r .«to_bytes») _ (c .before .before .before .before .before .pre .0 .toSome) (c .before .before .before .before .before .pre .0 .toFew)
+  long = length-sampleBytes (c .before .before .before .before .before .args .r .«to_bytes») _ (c .before .before .before .before .before .pre .0 .toPositive) (c .before .before .before .before .before .pre .0 .toBounded)
 
   room : c .before .loop .i + c .before .before .before .before .before .args .r .«to_bytes» ≤ length (c .before .loop .out)
   room = rw (← long) (writing-fits (item (c .before .loop .x)) _ (writing-as (c .before .loop .inv .1) step))
@@ -50,7 +50,7 @@ row-sample-requires : tie.Need-row-sample-requires Inv-loop μ-loop
 row-sample-requires c κs = (c .before .before .before .before .before .before .pre .0, c .before .before .before .before .before .before .pre .1, left ((c .before)))
 
 put-sample-requires : tie.Need-put-sample-requires Inv-loop μ-loop
-put-sample-requires c κs = (c .before .before .before .before .before .before .before .pre .0 .toSome, c .before .before .before .before .before .before .before .pre .0 .toFew, room ((c .before .before)))
+put-sample-requires c κs = (c .before .before .before .before .before .before .before .pre .0 .toPositive, c .before .before .before .before .before .before .before .pre .0 .toBounded, room ((c .before .before)))
 
 add-x : tie.Need-add-x Inv-loop μ-loop
 add-x c = search needs
@@ -59,13 +59,27 @@ loop-less : tie.Need-loop-less Inv-loop μ-loop
 loop-less c = search needs
 
 loop-again : tie.Need-loop-again Inv-loop μ-loop
-loop-again c = (c .before .before .before .before .before .before .loop .inv .0, writing-run (item ((c .before .before .before .before .before)) (c .before .before .before .before .before .before .loop .x)) (writing-as (c .before .before .before .before .before .before .loop .inv .1) (step ((c .before .before .before .before .before)))) (c .before .before .put-sample .ensures .0 ∙ ap (λ (k : ℕ). c .before .before .before .before .before .before .loop .i + k) (sym (long ((c .before .before .before .before .before))))) (c .before .before .put-sample .ensures .1 ∙ ap (λ (v : ℕ). puts (c .before .before .before .before .before .before .loop .out) (c .before .before .before .before .before .before .loop .i) (sampleBytes (c .before .before .before .before .before .before .before .before .before .before .args .r .«to_bytes») v)) (c .before .before .before .row-sample .ensures)))
+loop-again c =
+    let in-loop = c .before .before .before .before .before in
+    let loop = in-loop .before .loop in
+    let start = in-loop .before .before .before .before .before in (
+      loop .inv .0,
+      writing-run (item in-loop (loop .x)) (writing-as (loop .inv .1) (step in-loop))
+          (c .before .before .put-sample .ensures .0 ∙ ap (λ (k : ℕ). loop .i + k) (sym (long in-loop)))
+          (c .before .before .put-sample .ensures .1
+          ∙ ap (λ (v : ℕ). puts (loop .out) (loop .i) (sampleBytes (start .args .r .«to_bytes») v)) (c .before .before .before .row-sample .ensures)),
+    )
 
 same-length : tie.Need-same-length Inv-loop μ-loop
 same-length c = c .before .loop .inv .1 .long
 
 returns : tie.Need-returns Inv-loop μ-loop
-returns c = let w = writing-done (writing-as (c .before .loop .inv .1) (span-end _ _ _ (rw (c .before .loop .inv .0) at (c .loop-test .left)))) in (w .0 ∙ ap (λ (k : ℕ). c .before .before .before .before .before .args .at + k) (length-rasterRow (now (c .before .before .before .before .before .args .plane)) (c .before .before .before .before .before .args .r) (c .before .before .before .before .before .args .row) (c .before .before .before .before .before .pre .0)), w .1)
+returns c =
+    let start = c .before .before .before .before .before in
+    let w = writing-done (writing-as (c .before .loop .inv .1) (span-end _ _ _ (rw (c .before .loop .inv .0) at (c .loop-test .left)))) in (
+      w .0 ∙ ap (λ (k : ℕ). start .args .at + k) (length-rasterRow (now (start .args .plane)) (start .args .r) (start .args .row) (start .pre .0)),
+      w .1,
+    )
 
 pub write-row-spec : {M : Type 1} → statement M
 write-row-spec =

@@ -49,7 +49,12 @@ row-rule-requires : tie.Need-row-rule-requires Inv-loop μ-loop
 row-rule-requires c κs = (c .before .before .before .before .before .before .pre .1, c .before .before .before .before .before .before .pre .0 .down, left ((c .before)))
 
 write-row-requires : tie.Need-write-row-requires Inv-loop μ-loop
-write-row-requires c κs = (c .before .before .before .before .before .before .before .pre .0, rw (c .row-rule .ensures) (row-fits _ _ _ _ (c .before .before .before .before .before .before .before .pre .1) (c .before .before .before .before .before .before .before .pre .0 .down) (left ((c .before .before)))), room ((c .before .before)))
+write-row-requires c κs =
+    let start = c .before .before .before .before .before .before .before in (
+      start .pre .0,
+      rw (c .row-rule .ensures) (row-fits _ _ _ _ (start .pre .1) (start .pre .0 .down) (left (c .before .before))),
+      room (c .before .before),
+    )
 
 add-y : tie.Need-add-y Inv-loop μ-loop
 add-y c = search needs
@@ -58,13 +63,26 @@ loop-less : tie.Need-loop-less Inv-loop μ-loop
 loop-less c = search needs
 
 loop-again : tie.Need-loop-again Inv-loop μ-loop
-loop-again c = (c .before .before .before .before .before .before .loop .inv .0, writing-run (item ((c .before .before .before .before .before)) (c .before .before .before .before .before .before .loop .y)) (writing-as (c .before .before .before .before .before .before .loop .inv .1) (step ((c .before .before .before .before .before)))) (c .before .before .write-row .ensures .0 ∙ ap (λ (k : ℕ). c .before .before .before .before .before .before .loop .i + k) (sym (long ((c .before .before .before .before .before))))) (c .before .before .write-row .ensures .1 ∙ ap (λ (q : RowRule). puts (c .before .before .before .before .before .before .loop .out) (c .before .before .before .before .before .before .loop .i) (rasterRow (now (c .before .before .before .before .before .before .before .before .before .before .args .plane)) (c .before .before .before .before .before .before .before .before .before .before .args .r) q)) (c .before .before .before .row-rule .ensures)))
+loop-again c =
+    let in-loop = c .before .before .before .before .before in
+    let loop = in-loop .before .loop in
+    let start = in-loop .before .before .before .before .before in (
+      loop .inv .0,
+      writing-run (item in-loop (loop .y)) (writing-as (loop .inv .1) (step in-loop))
+          (c .before .before .write-row .ensures .0 ∙ ap (λ (k : ℕ). loop .i + k) (sym (long in-loop)))
+          (c .before .before .write-row .ensures .1
+          ∙ ap (λ (q : RowRule). puts (loop .out) (loop .i) (rasterRow (now (start .args .plane)) (start .args .r) q))
+          (c .before .before .before .row-rule .ensures)),
+    )
 
 same-length : tie.Need-same-length Inv-loop μ-loop
 same-length c = c .before .loop .inv .1 .long
 
 returns : tie.Need-returns Inv-loop μ-loop
-returns c = let w = writing-done (writing-as (c .before .loop .inv .1) (span-end _ _ _ (rw (c .before .loop .inv .0) at (c .loop-test .left)))) in (w .0 ∙ ap (λ (k : ℕ). c .before .before .before .before .before .args .at + k) (length-rasterBytes (now (c .before .before .before .before .before .args .plane)) (c .before .before .before .before .before .args .r) (c .before .before .before .before .before .pre .0)), w .1)
+returns c =
+    let start = c .before .before .before .before .before in
+    let w = writing-done (writing-as (c .before .loop .inv .1) (span-end _ _ _ (rw (c .before .loop .inv .0) at (c .loop-test .left)))) in
+    (w .0 ∙ ap (λ (k : ℕ). start .args .at + k) (length-rasterBytes (now (start .args .plane)) (start .args .r) (start .pre .0)), w .1)
 
 pub write-rows-spec : {M : Type 1} → statement M
 write-rows-spec =

@@ -5,7 +5,7 @@ use Rattle.session.proofs.draw.tell_alpha.Statement.{statement}
 use Rattle.session.proofs.draw.tell_alpha.Tie as tie
 use Rattle.session.proofs.draw.tell_alpha.Reads as reads
 use Rattle.session.proofs.draw.tell_alpha.Lts as lts
-use Rattle.image.proofs.head_size.Reads as head-size-reads
+use Rattle.planes.proofs.head_size.Reads as head-size-reads
 
 head-size-requires : tie.Need-head-size-requires
 head-size-requires c κs = search needs
@@ -14,7 +14,9 @@ sub-out : tie.Need-sub-out
 sub-out c = rw (c .head-size .ensures .0) (head-some _ (c .before .before .before .before .before .pre .0))
 
 slice-write-out : tie.Need-slice-write-out
-slice-write-out c = omega (arith, c .head-size .ensures .0, head-some (c .before .before .before .before .before .args .canvas) (c .before .before .before .before .before .pre .0), head-within (c .before .before .before .before .before .args .canvas), c .before .before .before .before .before .pre .1)
+slice-write-out c =
+    let start = c .before .before .before .before .before in
+    omega (arith, c .head-size .ensures .0, head-some (start .args .canvas) (start .pre .0), head-within (start .args .canvas), start .pre .1)
 
 same-length : tie.Need-same-length
 same-length c = search needs

@@ -1,75 +1,40 @@
 use mathlib.Core.Path.{sym}
 use borrow.Author.Needs.{needs}
-use borrow.Author.Tests.{le-leb, le-ltb, lt-leb, lt-ltb}
+use Rattle.laws.specs.Out.{isDone}
 use Rattle.session.proofs.state.form_ok.Statement.{statement}
-use Rattle.session.specs.State.{formOk, gridOk, sidesOk}
+use Rattle.session.specs.State.{formOk}
 use Rattle.session.proofs.state.form_ok.Tie as tie
 use Rattle.session.proofs.state.form_ok.Reads as reads
 use Rattle.session.proofs.state.form_ok.Lts as lts
-use Rattle.session.proofs.state.sides_ok.Reads as sides-ok-reads
+use Rattle.image.proofs.format.Form.judge.Reads as judge-reads
 
+-- src/state.rt:66:11
+judge-requires : tie.Need-judge-requires
+judge-requires c κs = search needs
+
+-- src/state.rt:67:30
+enum-told : tie.Need-enum-told
+enum-told c = search needs
+
+-- src/state.rt:68:33
+enum-told-2 : tie.Need-enum-told-2
+enum-told-2 c = search needs
+
+-- src/state.rt:62:1
 returns : tie.Need-returns
-unfolding sidesOk gridOk formOk
-returns c =
-    simp (
-      lt-leb _ _ (c .if1 .taken),
-      lt-ltb _ _ (c .if1 .taken),
-    )
+unfolding formOk isDone
+returns c = simp (
+  sym (c .before .before .judge .ensures),
+  c .enum-told .given .1,
+)
 
+-- src/state.rt:62:1
 returns-2 : tie.Need-returns-2
-unfolding sidesOk gridOk formOk
-returns-2 c =
-    simp (
-      le-ltb _ _ (c .before .before .if1 .left),
-      le-leb _ _ (c .before .before .if1 .left),
-      lt-leb _ _ (c .if2 .taken),
-      lt-ltb _ _ (c .if2 .taken),
-    )
-
-returns-3 : tie.Need-returns-3
-unfolding sidesOk gridOk formOk
-returns-3 c =
-    simp (
-      le-ltb _ _ (c .before .before .before .before .if1 .left),
-      le-leb _ _ (c .before .before .before .before .if1 .left),
-      le-ltb _ _ (c .before .before .if2 .left),
-      le-leb _ _ (c .before .before .if2 .left),
-      lt-leb _ _ (c .if3 .taken),
-      lt-ltb _ _ (c .if3 .taken),
-    )
-
-returns-4 : tie.Need-returns-4
-unfolding sidesOk gridOk formOk
-returns-4 c =
-    simp (
-      le-ltb _ _ (c .before .before .before .before .before .before .if1 .left),
-      le-leb _ _ (c .before .before .before .before .before .before .if1 .left),
-      le-ltb _ _ (c .before .before .before .before .if2 .left),
-      le-leb _ _ (c .before .before .before .before .if2 .left),
-      le-ltb _ _ (c .before .before .if3 .left),
-      le-leb _ _ (c .before .before .if3 .left),
-      lt-leb _ _ (c .if4 .taken),
-      lt-ltb _ _ (c .if4 .taken),
-    )
-
-sides-ok-requires : tie.Need-sides-ok-requires
-sides-ok-requires c κs = search needs
-
-returns-5 : tie.Need-returns-5
-unfolding sidesOk gridOk formOk
-returns-5 c =
-    simp (
-      le-ltb _ _ (c .before .before .before .before .before .before .before .if1 .left),
-      le-leb _ _ (c .before .before .before .before .before .before .before .if1 .left),
-      le-ltb _ _ (c .before .before .before .before .before .if2 .left),
-      le-leb _ _ (c .before .before .before .before .before .if2 .left),
-      le-ltb _ _ (c .before .before .before .if3 .left),
-      le-leb _ _ (c .before .before .before .if3 .left),
-      le-ltb _ _ (c .before .if4 .left),
-      le-leb _ _ (c .before .if4 .left),
-      sym (c .sides-ok .ensures),
-    )
+unfolding formOk isDone
+returns-2 c = simp (
+  sym (c .before .before .judge .ensures),
+  c .enum-told2 .given .1,
+)
 
 pub form-ok-spec : {M : Type 1} → statement M
-form-ok-spec =
-    tie.close (tie.spec returns returns-2 returns-3 returns-4 sides-ok-requires returns-5)
+form-ok-spec = tie.close (tie.spec judge-requires enum-told enum-told-2 returns returns-2)

@@ -2,7 +2,7 @@ use mathlib.Core.Path.{_∙_, ap, sym}
 use borrow.Author.Needs.{needs}
 use Rattle.laws.proofs.Out.{then-done, then-refused}
 use Rattle.laws.specs.Out.{done}
-use Rattle.image.specs.Picture.{odd}
+use Rattle.image.specs.Format.{odd}
 use Rattle.props.proofs.ApertureLaws.{refused-no-rect}
 use Rattle.props.specs.Aperture.{resolvedOut}
 use Rattle.sight.proofs.Sight.after.Statement.{statement}
@@ -45,10 +45,25 @@ refusal-requires c κs = refused-no-rect _ _ (c .enum-told2 .given .1)
 
 returns : tie.Need-returns
 unfolding sightAfter
-returns c = simp (c .before .before .before .before .before .before .before .property .given .1) (sym (then-refused _ (clap-at (c .before .before .before .before .before .before .before .before .before .args .self) _ _ _ _ (c .before .before .before .before .before .width .ensures) (c .before .before .before .before .height .ensures) (sym (c .before .before .before .resolve .ensures) ∙ ap resolvedOut (c .refusal .ensures)))))
+returns c =
+    let height = c .before .before .before .before .height in
+    let width = c .before .before .before .before .before .width in
+    let property = c .before .before .before .before .before .before .before .property in
+    let start = c .before .before .before .before .before .before .before .before .before in
+    simp (property .given .1)
+    (sym (then-refused _
+    (clap-at (start .args .self) _ _ _ _ (width .ensures) (height .ensures)
+    (sym (c .before .before .before .resolve .ensures) ∙ ap resolvedOut (c .refusal .ensures)))))
 
 cropped-requires : tie.Need-cropped-requires
-cropped-requires c κs = (c .before .before .before .before .before .before .before .before .before .pre, clap-inside (c .before .before .before .before .before .before .before .before .before .args .self) _ _ _ _ (c .before .before .before .before .before .width .ensures) (c .before .before .before .before .height .ensures) (sym (c .before .before .before .resolve .ensures) ∙ ap resolvedOut (c .before .found .given .1)))
+cropped-requires c κs =
+    let height = c .before .before .before .before .height in
+    let width = c .before .before .before .before .before .width in
+    let start = c .before .before .before .before .before .before .before .before .before in (
+      start .pre,
+      clap-inside (start .args .self) _ _ _ _ (width .ensures) (height .ensures)
+          (sym (c .before .before .before .resolve .ensures) ∙ ap resolvedOut (c .before .found .given .1)),
+    )
 
 enum-known-property-2 : tie.Need-enum-known-property-2
 enum-known-property-2 c = search needs
@@ -71,7 +86,17 @@ returns-2 c = simp (c .enum-told .given .1)
 
 returns-3 : tie.Need-returns-3
 unfolding sightAfter
-returns-3 c = simp (c .before .before .before .before .before .before .before .before .property .given .1) (ap done (c .cropped .ensures) ∙ sym (then-done _ (clap-at (c .before .before .before .before .before .before .before .before .before .before .args .self) _ _ _ _ (c .before .before .before .before .before .before .width .ensures) (c .before .before .before .before .before .height .ensures) (sym (c .before .before .before .before .resolve .ensures) ∙ ap resolvedOut (c .before .before .found .given .1)))))
+returns-3 c =
+    let resolve = c .before .before .before .before .resolve in
+    let height = c .before .before .before .before .before .height in
+    let width = c .before .before .before .before .before .before .width in
+    let property = c .before .before .before .before .before .before .before .before .property in
+    let start = c .before .before .before .before .before .before .before .before .before .before in
+    simp (property .given .1)
+    (ap done (c .cropped .ensures)
+    ∙ sym (then-done _
+    (clap-at (start .args .self) _ _ _ _ (width .ensures) (height .ensures)
+    (sym (resolve .ensures) ∙ ap resolvedOut (c .before .before .found .given .1)))))
 
 returns-4 : tie.Need-returns-4
 unfolding sightAfter

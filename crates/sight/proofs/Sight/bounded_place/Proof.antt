@@ -26,16 +26,58 @@ unturned-place-requires : tie.Need-unturned-place-requires
 unturned-place-requires c κs = (omega (arith, c .before .before .before .before .width .ensures, c .before .before .before .if1 .left), omega (arith, c .before .before .height .ensures, c .before .if2 .left))
 
 unexchanged-requires : tie.Need-unexchanged-requires
-unexchanged-requires c κs = unturned-below (c .before .before .before .before .before .before .args .self) (c .before .before .before .before .before .before .args .column) (c .before .before .before .before .before .before .args .row) _ (c .unturned-place .ensures) (omega (arith, c .before .before .before .before .before .width .ensures, c .before .before .before .before .if1 .left)) (omega (arith, c .before .before .before .height .ensures, c .before .before .if2 .left)) .0
+unexchanged-requires c κs =
+    let if1 = c .before .before .before .before .if1 in
+    let width = c .before .before .before .before .before .width in
+    let start = c .before .before .before .before .before .before in
+    unturned-below (start .args .self) (start .args .column) (start .args .row) _ (c .unturned-place .ensures)
+    (omega (arith, width .ensures, if1 .left)) (omega (arith, c .before .before .before .height .ensures, c .before .before .if2 .left)) .0
 
 add-t7 : tie.Need-add-t7
-add-t7 c = omega (arith, c .before .before .before .before .before .before .before .before .pre .across, unexchanged-in (c .before .before .before .before .before .before .before .before .args .self .exchanged) (c .before .before .before .before .before .before .before .before .args .self .area .width) (c .before .before .unturned-place .result .x) 1 (c .before .unexchanged .result) (unturned-below (c .before .before .before .before .before .before .before .before .args .self) (c .before .before .before .before .before .before .before .before .args .column) (c .before .before .before .before .before .before .before .before .args .row) _ (c .before .before .unturned-place .ensures) (omega (arith, c .before .before .before .before .before .before .before .width .ensures, c .before .before .before .before .before .before .if1 .left)) (omega (arith, c .before .before .before .before .before .height .ensures, c .before .before .before .before .if2 .left)) .0) (c .before .unexchanged .ensures))
+add-t7 c =
+    let if2 = c .before .before .before .before .if2 in
+    let height = c .before .before .before .before .before .height in
+    let if1 = c .before .before .before .before .before .before .if1 in
+    let width = c .before .before .before .before .before .before .before .width in
+    let start = c .before .before .before .before .before .before .before .before in
+    omega (
+      arith,
+      start .pre .across,
+      unexchanged-in (start .args .self .exchanged) (start .args .self .area .width) (c .before .before .unturned-place .result .x) 1
+          (c .before .unexchanged .result)
+          (unturned-below (start .args .self) (start .args .column) (start .args .row) _ (c .before .before .unturned-place .ensures)
+          (omega (arith, width .ensures, if1 .left)) (omega (arith, height .ensures, if2 .left)) .0)
+          (c .before .unexchanged .ensures),
+    )
 
 add-t11 : tie.Need-add-t11
-add-t11 c = omega (arith, c .before .before .before .before .before .before .before .before .before .before .pre .down, unturned-below (c .before .before .before .before .before .before .before .before .before .before .args .self) (c .before .before .before .before .before .before .before .before .before .before .args .column) (c .before .before .before .before .before .before .before .before .before .before .args .row) _ (c .before .before .before .before .unturned-place .ensures) (omega (arith, c .before .before .before .before .before .before .before .before .before .width .ensures, c .before .before .before .before .before .before .before .before .if1 .left)) (omega (arith, c .before .before .before .before .before .before .before .height .ensures, c .before .before .before .before .before .before .if2 .left)) .1)
+add-t11 c =
+    let unturned-place = c .before .before .before .before .unturned-place in
+    let if2 = c .before .before .before .before .before .before .if2 in
+    let height = c .before .before .before .before .before .before .before .height in
+    let if1 = c .before .before .before .before .before .before .before .before .if1 in
+    let after-width = c .before .before .before .before .before .before .before .before .before in
+    let width = after-width .width in
+    let start = after-width .before in
+    omega (
+      arith,
+      start .pre .down,
+      unturned-below (start .args .self) (start .args .column) (start .args .row) _ (unturned-place .ensures)
+          (omega (arith, width .ensures, if1 .left)) (omega (arith, height .ensures, if2 .left)) .1,
+    )
 
 returns-3 : tie.Need-returns-3
-returns-3 c = place-found (c .before .before .before .before .before .before .before .before .before .before .args .self) (c .before .before .before .before .before .before .before .before .before .before .args .column) (c .before .before .before .before .before .before .before .before .before .before .args .row) (c .before .before .before .unexchanged .result) (c .before .before .before .before .unturned-place .result) (omega (arith, c .before .before .before .before .before .before .before .before .before .width .ensures, c .before .before .before .before .before .before .before .before .if1 .left)) (omega (arith, c .before .before .before .before .before .before .before .height .ensures, c .before .before .before .before .before .before .if2 .left)) (c .before .before .before .before .unturned-place .ensures) (c .before .before .before .unexchanged .ensures)
+returns-3 c =
+    let unturned-place = c .before .before .before .before .unturned-place in
+    let if2 = c .before .before .before .before .before .before .if2 in
+    let height = c .before .before .before .before .before .before .before .height in
+    let if1 = c .before .before .before .before .before .before .before .before .if1 in
+    let after-width = c .before .before .before .before .before .before .before .before .before in
+    let width = after-width .width in
+    let start = after-width .before in
+    place-found (start .args .self) (start .args .column) (start .args .row) (c .before .before .before .unexchanged .result) (unturned-place .result)
+    (omega (arith, width .ensures, if1 .left)) (omega (arith, height .ensures, if2 .left)) (unturned-place .ensures)
+    (c .before .before .before .unexchanged .ensures)
 
 pub bounded-place-spec : {M : Type 1} → statement M
 bounded-place-spec =

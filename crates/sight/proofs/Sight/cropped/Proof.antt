@@ -15,13 +15,29 @@ unexchanged-requires : tie.Need-unexchanged-requires
 unexchanged-requires c κs = unturned-inside (c .before .before .args .self) (c .before .before .args .c) _ (c .unturned .ensures) (c .before .before .pre .1) .across
 
 add-t6 : tie.Need-add-t6
-add-t6 c = omega (arith, c .before .before .before .before .pre .0 .across, unexchanged-in (c .before .before .before .before .args .self .exchanged) (c .before .before .before .before .args .self .area .width) (c .before .before .unturned .result .x) (c .before .before .unturned .result .width) (c .before .unexchanged .result) (unturned-inside (c .before .before .before .before .args .self) (c .before .before .before .before .args .c) _ (c .before .before .unturned .ensures) (c .before .before .before .before .pre .1) .across) (c .before .unexchanged .ensures))
+add-t6 c =
+    let start = c .before .before .before .before in
+    omega (
+      arith,
+      start .pre .0 .across,
+      unexchanged-in (start .args .self .exchanged) (start .args .self .area .width) (c .before .before .unturned .result .x)
+          (c .before .before .unturned .result .width) (c .before .unexchanged .result)
+          (unturned-inside (start .args .self) (start .args .c) _ (c .before .before .unturned .ensures) (start .pre .1) .across)
+          (c .before .unexchanged .ensures),
+    )
 
 add-t7 : tie.Need-add-t7
-add-t7 c = omega (arith, c .before .before .before .before .before .before .pre .0 .down, unturned-inside (c .before .before .before .before .before .before .args .self) (c .before .before .before .before .before .before .args .c) _ (c .before .before .before .before .unturned .ensures) (c .before .before .before .before .before .before .pre .1) .down)
+add-t7 c =
+    let unturned = c .before .before .before .before .unturned in
+    let start = c .before .before .before .before .before .before in
+    omega (arith, start .pre .0 .down, unturned-inside (start .args .self) (start .args .c) _ (unturned .ensures) (start .pre .1) .down)
 
 returns : tie.Need-returns
-returns c = cropped-is (c .before .before .before .before .before .before .args .self) (c .before .before .before .before .before .before .args .c) (c .before .before .before .before .unturned .result) (c .before .before .before .unexchanged .result) (c .before .before .before .before .unturned .ensures) (c .before .before .before .unexchanged .ensures)
+returns c =
+    let unturned = c .before .before .before .before .unturned in
+    let start = c .before .before .before .before .before .before in
+    cropped-is (start .args .self) (start .args .c) (unturned .result) (c .before .before .before .unexchanged .result) (unturned .ensures)
+    (c .before .before .before .unexchanged .ensures)
 
 pub cropped-spec : {M : Type 1} → statement M
 cropped-spec = tie.close (tie.spec unturned-requires unexchanged-requires add-t6 add-t7 returns)

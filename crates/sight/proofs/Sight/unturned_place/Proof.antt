@@ -27,35 +27,67 @@ returns-2 c = place-by (c .before .before .before .before .before .args .self) q
 
 sub-t9 : tie.Need-sub-t9
 unfolding sideways swaps
-sub-t9 c = omega (arith, below-by (c .before .before .before .before .before .before .args .self) q2 (quarter-two _ (c .before .if3 .taken)) (c .before .before .before .before .before .before .args .column) (c .before .before .before .before .before .before .args .row) (c .before .before .before .before .before .before .pre) .0)
+sub-t9 c =
+    let start = c .before .before .before .before .before .before in
+    omega (arith, below-by (start .args .self) q2 (quarter-two _ (c .before .if3 .taken)) (start .args .column) (start .args .row) (start .pre) .0)
 
 sub-t10 : tie.Need-sub-t10
 unfolding sideways swaps
-sub-t10 c = omega (arith, below-by (c .before .before .before .before .before .before .args .self) q2 (quarter-two _ (c .before .if3 .taken)) (c .before .before .before .before .before .before .args .column) (c .before .before .before .before .before .before .args .row) (c .before .before .before .before .before .before .pre) .0)
+sub-t10 c =
+    let start = c .before .before .before .before .before .before in
+    omega (arith, below-by (start .args .self) q2 (quarter-two _ (c .before .if3 .taken)) (start .args .column) (start .args .row) (start .pre) .0)
 
 sub-t11 : tie.Need-sub-t11
 unfolding sideways swaps
-sub-t11 c = omega (arith, below-by (c .before .before .before .before .before .before .before .args .self) q2 (quarter-two _ (c .before .before .if3 .taken)) (c .before .before .before .before .before .before .before .args .column) (c .before .before .before .before .before .before .before .args .row) (c .before .before .before .before .before .before .before .pre) .1)
+sub-t11 c =
+    let start = c .before .before .before .before .before .before .before in
+    omega (
+      arith,
+      below-by (start .args .self) q2 (quarter-two _ (c .before .before .if3 .taken)) (start .args .column) (start .args .row) (start .pre) .1,
+    )
 
 sub-t12 : tie.Need-sub-t12
 unfolding sideways swaps
-sub-t12 c = omega (arith, below-by (c .before .before .before .before .before .before .before .args .self) q2 (quarter-two _ (c .before .before .if3 .taken)) (c .before .before .before .before .before .before .before .args .column) (c .before .before .before .before .before .before .before .args .row) (c .before .before .before .before .before .before .before .pre) .1)
+sub-t12 c =
+    let start = c .before .before .before .before .before .before .before in
+    omega (
+      arith,
+      below-by (start .args .self) q2 (quarter-two _ (c .before .before .if3 .taken)) (start .args .column) (start .args .row) (start .pre) .1,
+    )
 
 returns-3 : tie.Need-returns-3
 unfolding unturn
-returns-3 c = place-by (c .before .before .before .before .before .before .before .args .self) q2 (quarter-two _ (c .before .before .if3 .taken)) (c .before .before .before .before .before .before .before .args .column) (c .before .before .before .before .before .before .before .args .row) _ (record { x = refl; y = refl })
+returns-3 c =
+    let start = c .before .before .before .before .before .before .before in
+    place-by (start .args .self) q2 (quarter-two _ (c .before .before .if3 .taken)) (start .args .column) (start .args .row) _
+    (record { x = refl; y = refl })
 
 sub-t13 : tie.Need-sub-t13
 unfolding sideways swaps
-sub-t13 c = omega (arith, below-by (c .before .before .before .before .before .before .args .self) q3 (quarter-three _ (c .before .before .before .if1 .left) (c .before .before .if2 .left) (c .before .if3 .left)) (c .before .before .before .before .before .before .args .column) (c .before .before .before .before .before .before .args .row) (c .before .before .before .before .before .before .pre) .0)
+sub-t13 c =
+    let start = c .before .before .before .before .before .before in
+    omega (
+      arith,
+      below-by (start .args .self) q3 (quarter-three _ (c .before .before .before .if1 .left) (c .before .before .if2 .left) (c .before .if3 .left))
+          (start .args .column) (start .args .row) (start .pre) .0,
+    )
 
 sub-t14 : tie.Need-sub-t14
 unfolding sideways swaps
-sub-t14 c = omega (arith, below-by (c .before .before .before .before .before .before .args .self) q3 (quarter-three _ (c .before .before .before .if1 .left) (c .before .before .if2 .left) (c .before .if3 .left)) (c .before .before .before .before .before .before .args .column) (c .before .before .before .before .before .before .args .row) (c .before .before .before .before .before .before .pre) .0)
+sub-t14 c =
+    let start = c .before .before .before .before .before .before in
+    omega (
+      arith,
+      below-by (start .args .self) q3 (quarter-three _ (c .before .before .before .if1 .left) (c .before .before .if2 .left) (c .before .if3 .left))
+          (start .args .column) (start .args .row) (start .pre) .0,
+    )
 
 returns-4 : tie.Need-returns-4
 unfolding unturn
-returns-4 c = place-by (c .before .before .before .before .before .before .args .self) q3 (quarter-three _ (c .before .before .before .if1 .left) (c .before .before .if2 .left) (c .before .if3 .left)) (c .before .before .before .before .before .before .args .column) (c .before .before .before .before .before .before .args .row) _ (record { x = refl; y = refl })
+returns-4 c =
+    let start = c .before .before .before .before .before .before in
+    place-by (start .args .self) q3 (quarter-three _ (c .before .before .before .if1 .left) (c .before .before .if2 .left) (c .before .if3 .left))
+    (start .args .column) (start .args .row) _ (record { x = refl; y = refl })
 
 pub unturned-place-spec : {M : Type 1} → statement M
 unturned-place-spec =

@@ -32,7 +32,16 @@ add-result-3 : tie.Need-add-result-3
 add-result-3 c = search needs
 
 returns : tie.Need-returns
-returns c = omega (arith, length-line (c .before .before .before .before .args .index) (c .before .before .before .before .args .kind) (c .before .before .before .before .args .size), c .before .before .before .decimal-length .ensures .0, c .before .before .decimal-length2 .ensures .0, c .before .decimal-length3 .ensures .0, c .decimal-length4 .ensures .0)
+returns c =
+    let start = c .before .before .before .before in
+    omega (
+      arith,
+      length-line (start .args .index) (start .args .kind) (start .args .size),
+      c .before .before .before .decimal-length .ensures .0,
+      c .before .before .decimal-length2 .ensures .0,
+      c .before .decimal-length3 .ensures .0,
+      c .decimal-length4 .ensures .0,
+    )
 
 pub line-length-spec : {M : Type 1} → statement M
 line-length-spec =

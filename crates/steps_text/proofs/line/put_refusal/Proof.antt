@@ -10,10 +10,13 @@ use Rattle.steps_text.proofs.line.put_refusal.Statement.{statement}
 use Rattle.steps_text.proofs.line.put_refusal.Tie as tie
 use Rattle.steps_text.proofs.line.put_refusal.Reads as reads
 use Rattle.steps_text.proofs.line.put_refusal.Lts as lts
-use Rattle.image.proofs.copy_row.Reads as copy-row-reads
+use Rattle.planes.proofs.copy_row.Reads as copy-row-reads
 use Rattle.steps_text.proofs.line.put_field.Reads as put-field-reads
 
-w1 : (c : tie.After-copy-row) → Writing (now (c .before .before .before .before .args .out)) (c .before .before .before .before .args .at) (refusalText (c .before .before .before .before .args .e)) (c .copy-row .last .0) (c .copy-row .result) (fieldText (c .before .before .before .before .args .e .number) 10)
+w1 : (c : tie.After-copy-row)
+    → let start = c .before .before .before .before in
+    Writing (now (start .args .out)) (start .args .at) (refusalText (start .args .e)) (c .copy-row .last .0) (c .copy-row .result)
+    (fieldText (start .args .e .number) 10)
 unfolding refusalText refusedWord ascii characterBytes pick
 w1 c = writing-run refusedWord (writing-start _ _ _ (c .before .before .before .before .pre)) (c .copy-row .ensures .0) (c .copy-row .ensures .1)
 

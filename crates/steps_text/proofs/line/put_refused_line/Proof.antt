@@ -10,16 +10,25 @@ use Rattle.steps_text.proofs.line.put_refused_line.Lts as lts
 use Rattle.steps_text.proofs.line.put_field.Reads as put-field-reads
 use Rattle.steps_text.proofs.line.put_refusal.Reads as put-refusal-reads
 
-w1 : (c : tie.After-put-field) → Writing (now (c .before .before .before .args .out)) (c .before .before .before .args .at) (refusedLine (c .before .before .before .args .index) (c .before .before .before .args .kind) (c .before .before .before .args .e)) (c .put-field .last .0) (c .put-field .result) (fieldText (c .before .before .before .args .kind) 32 ++ refusalText (c .before .before .before .args .e))
+w1 : (c : tie.After-put-field)
+    → let start = c .before .before .before in
+    Writing (now (start .args .out)) (start .args .at) (refusedLine (start .args .index) (start .args .kind) (start .args .e)) (c .put-field .last .0)
+    (c .put-field .result) (fieldText (start .args .kind) 32 ++ refusalText (start .args .e))
 unfolding refusedLine
 w1 c = writing-run (fieldText (c .before .before .before .args .index) 32) (writing-start _ _ _ (c .before .before .before .pre)) (c .put-field .ensures .0) (c .put-field .ensures .1)
 
-w2 : (c : tie.After-put-field2) → Writing (now (c .before .before .before .before .before .before .before .args .out)) (c .before .before .before .before .before .before .before .args .at) (refusedLine (c .before .before .before .before .before .before .before .args .index) (c .before .before .before .before .before .before .before .args .kind) (c .before .before .before .before .before .before .before .args .e)) (c .put-field2 .last .0) (c .put-field2 .result) (refusalText (c .before .before .before .before .before .before .before .args .e))
+w2 : (c : tie.After-put-field2)
+    → let start = c .before .before .before .before .before .before .before in
+    Writing (now (start .args .out)) (start .args .at) (refusedLine (start .args .index) (start .args .kind) (start .args .e))
+    (c .put-field2 .last .0) (c .put-field2 .result) (refusalText (start .args .e))
 w2 c = writing-run (fieldText (c .before .before .before .before .before .before .before .args .kind) 32) (w1 (c .before .before .before .before)) (c .put-field2 .ensures .0) (c .put-field2 .ensures .1)
 
 put-field-requires : tie.Need-put-field-requires
 unfolding refusedLine
-put-field-requires c κs = writing-fits (fieldText (c .before .before .args .index) 32) _ (writing-start (now (c .before .before .args .out)) (c .before .before .args .at) (refusedLine (c .before .before .args .index) (c .before .before .args .kind) (c .before .before .args .e)) (c .before .before .pre))
+put-field-requires c κs =
+    let start = c .before .before in
+    writing-fits (fieldText (start .args .index) 32) _
+    (writing-start (now (start .args .out)) (start .args .at) (refusedLine (start .args .index) (start .args .kind) (start .args .e)) (start .pre))
 
 put-field-requires-2 : tie.Need-put-field-requires-2
 put-field-requires-2 c κs = writing-fits (fieldText (c .before .before .before .before .before .before .args .kind) 32) _ (w1 (c .before .before .before))

@@ -29,7 +29,16 @@ size-after-requires : tie.Need-size-after-requires
 size-after-requires c κs = search needs
 
 returns-2 : tie.Need-returns-2
-returns-2 c = record { entry = c .before .before .before .before .x .given .0 .0; read = sym (c .before .before .before .before .before .before .read-entry .ensures) ∙ ap entryOut (c .before .before .before .before .x .given .1); kind = c .before .kind .ensures; after = c .size-after .ensures; next = refl }
+returns-2 c =
+    let x = c .before .before .before .before .x in
+    let read-entry = c .before .before .before .before .before .before .read-entry in
+    record {
+      entry = x .given .0 .0;
+      read = sym (read-entry .ensures) ∙ ap entryOut (x .given .1);
+      kind = c .before .kind .ensures;
+      after = c .size-after .ensures;
+      next = refl;
+    }
 
 pub step-spec : {M : Type 1} → statement M
 step-spec =

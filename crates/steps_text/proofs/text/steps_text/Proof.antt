@@ -1,12 +1,15 @@
-use mathlib.Core.Path.{_∙_, ap, refl, sym}
+use mathlib.Core.Path.{_≡_, ap, refl}
 use native.Mathlib.Omega.{arith}
+use denote.Ref.{now}
 use lib.ListN.{length}
 use borrow.Author.Needs.{needs}
 use Rattle.laws.proofs.Out.{fitted-short, refused-answers}
+use Rattle.laws.specs.Out.{refused}
 use Rattle.steps_text.proofs.TextLaws.{text-answers, text-refused}
-use Rattle.steps_text.specs.Input.{inputOut}
-use Rattle.steps_text.specs.Text.{refusalText}
 use Rattle.steps_text.proofs.text.steps_text.Statement.{statement}
+use Rattle.steps_text.specs.Input.{stepsOf}
+use Rattle.steps_text.specs.Text.{refusalText}
+use Rattle.steps_text.specs.inner.Step.{ReadAs, Taken}
 use Rattle.steps_text.proofs.text.steps_text.Tie as tie
 use Rattle.steps_text.proofs.text.steps_text.Reads as reads
 use Rattle.steps_text.proofs.text.steps_text.Lts as lts
@@ -15,6 +18,14 @@ use Rattle.steps_text.proofs.line.put_refusal.Reads as put-refusal-read
 use Rattle.steps_text.proofs.line.refusal_length.Reads as refusal-length-reads
 use Rattle.steps_text.proofs.text.text_length.Reads as text-length-reads
 use Rattle.steps_text.proofs.text.write_text.Reads as write-text-reads
+
+read-refused : (c : tie.After-e) → let start = c .before .before .before .before .before in stepsOf (now (start .args .input)) ≡ refused (c .e .given .0 .0)
+unfolding ReadAs
+read-refused c = rw (c .e .given .1) at (c .before .before .read-input .ensures)
+
+read-taken : (c : tie.After-i) → let start = c .before .before .before .before .before in Taken (now (start .args .input)) (c .i .given .0 .0)
+unfolding ReadAs
+read-taken c = rw (c .i .given .1) at (c .before .before .read-input .ensures)
 
 read-input-requires : tie.Need-read-input-requires
 read-input-requires c κs = search needs
@@ -26,7 +37,7 @@ refusal-length-requires : tie.Need-refusal-length-requires
 refusal-length-requires c κs = search needs
 
 returns : tie.Need-returns
-returns c = let t = text-refused _ _ (sym (c .before .before .before .before .before .read-input .ensures) ∙ ap inputOut (c .before .before .before .e .given .1)) in refused-answers _ _ _ (fitted-short _ _ (omega (arith, c .if1 .taken, c .before .refusal-length .ensures, ap length t)))
+returns c = let t = text-refused _ _ (read-refused (c .before .before .before)) in refused-answers _ _ _ (fitted-short _ _ (omega (arith, c .if1 .taken, c .before .refusal-length .ensures, ap length t)))
 
 put-refusal-requires : tie.Need-put-refusal-requires
 put-refusal-requires c κs = search needs
@@ -35,19 +46,19 @@ enum-known-i : tie.Need-enum-known-i
 enum-known-i c = search needs
 
 text-length-requires : tie.Need-text-length-requires
-text-length-requires c κs = sym (c .before .before .before .read-input .ensures) ∙ ap inputOut (c .before .i .given .1)
+text-length-requires c κs = read-taken (c .before)
 
 returns-2 : tie.Need-returns-2
 returns-2 c = refused-answers _ _ _ (fitted-short _ _ (omega (arith, c .if2 .taken, c .before .text-length .ensures)))
 
 write-text-requires : tie.Need-write-text-requires
-write-text-requires c κs = (sym (c .before .before .before .before .before .before .read-input .ensures) ∙ ap inputOut (c .before .before .before .before .i .given .1), omega (arith, c .before .if2 .left, c .before .before .text-length .ensures))
+write-text-requires c κs = (read-taken (c .before .before .before .before), omega (arith, c .before .if2 .left, c .before .before .text-length .ensures))
 
 same-length : tie.Need-same-length
 same-length c = search needs
 
 returns-3 : tie.Need-returns-3
-returns-3 c = let t = text-refused _ _ (sym (c .before .before .before .before .before .before .before .before .before .read-input .ensures) ∙ ap inputOut (c .before .before .before .before .before .before .before .e .given .1)) in text-answers _ _ _ (refusalText (c .before .before .before .before .before .before .before .e .given .0 .0)) _ t (omega (arith, c .before .before .before .before .if1 .left, c .before .before .before .before .before .refusal-length .ensures)) (omega (arith, c .before .before .put-refusal .ensures .0)) (c .before .before .put-refusal .ensures .1)
+returns-3 c = let t = text-refused _ _ (read-refused (c .before .before .before .before .before .before .before)) in text-answers _ _ _ (refusalText (c .before .before .before .before .before .before .before .e .given .0 .0)) _ t (omega (arith, c .before .before .before .before .if1 .left, c .before .before .before .before .before .refusal-length .ensures)) (omega (arith, c .before .before .put-refusal .ensures .0)) (c .before .before .put-refusal .ensures .1)
 
 same-length-2 : tie.Need-same-length-2
 same-length-2 c = search needs

@@ -4,7 +4,7 @@ use native.Mathlib.Omega.{arith}
 use lib.ListN.{length, length-append}
 use denote.Ref.{now}
 use borrow.Author.Needs.{needs}
-use Rattle.props.specs.Size.{sizeOut}
+use Rattle.image.specs.Format.{sizeOut}
 use Rattle.steps_text.proofs.Going.{Going, going-end, going-next, going-refused, going-stands, going-start, heading-lines}
 use Rattle.steps_text.proofs.TextLaws.{text-short}
 use Rattle.steps_text.specs.Text.{lineText, linesFrom, textOf}
@@ -22,15 +22,43 @@ Inv-loop s count at₀ size₀ total₀ index₀ at size total index = (g : Goin
 abbrev μ-loop : tie.MeasureT-loop
 μ-loop s count at₀ size₀ total₀ index₀ at size total index = count - index
 
-last-line : (c : tie.After-refused-line-length Inv-loop μ-loop) → c .before .before .before .before .before .before .loop .total + c .refused-line-length .result ≡ length (textOf (now (c .before .before .before .before .before .before .before .before .before .before .args .s)))
+last-line : (c : tie.After-refused-line-length Inv-loop μ-loop)
+    → let loop = c .before .before .before .before .before .before .loop in
+    let start = c .before .before .before .before .before .before .before .before .before .before in
+    loop .total + c .refused-line-length .result ≡ length (textOf (now (start .args .s)))
 last-line c =
-    let e = going-refused (now (c .before .before .before .before .before .before .before .before .before .before .args .s)) _ _ _ (c .before .before .before .before .before .before .loop .size) (c .before .before .before .before .before .before .loop .inv .0) (c .before .before .before .before .step .result) _ (c .before .before .before .before .before .loop-test .taken) (c .before .before .before .before .step .ensures) (ap sizeOut (c .before .before .after .given .1)) in
-    omega (arith, c .before .before .before .before .before .before .loop .inv .1, ap length e, c .refused-line-length .ensures)
+    let step = c .before .before .before .before .step in
+    let loop-test = c .before .before .before .before .before .loop-test in
+    let loop = c .before .before .before .before .before .before .loop in
+    let start = c .before .before .before .before .before .before .before .before .before .before in
+    let e = going-refused (now (start .args .s)) _ _ _ (loop .size) (loop .inv .0) (step .result) _ (loop-test .taken) (step .ensures)
+    (ap sizeOut (c .before .before .after .given .1)) in
+    omega (arith, loop .inv .1, ap length e, c .refused-line-length .ensures)
 
-more : (c : tie.After-line-length Inv-loop μ-loop) → (g : Going (now (c .before .before .before .before .before .before .before .before .before .before .args .s)) (c .before .before .before .before .before .before .before .before .before .before .args .input .chain .count) (c .before .before .before .before .step .result .next) (c .before .before .before .before .before .before .loop .index + 1)) × (c .before .before .before .before .before .before .loop .total + c .line-length .result + length (linesFrom (c .before .before .before .before .before .before .loop .index + 1) (g .rest) (c .before .before .after2 .given .0 .0)) ≡ length (textOf (now (c .before .before .before .before .before .before .before .before .before .before .args .s))))
+more : (c : tie.After-line-length Inv-loop μ-loop)
+    → let step = c .before .before .before .before .step in
+    let loop = c .before .before .before .before .before .before .loop in
+    let start = c .before .before .before .before .before .before .before .before .before .before in
+    (g : Going (now (start .args .s)) (start .args .input .chain .count) (step .result .next) (loop .index + 1))
+    × (loop .total + c .line-length .result + length (linesFrom (loop .index + 1) (g .rest) (c .before .before .after2 .given .0 .0))
+    ≡ length (textOf (now (start .args .s))))
 more c =
-    let k = going-next (now (c .before .before .before .before .before .before .before .before .before .before .args .s)) _ _ _ (c .before .before .before .before .before .before .loop .size) (c .before .before .before .before .before .before .loop .inv .0) (c .before .before .before .before .step .result) _ (c .before .before .before .before .before .loop-test .taken) (c .before .before .before .before .step .ensures) (ap sizeOut (c .before .before .after2 .given .1)) in
-    (k .0, omega (arith, c .before .before .before .before .before .before .loop .inv .1, ap length (k .1) ∙ length-append (lineText (c .before .before .before .before .before .before .loop .index) (c .before .before .before .before .step .result .kind) (c .before .before .after2 .given .0 .0)) (linesFrom (c .before .before .before .before .before .before .loop .index + 1) (k .0 .rest) (c .before .before .after2 .given .0 .0)), c .line-length .ensures))
+    let step = c .before .before .before .before .step in
+    let loop-test = c .before .before .before .before .before .loop-test in
+    let loop = c .before .before .before .before .before .before .loop in
+    let start = c .before .before .before .before .before .before .before .before .before .before in
+    let k = going-next (now (start .args .s)) _ _ _ (loop .size) (loop .inv .0) (step .result) _ (loop-test .taken) (step .ensures)
+    (ap sizeOut (c .before .before .after2 .given .1)) in (
+      k .0,
+      omega (
+        arith,
+        loop .inv .1,
+        ap length (k .1)
+            ∙ length-append (lineText (loop .index) (step .result .kind) (c .before .before .after2 .given .0 .0))
+            (linesFrom (loop .index + 1) (k .0 .rest) (c .before .before .after2 .given .0 .0)),
+        c .line-length .ensures,
+      ),
+    )
 
 loop-holds : tie.Need-loop-holds Inv-loop μ-loop
 loop-holds c = let k = going-start _ _ (c .before .before .before .pre) in (k .0, heading-lines _ _ (k .1))
@@ -45,7 +73,9 @@ refused-line-length-requires : tie.Need-refused-line-length-requires Inv-loop μ
 refused-line-length-requires c κs = search needs
 
 add-result : tie.Need-add-result Inv-loop μ-loop
-add-result c = omega (arith, last-line c, text-short (now (c .before .before .before .before .before .before .before .before .before .before .args .s)))
+add-result c =
+    let start = c .before .before .before .before .before .before .before .before .before .before in
+    omega (arith, last-line c, text-short (now (start .args .s)))
 
 returns : tie.Need-returns Inv-loop μ-loop
 returns c = last-line c
@@ -57,10 +87,12 @@ line-length-requires : tie.Need-line-length-requires Inv-loop μ-loop
 line-length-requires c κs = search needs
 
 add-total : tie.Need-add-total Inv-loop μ-loop
-add-total c = omega (arith, more c .1, text-short (now (c .before .before .before .before .before .before .before .before .before .before .args .s)))
+add-total c =
+    let start = c .before .before .before .before .before .before .before .before .before .before in
+    omega (arith, more c .1, text-short (now (start .args .s)))
 
 add-index : tie.Need-add-index Inv-loop μ-loop
-add-index c = omega (arith, c .before .before .before .before .before .before .loop .inv .0 .few, c .before .before .before .before .before .loop-test .taken)
+add-index c = omega (arith, c .before .before .before .before .before .before .loop .inv .0 .bounded, c .before .before .before .before .before .loop-test .taken)
 
 loop-less : tie.Need-loop-less Inv-loop μ-loop
 loop-less c = omega (arith, c .before .before .before .before .before .loop-test .taken)

@@ -6,7 +6,7 @@ use Rattle.transform.proofs.moves.axis_line.Statement.{statement}
 use Rattle.transform.proofs.moves.axis_line.Tie as tie
 use Rattle.transform.proofs.moves.axis_line.Reads as reads
 use Rattle.transform.proofs.moves.axis_line.Lts as lts
-use Rattle.transform.proofs.moves.shift.Reads as shift-reads
+use Rattle.planes.proofs.shift.Reads as shift-reads
 
 shift-requires : tie.Need-shift-requires
 shift-requires c κs = search needs

@@ -6,7 +6,7 @@ use Rattle.transform.proofs.moves.plane_axis.Statement.{statement}
 use Rattle.transform.proofs.moves.plane_axis.Tie as tie
 use Rattle.transform.proofs.moves.plane_axis.Reads as reads
 use Rattle.transform.proofs.moves.plane_axis.Lts as lts
-use Rattle.image.proofs.covering.Reads as covering-reads
+use Rattle.planes.proofs.covering.Reads as covering-reads
 
 returns : tie.Need-returns
 unfolding planeAxis pick

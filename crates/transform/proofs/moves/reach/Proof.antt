@@ -6,7 +6,7 @@ use Rattle.transform.proofs.moves.reach.Statement.{statement}
 use Rattle.transform.proofs.moves.reach.Tie as tie
 use Rattle.transform.proofs.moves.reach.Reads as reads
 use Rattle.transform.proofs.moves.reach.Lts as lts
-use Rattle.image.proofs.covering.Reads as covering-reads
+use Rattle.planes.proofs.covering.Reads as covering-reads
 
 sub-covering : tie.Need-sub-covering
 sub-covering c = c .before .pre .2 (c .if1 .taken)

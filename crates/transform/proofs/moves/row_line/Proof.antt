@@ -16,13 +16,13 @@ use Rattle.transform.proofs.moves.axis_line.Reads as axis-line-reads
 use Rattle.transform.proofs.moves.reach.Reads as reach-reads
 
 across-small : (c : tie.After-reach) → c .reach .result < 2 ^ 32
-across-small c = rw (c .reach .ensures) (reach-small _ _ _ _ (c .before .before .before .before .pre .acrossSmall) (c .before .before .before .before .pre .few))
+across-small c = rw (c .reach .ensures) (reach-small _ _ _ _ (c .before .before .before .before .pre .acrossSmall) (c .before .before .before .before .pre .bounded))
 
 down-small : (c : tie.After-reach2) → c .reach2 .result < 2 ^ 32
-down-small c = rw (c .reach2 .ensures) (reach-small _ _ _ _ (c .before .before .before .before .pre .downSmall) (c .before .before .before .before .pre .few))
+down-small c = rw (c .reach2 .ensures) (reach-small _ _ _ _ (c .before .before .before .before .pre .downSmall) (c .before .before .before .before .pre .bounded))
 
 reach-requires : tie.Need-reach-requires
-reach-requires c κs = (c .before .before .before .pre .acrossSmall, c .before .before .before .pre .few, c .before .before .before .pre .across (c .if1 .taken))
+reach-requires c κs = (c .before .before .before .pre .acrossSmall, c .before .before .before .pre .bounded, c .before .before .before .pre .across (c .if1 .taken))
 
 mul-axis-line : tie.Need-mul-axis-line
 mul-axis-line c = record { fits = lt-of-le-of-lt (mul-below 4294967295 2 (c .reach .result) (c .before .before .before .before .args .bytes) (omega (arith, across-small c)) (c .before .before .before .before .pre .sample)) (lit< tt) }
@@ -40,7 +40,7 @@ returns c =
     )
 
 reach-requires-2 : tie.Need-reach-requires-2
-reach-requires-2 c κs = (c .before .before .before .pre .downSmall, c .before .before .before .pre .few, c .before .before .before .pre .down (c .if1 .left))
+reach-requires-2 c κs = (c .before .before .before .pre .downSmall, c .before .before .before .pre .bounded, c .before .before .before .pre .down (c .if1 .left))
 
 mul-axis-line-2 : tie.Need-mul-axis-line-2
 mul-axis-line-2 c = record { fits = lt-of-le-of-lt (mul-below 4294967295 4294967295 (c .reach2 .result) (c .before .before .before .before .args .stride) (omega (arith, down-small c)) (omega (arith, c .before .before .before .before .pre .row))) (lit< tt) }

@@ -15,7 +15,7 @@ unfolding offsetPlace
 in-body c = place-inside _ _ _ (c .pre .0) (c .pre .1)
 
 mul-at : tie.Need-mul-at
-mul-at c = omega (arith, c .before .pre .0 .few)
+mul-at c = omega (arith, c .before .pre .0 .bounded)
 
 mul-at-2 : tie.Need-mul-at-2
 mul-at-2 c = omega (arith, in-body (c .before))
@@ -24,13 +24,13 @@ add-at : tie.Need-add-at
 add-at c = omega (arith, in-body (c .before .before), c .before .before .good)
 
 signed-at-requires : tie.Need-signed-at-requires
-signed-at-requires c κs = (c .before .before .pre .0 .few, omega (arith, in-body (c .before .before)))
+signed-at-requires c κs = (c .before .before .pre .0 .bounded, omega (arith, in-body (c .before .before)))
 
 add-signed-at : tie.Need-add-signed-at
 add-signed-at c = omega (arith, in-body (c .before .before .before), c .before .before .before .good)
 
 signed-at-requires-2 : tie.Need-signed-at-requires-2
-signed-at-requires-2 c κs = (c .before .before .before .pre .0 .few, omega (arith, in-body (c .before .before .before)))
+signed-at-requires-2 c κs = (c .before .before .before .pre .0 .bounded, omega (arith, in-body (c .before .before .before)))
 
 returns : tie.Need-returns
 unfolding placementAt horizontalAt verticalAt offsetPlace

@@ -41,7 +41,13 @@ enum-known-c : tie.Need-enum-known-c
 enum-known-c c = search needs
 
 judge-inputs-requires : tie.Need-judge-inputs-requires
-judge-inputs-requires c κs = (start-bytes _ _ (sym (c .before .before .before .before .before .before .before .before .before .before .before .read-start .ensures) ∙ ap startOut (c .before .before .before .before .before .before .before .before .before .s .given .1)) .1, canvas-taken _ _ _ _ (sym (c .before .before .before .read-canvas .ensures) ∙ ap canvasOut (c .before .c .given .1)) .1)
+judge-inputs-requires c κs =
+    let after-s = c .before .before .before .before .before .before .before .before .before in
+    let s = after-s .s in
+    let read-start = after-s .before .before .read-start in (
+      start-bytes _ _ (sym (read-start .ensures) ∙ ap startOut (s .given .1)) .1,
+      canvas-taken _ _ _ _ (sym (c .before .before .before .read-canvas .ensures) ∙ ap canvasOut (c .before .c .given .1)) .1,
+    )
 
 returns : tie.Need-returns
 unfolding overlayOf andThen
@@ -64,11 +70,16 @@ returns-2 c =
 returns-3 : tie.Need-returns-3
 unfolding overlayOf andThen
 returns-3 c =
+    let f = c .before .before .before .before .before .f in
+    let read-fill = c .before .before .before .before .before .before .before .read-fill in
+    let after-s = c .before .before .before .before .before .before .before .before .before in
+    let s = after-s .s in
+    let read-start = after-s .before .before .read-start in
     simp (
-      sym (c .before .before .before .before .before .before .before .before .before .before .before .read-start .ensures),
-      c .before .before .before .before .before .before .before .before .before .s .given .1,
-      sym (c .before .before .before .before .before .before .before .read-fill .ensures),
-      c .before .before .before .before .before .f .given .1,
+      sym (read-start .ensures),
+      s .given .1,
+      sym (read-fill .ensures),
+      f .given .1,
       sym (c .before .before .before .read-canvas .ensures),
       c .before .e3 .given .1,
     )
@@ -76,12 +87,18 @@ returns-3 c =
 returns-4 : tie.Need-returns-4
 unfolding overlayOf andThen
 returns-4 c =
+    let read-canvas = c .before .before .before .before .read-canvas in
+    let f = c .before .before .before .before .before .before .f in
+    let read-fill = c .before .before .before .before .before .before .before .before .read-fill in
+    let after-s = c .before .before .before .before .before .before .before .before .before .before in
+    let s = after-s .s in
+    let read-start = after-s .before .before .read-start in
     simp (
-      sym (c .before .before .before .before .before .before .before .before .before .before .before .before .read-start .ensures),
-      c .before .before .before .before .before .before .before .before .before .before .s .given .1,
-      sym (c .before .before .before .before .before .before .before .before .read-fill .ensures),
-      c .before .before .before .before .before .before .f .given .1,
-      sym (c .before .before .before .before .read-canvas .ensures),
+      sym (read-start .ensures),
+      s .given .1,
+      sym (read-fill .ensures),
+      f .given .1,
+      sym (read-canvas .ensures),
       c .before .before .c .given .1,
       sym (c .judge-inputs .ensures),
     )

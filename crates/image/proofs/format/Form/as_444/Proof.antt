@@ -1,5 +1,5 @@
 use mathlib.Core.Path.{refl}
-use Rattle.image.specs.Picture.{as444, sized}
+use Rattle.image.specs.Format.{as444, sized}
 use Rattle.image.proofs.format.Form.as_444.Statement.{statement}
 use Rattle.image.proofs.format.Form.as_444.Tie as tie
 use Rattle.image.proofs.format.Form.as_444.Reads as reads

@@ -1,5 +1,5 @@
 use mathlib.Core.Path.{refl}
-use Rattle.image.specs.Picture.{as444, sized}
+use Rattle.image.specs.Format.{as444, sized}
 use Rattle.image.proofs.format.Form.sized.Statement.{statement}
 use Rattle.image.proofs.format.Form.sized.Tie as tie
 use Rattle.image.proofs.format.Form.sized.Reads as reads

@@ -1,26 +1,19 @@
-use Prim.Native.Nat.{_-_, _≤_}
-use native.Mathlib.Omega.{arith}
-use lib.Dec.{lit≤}
 use borrow.Author.Needs.{needs}
-use Rattle.image.proofs.FormLaws.{shift-small}
-use Rattle.image.specs.Format.{middleOf}
 use Rattle.image.proofs.format.PixelFormat.middle.Statement.{statement}
+use Rattle.image.specs.Format.{middleOf}
 use Rattle.image.proofs.format.PixelFormat.middle.Tie as tie
 use Rattle.image.proofs.format.PixelFormat.middle.Reads as reads
 use Rattle.image.proofs.format.PixelFormat.middle.Lts as lts
+use Rattle.image.proofs.format.PixelFormat.middle_at.Reads as middle-at-reads
 
-sub-result : tie.Need-sub-result
-sub-result c = search needs
+-- src/format.rt:110:9
+middle-at-requires : tie.Need-middle-at-requires
+middle-at-requires c κs = search needs
 
-shl-result : tie.Need-shl-result
-shl-result c = search needs
-
-cast-result : tie.Need-cast-result
-cast-result c = let h : c .before .args .self .depth - 1 ≤ 15 = omega arith in omega (arith, shift-small 15 (c .before .args .self .depth - 1) h (lit≤ tt))
-
+-- src/format.rt:106:5
 returns : tie.Need-returns
 unfolding middleOf
-returns c = let h : c .before .args .self .depth - 1 ≤ 15 = omega arith in omega (arith, shift-small 15 (c .before .args .self .depth - 1) h (lit≤ tt))
+returns c = c .middle-at .ensures
 
 pub middle-spec : {M : Type 1} → statement M
-middle-spec = tie.close (tie.spec sub-result shl-result cast-result returns)
+middle-spec = tie.close (tie.spec middle-at-requires returns)

@@ -1,6 +1,6 @@
 use mathlib.Core.Path.{sym}
 use borrow.Author.Needs.{needs}
-use Rattle.image.specs.Picture.{needs444}
+use Rattle.image.specs.Format.{needs444}
 use Rattle.image.proofs.format.PixelFormat.needs_444.Statement.{statement}
 use Rattle.image.proofs.format.PixelFormat.needs_444.Tie as tie
 use Rattle.image.proofs.format.PixelFormat.needs_444.Reads as reads

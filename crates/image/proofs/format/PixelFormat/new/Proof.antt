@@ -1,11 +1,16 @@
+use mathlib.Core.Bool.{not}
+use mathlib.Core.Path.{_∙_, ap, sym}
+use borrow.Author.Needs.{needs}
 use borrow.Author.Tests.{le-leb, le-ltb, lt-leb, lt-ltb}
 use Rattle.laws.specs.Out.{refuse}
-use Rattle.image.specs.Format.{formatOf}
 use Rattle.image.proofs.format.PixelFormat.new.Statement.{statement}
+use Rattle.image.specs.Format.{formatOf}
 use Rattle.image.proofs.format.PixelFormat.new.Tie as tie
 use Rattle.image.proofs.format.PixelFormat.new.Reads as reads
 use Rattle.image.proofs.format.PixelFormat.new.Lts as lts
+use Rattle.image.proofs.format.PixelFormat.is_depth.Reads as is-depth-reads
 
+-- src/format.rt:58:13
 returns : tie.Need-returns
 unfolding formatOf refuse
 returns c =
@@ -14,6 +19,7 @@ returns c =
       lt-ltb _ _ (c .if1 .taken),
     )
 
+-- src/format.rt:61:13
 returns-2 : tie.Need-returns-2
 unfolding formatOf refuse
 returns-2 c =
@@ -24,45 +30,19 @@ returns-2 c =
       lt-ltb _ _ (c .if2 .taken),
     )
 
+-- src/format.rt:63:13
+is-depth-requires : tie.Need-is-depth-requires
+is-depth-requires c κs = search needs
+
+-- src/format.rt:64:13
 returns-3 : tie.Need-returns-3
 unfolding formatOf refuse
-returns-3 c =
-    simp (
-      le-ltb _ _ (c .before .before .if1 .left),
-      le-leb _ _ (c .before .before .if1 .left),
-      le-ltb _ _ (c .before .if2 .left),
-      le-leb _ _ (c .before .if2 .left),
-      lt-leb _ _ (c .if3 .taken),
-      lt-ltb _ _ (c .if3 .taken),
-    )
+returns-3 c = simp (le-ltb _ _ (c .before .before .before .if1 .left), le-ltb _ _ (c .before .before .if2 .left), ap not (sym (c .before .is-depth .ensures)) ∙ c .if3 .taken)
 
+-- src/format.rt:54:5
 returns-4 : tie.Need-returns-4
 unfolding formatOf refuse
-returns-4 c =
-    simp (
-      le-ltb _ _ (c .before .before .before .if1 .left),
-      le-leb _ _ (c .before .before .before .if1 .left),
-      le-ltb _ _ (c .before .before .if2 .left),
-      le-leb _ _ (c .before .before .if2 .left),
-      le-ltb _ _ (c .before .if3 .left),
-      le-leb _ _ (c .before .if3 .left),
-      lt-leb _ _ (c .if4 .taken),
-      lt-ltb _ _ (c .if4 .taken),
-    )
-
-returns-5 : tie.Need-returns-5
-unfolding formatOf refuse
-returns-5 c =
-    simp (
-      le-ltb _ _ (c .before .before .before .if1 .left),
-      le-leb _ _ (c .before .before .before .if1 .left),
-      le-ltb _ _ (c .before .before .if2 .left),
-      le-leb _ _ (c .before .before .if2 .left),
-      le-ltb _ _ (c .before .if3 .left),
-      le-leb _ _ (c .before .if3 .left),
-      le-ltb _ _ (c .if4 .left),
-      le-leb _ _ (c .if4 .left),
-    )
+returns-4 c = simp (le-ltb _ _ (c .before .before .before .if1 .left), le-ltb _ _ (c .before .before .if2 .left), ap not (sym (c .before .is-depth .ensures)) ∙ c .if3 .left)
 
 pub new-spec : {M : Type 1} → statement M
-new-spec = tie.close (tie.spec returns returns-2 returns-3 returns-4 returns-5)
+new-spec = tie.close (tie.spec returns returns-2 is-depth-requires returns-3 returns-4)

@@ -1,25 +1,19 @@
-use native.Mathlib.Omega.{arith}
-use lib.Dec.{lit≤}
 use borrow.Author.Needs.{needs}
-use Rattle.image.proofs.FormLaws.{shift-small}
-use Rattle.image.specs.Format.{topOf}
 use Rattle.image.proofs.format.PixelFormat.top.Statement.{statement}
+use Rattle.image.specs.Format.{topOf}
 use Rattle.image.proofs.format.PixelFormat.top.Tie as tie
 use Rattle.image.proofs.format.PixelFormat.top.Reads as reads
 use Rattle.image.proofs.format.PixelFormat.top.Lts as lts
+use Rattle.image.proofs.format.PixelFormat.top_at.Reads as top-at-reads
 
-shl-result : tie.Need-shl-result
-shl-result c = search needs
+-- src/format.rt:95:9
+top-at-requires : tie.Need-top-at-requires
+top-at-requires c κs = search needs
 
-sub-result : tie.Need-sub-result
-sub-result c = omega (arith, shift-small 16 (c .before .args .self .depth) (c .before .pre) (lit≤ tt))
-
-cast-result : tie.Need-cast-result
-cast-result c = omega (arith, shift-small 16 (c .before .args .self .depth) (c .before .pre) (lit≤ tt))
-
+-- src/format.rt:91:5
 returns : tie.Need-returns
 unfolding topOf
-returns c = omega (arith, shift-small 16 (c .before .args .self .depth) (c .before .pre) (lit≤ tt))
+returns c = c .top-at .ensures
 
 pub top-spec : {M : Type 1} → statement M
-top-spec = tie.close (tie.spec shl-result sub-result cast-result returns)
+top-spec = tie.close (tie.spec top-at-requires returns)

@@ -26,7 +26,11 @@ returns : tie.Need-returns
 returns c = point-refused (gridLooked (c .before .before .before .before .before .args .self)) _ _ (c .before .before .before .before .before .pre .bounded) _ (sym (c .before .before .before .place .ensures) ∙ ap placeOut (c .before .e .given .1))
 
 returns-2 : tie.Need-returns-2
-returns-2 c = point-done (gridLooked (c .before .before .before .before .before .before .args .self)) _ _ (c .before .before .before .before .before .before .pre .bounded) _ _ (sym (c .before .before .before .before .place .ensures) ∙ ap placeOut (c .before .before .l .given .1)) (c .name-tile .ensures)
+returns-2 c =
+    let place = c .before .before .before .before .place in
+    let start = c .before .before .before .before .before .before in
+    point-done (gridLooked (start .args .self)) _ _ (start .pre .bounded) _ _ (sym (place .ensures) ∙ ap placeOut (c .before .before .l .given .1))
+    (c .name-tile .ensures)
 
 pub point-spec : {M : Type 1} → statement M
 point-spec =

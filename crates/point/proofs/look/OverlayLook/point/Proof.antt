@@ -28,7 +28,11 @@ returns c = point-refused (overlayLooked _ _ (c .before .before .before .before 
 
 returns-2 : tie.Need-returns-2
 unfolding overlayNames
-returns-2 c = point-done (overlayLooked _ _ (c .before .before .before .before .before .before .before .before .args .self)) _ _ (c .before .before .before .before .before .before .before .before .pre .1) _ _ (sym (c .before .before .before .before .place .ensures) ∙ ap placeOut (c .before .before .l .given .1)) (c .name-topmost .ensures)
+returns-2 c =
+    let place = c .before .before .before .before .place in
+    let start = c .before .before .before .before .before .before .before .before in
+    point-done (overlayLooked _ _ (start .args .self)) _ _ (start .pre .1) _ _ (sym (place .ensures) ∙ ap placeOut (c .before .before .l .given .1))
+    (c .name-topmost .ensures)
 
 pub point-spec : {M : Type 1} → statement M
 point-spec =

@@ -4,7 +4,7 @@ use borrow.Author.Tests.{eq-eqb, ne-eqb}
 use Rattle.laws.proofs.Out.{then-refused}
 use Rattle.laws.specs.Out.{andThen}
 use Rattle.laws.specs.Pick.{pick}
-use Rattle.image.specs.Picture.{odd}
+use Rattle.image.specs.Format.{odd}
 use Rattle.props.proofs.ApertureLaws.{refused-no-rect}
 use Rattle.props.specs.Aperture.{resolvedOut}
 use Rattle.props.specs.Size.{sizeAfter, swapped}

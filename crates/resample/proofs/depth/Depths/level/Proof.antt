@@ -5,15 +5,17 @@ use borrow.Author.Needs.{needs}
 use borrow.Author.Tests.{eq-eqb}
 use Rattle.laws.proofs.Order.{mul-below}
 use Rattle.laws.specs.Pick.{pick}
-use Rattle.resample.proofs.FootLaws.{least-left, least-right}
+use Rattle.image.proofs.FormLaws.{top-high, top-low}
+use Rattle.image.specs.Format.{topAt}
+use Rattle.resample.proofs.FootLaws.{min-left, min-right}
 use Rattle.resample.proofs.PlaceLaws.{level-other}
 use Rattle.resample.proofs.depth.Depths.level.Statement.{statement}
-use Rattle.resample.specs.Depth.{levelOf, topAt}
+use Rattle.resample.specs.Depth.{levelOf}
 use Rattle.resample.specs.Rounded.{rounded}
 use Rattle.resample.proofs.depth.Depths.level.Tie as tie
 use Rattle.resample.proofs.depth.Depths.level.Reads as reads
 use Rattle.resample.proofs.depth.Depths.level.Lts as lts
-use Rattle.resample.proofs.depth.top_at.Reads as top-at-reads
+use Rattle.image.proofs.format.PixelFormat.top_at.Reads as top-at-reads
 
 lt-as : {a b c d : ℕ} → a ≡ b → c ≡ d → a < c → b < d
 lt-as e f h = omega (arith, e, f)
@@ -21,42 +23,73 @@ lt-as e f h = omega (arith, e, f)
 le-as : {a b c d : ℕ} → a ≡ b → c ≡ d → a ≤ c → b ≤ d
 le-as e f h = omega (arith, e, f)
 
-worked : (c : tie.After-top-at2) → (c .before .before .before .before .args .v * c .top-at2 .result + c .before .top-at .result / 2) / c .before .top-at .result ≡ rounded (c .before .before .before .before .args .v * topAt (c .before .before .before .before .args .self .new)) (topAt (c .before .before .before .before .args .self .old))
+worked : (c : tie.After-top-at2) → let start = c .before .before .before .before in (start .args .v * c .top-at2 .result + c .before .top-at .result / 2) / c .before .top-at .result ≡ rounded (start .args .v * topAt (start .args .self .new)) (topAt (start .args .self .old))
 unfolding rounded
-worked c = rw (c .before .top-at .ensures .0, c .top-at2 .ensures .0)
+worked c = rw (c .before .top-at .ensures, c .top-at2 .ensures)
 
+high : (c : tie.After-top-at2) → c .top-at2 .result < 65536
+high c =
+    let start = c .before .before .before .before in
+    omega (arith, c .top-at2 .ensures, top-high (start .args .self .new) (start .pre .newHigh))
+
+-- src/depth.rt:28:13
 returns : tie.Need-returns
 unfolding levelOf pick
-returns c =
-    simp (
-    eq-eqb _ _ (c .if1 .taken))
+returns c = simp (eq-eqb _ _ (c .if1 .taken))
 
+-- src/depth.rt:30:19
 top-at-requires : tie.Need-top-at-requires
 top-at-requires c κs = search needs
 
+-- src/depth.rt:30:19
+cast-old : tie.Need-cast-old
+cast-old c = search needs
+
+-- src/depth.rt:31:19
 top-at-requires-2 : tie.Need-top-at-requires-2
 top-at-requires-2 c κs = search needs
 
+-- src/depth.rt:31:19
+cast-new : tie.Need-cast-new
+cast-new c = search needs
+
+-- src/depth.rt:32:22
 mul-level : tie.Need-mul-level
-mul-level c = omega (arith, mul-below 65535 65535 (c .before .before .before .before .args .v) (c .top-at2 .result) (omega (arith, c .before .before .before .before .fits .v)) (omega (arith, c .top-at2 .ensures .2)))
+mul-level c =
+    let start = c .before .before .before .before in
+    omega (arith, mul-below 65535 65535 (start .args .v) (c .top-at2 .result) (omega (arith, start .fits .v)) (omega (arith, high c)))
 
+-- src/depth.rt:32:22
 add-level : tie.Need-add-level
-add-level c = omega (arith, mul-below 65535 65535 (c .before .before .before .before .args .v) (c .top-at2 .result) (omega (arith, c .before .before .before .before .fits .v)) (omega (arith, c .top-at2 .ensures .2)), c .before .top-at .ensures .2)
+add-level c =
+    let start = c .before .before .before .before in
+    omega (arith, mul-below 65535 65535 (start .args .v) (c .top-at2 .result) (omega (arith, start .fits .v)) (omega (arith, high c)), c .before .top-at .ensures, top-high (start .args .self .old) (start .pre .oldHigh))
 
+-- src/depth.rt:32:21
 div-level : tie.Need-div-level
-div-level c = search needs
+div-level c =
+    let start = c .before .before .before .before in
+    omega (arith, c .before .top-at .ensures, top-low (start .args .self .old) (start .pre .oldLow))
 
+-- src/depth.rt:34:20
 cast-result : tie.Need-cast-result
 cast-result c = search needs
 
+-- src/depth.rt:34:13
 returns-2 : tie.Need-returns-2
-returns-2 c = c .before .top-at2 .ensures .0 ∙ sym (level-other _ _ _ (c .before .before .before .if1 .left) ∙ least-right _ _ (lt-as (c .before .top-at2 .ensures .0) (worked ((c .before))) (c .if2 .taken)))
+returns-2 c =
+    let if1 = c .before .before .before .if1 in
+    c .before .top-at2 .ensures ∙ sym (level-other _ _ _ (if1 .left) ∙ min-right _ _ (lt-as (c .before .top-at2 .ensures) (worked (c .before)) (c .if2 .taken)))
 
+-- src/depth.rt:36:9
 cast-result-2 : tie.Need-cast-result-2
 cast-result-2 c = search needs
 
+-- src/depth.rt:23:5
 returns-3 : tie.Need-returns-3
-returns-3 c = worked ((c .before)) ∙ sym (level-other _ _ _ (c .before .before .before .if1 .left) ∙ least-left _ _ (le-as (worked ((c .before))) (c .before .top-at2 .ensures .0) (c .if2 .left)))
+returns-3 c =
+    let if1 = c .before .before .before .if1 in
+    worked (c .before) ∙ sym (level-other _ _ _ (if1 .left) ∙ min-left _ _ (le-as (worked (c .before)) (c .before .top-at2 .ensures) (c .if2 .left)))
 
 pub level-spec : {M : Type 1} → statement M
 level-spec =
@@ -64,7 +97,9 @@ level-spec =
     (tie.spec
     returns
     top-at-requires
+    cast-old
     top-at-requires-2
+    cast-new
     mul-level
     add-level
     div-level

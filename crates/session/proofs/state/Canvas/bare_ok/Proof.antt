@@ -58,11 +58,15 @@ any-marked-requires c κs = search needs
 returns-6 : tie.Need-returns-6
 unfolding bareOk
 returns-6 c =
+    let if4 = c .before .before .before .before .if4 in
+    let if3 = c .before .before .before .before .before .before .if3 in
+    let if2 = c .before .before .before .before .before .before .before .before .if2 in
+    let if1 = c .before .before .before .before .before .before .before .before .before .before .if1 in
     simp (
-      eq-eqb _ _ (c .before .before .before .before .before .before .before .before .before .before .if1 .left),
-      eq-eqb _ _ (c .before .before .before .before .before .before .before .before .if2 .left),
-      eq-eqb _ _ (c .before .before .before .before .before .before .if3 .left),
-      eq-eqb _ _ (c .before .before .before .before .if4 .left),
+      eq-eqb _ _ (if1 .left),
+      eq-eqb _ _ (if2 .left),
+      eq-eqb _ _ (if3 .left),
+      eq-eqb _ _ (if4 .left),
       eq-eqb _ _ (c .before .before .before .if5 .left),
       sym (c .any-marked .ensures),
     )

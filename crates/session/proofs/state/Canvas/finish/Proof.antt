@@ -4,7 +4,7 @@ use Prim.Native.Nat.{_*_}
 use native.Mathlib.Omega.{arith}
 use borrow.Author.Needs.{needs}
 use borrow.Author.Tests.{not-false, not-true}
-use Rattle.image.specs.Bytes.{sizeOf}
+use Rattle.planes.specs.Bytes.{sizeOf}
 use Rattle.session.proofs.DrawLaws.{finish-bare, finish-done, finish-missing, finish-short, finish-unsound}
 use Rattle.session.proofs.StateLaws.{count-small, held-canvas, state-grid, state-tile}
 use Rattle.session.proofs.state.Canvas.finish.Statement.{statement}
@@ -14,7 +14,7 @@ use Rattle.session.proofs.state.Canvas.finish.Tie as tie
 use Rattle.session.proofs.state.Canvas.finish.Reads as reads
 use Rattle.session.proofs.state.Canvas.finish.Lts as lts
 use Rattle.grid.proofs.canvas_form.Reads as canvas-form-reads
-use Rattle.image.proofs.record_size.Reads as record-size-reads
+use Rattle.planes.proofs.record_size.Reads as record-size-reads
 use Rattle.session.proofs.marks.all_marked.Reads as all-marked-reads
 use Rattle.session.proofs.state.Canvas.has_tile.Reads as has-tile-reads
 use Rattle.session.proofs.state.Canvas.is_sound.Reads as is-sound-reads
@@ -25,7 +25,9 @@ sound c = sym (c .before .is-sound .ensures) ∙ not-false _ (c .if1 .left)
 tiled : (c : tie.Else2) → hasTile (c .before .before .before .before .args .t1) ≡ true
 tiled c = sym (c .before .has-tile .ensures) ∙ not-false _ (c .if2 .left)
 
-all : (c : tie.Else3) → allMarked (c .before .before .before .before .before .before .before .before .before .before .before .args .t1 .marks) 0 (c .before .before .before .before .before .before .before .before .before .before .before .args .t1 .desc .rows * c .before .before .before .before .before .before .before .before .before .before .before .args .t1 .desc .columns) ≡ true
+all : (c : tie.Else3)
+    → let start = c .before .before .before .before .before .before .before .before .before .before .before in
+    allMarked (start .args .t1 .marks) 0 (start .args .t1 .desc .rows * start .args .t1 .desc .columns) ≡ true
 all c = sym (c .before .all-marked .ensures) ∙ not-false _ (c .if3 .left)
 
 is-sound-requires : tie.Need-is-sound-requires
@@ -53,19 +55,36 @@ canvas-form-requires : tie.Need-canvas-form-requires
 canvas-form-requires c κs = search needs
 
 record-size-requires : tie.Need-record-size-requires
-record-size-requires c κs = rw (c .canvas-form .ensures) (held-canvas _ 1 (sound (c .before .before .before .before .before .before .before .before .before .before)) (tiled (c .before .before .before .before .before .before .before .before)) (omega arith))
+record-size-requires c κs =
+    let else2 = c .before .before .before .before .before .before .before .before in
+    let else1 = else2 .before .before in
+    rw (c .canvas-form .ensures) (held-canvas _ 1 (sound else1) (tiled else2) (omega arith))
 
 returns-4 : tie.Need-returns-4
-returns-4 c = finish-short _ _ (sound (c .before .before .before .before .before .before .before .before .before .before .before .before)) (tiled (c .before .before .before .before .before .before .before .before .before .before)) (all (c .before .before .before)) (rw (← (c .before .before .canvas-form .ensures)) (rw (c .before .record-size .ensures) at (c .if4 .taken)))
+returns-4 c =
+    let else2 = c .before .before .before .before .before .before .before .before .before .before in
+    let else1 = else2 .before .before in
+    finish-short _ _ (sound else1) (tiled else2) (all (c .before .before .before))
+    (rw (← (c .before .before .canvas-form .ensures)) (rw (c .before .record-size .ensures) at (c .if4 .taken)))
 
 canvas-form-requires-2 : tie.Need-canvas-form-requires-2
 canvas-form-requires-2 c κs = search needs
 
 record-size-requires-2 : tie.Need-record-size-requires-2
-record-size-requires-2 c κs = rw (c .canvas-form2 .ensures) (held-canvas _ _ (sound (c .before .before .before .before .before .before .before .before .before .before .before .before .before)) (tiled (c .before .before .before .before .before .before .before .before .before .before .before)) (state-tile _ (sound (c .before .before .before .before .before .before .before .before .before .before .before .before .before)) (tiled (c .before .before .before .before .before .before .before .before .before .before .before)) .alpha))
+record-size-requires-2 c κs =
+    let else2 = c .before .before .before .before .before .before .before .before .before .before .before in
+    let else1 = else2 .before .before in
+    rw (c .canvas-form2 .ensures) (held-canvas _ _ (sound else1) (tiled else2) (state-tile _ (sound else1) (tiled else2) .alpha))
 
 returns-5 : tie.Need-returns-5
-returns-5 c = finish-done _ _ (sound (c .before .before .before .before .before .before .before .before .before .before .before .before .before .before)) (tiled (c .before .before .before .before .before .before .before .before .before .before .before .before)) (all (c .before .before .before .before .before)) _ (rw (← (c .before .before .before .before .canvas-form .ensures)) (rw (c .before .before .before .record-size .ensures) at (c .before .before .if4 .left))) (c .record-size2 .ensures ∙ ap sizeOf (c .before .canvas-form2 .ensures))
+returns-5 c =
+    let canvas-form = c .before .before .before .before .canvas-form in
+    let else3 = c .before .before .before .before .before in
+    let else2 = else3 .before .before .before .before .before .before .before in
+    let else1 = else2 .before .before in
+    finish-done _ _ (sound else1) (tiled else2) (all else3) _
+    (rw (← (canvas-form .ensures)) (rw (c .before .before .before .record-size .ensures) at (c .before .before .if4 .left)))
+    (c .record-size2 .ensures ∙ ap sizeOf (c .before .canvas-form2 .ensures))
 
 pub finish-spec : {M : Type 1} → statement M
 finish-spec =

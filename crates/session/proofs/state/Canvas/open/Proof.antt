@@ -8,14 +8,14 @@ use Rattle.session.specs.State.{noCanvas, openOf}
 use Rattle.session.proofs.state.Canvas.open.Tie as tie
 use Rattle.session.proofs.state.Canvas.open.Reads as reads
 use Rattle.session.proofs.state.Canvas.open.Lts as lts
-use Rattle.session.proofs.state.blank_form.Reads as blank-form-reads
+use Rattle.session.proofs.state.no_form.Reads as no-form-reads
 
-blank-form-requires : tie.Need-blank-form-requires
-blank-form-requires c κs = search needs
+no-form-requires : tie.Need-no-form-requires
+no-form-requires c κs = search needs
 
 returns : tie.Need-returns
 unfolding openOf noCanvas noMarks
-returns c = ap (λ (t : Form). record { desc = c .before .args .desc; tile = t; alpha = 0; marks = replicate 1024 0 }) (c .blank-form .ensures)
+returns c = ap (λ (t : Form). record { desc = c .before .args .desc; tile = t; alpha = 0; marks = replicate 1024 0 }) (c .no-form .ensures)
 
 pub open-spec : {M : Type 1} → statement M
-open-spec = tie.close (tie.spec blank-form-requires returns)
+open-spec = tie.close (tie.spec no-form-requires returns)

@@ -1,0 +1,3 @@
+pub mod Layers
+pub mod Inputs
+pub mod inner

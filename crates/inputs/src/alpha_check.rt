@@ -1,0 +1,85 @@
+// The search for an alpha sample above top.
+ghost use mathlib.Core.Path.{_≡_};
+ghost use Rattle.image.specs.Record.{recordAt};
+ghost use Rattle.laws.specs.Any.{any};
+ghost use Rattle.inputs.specs.Inputs.{alphaAbove};
+ghost use Rattle.image.specs.inner.Frames.{framesFrom};
+ghost use Rattle.inputs.specs.inner.Summary.{noAlpha, alphaPlaneAt};
+use image::FrameRead;
+use image::Part;
+use image::Plane;
+
+// A record's alpha plane and the place past the record. Where there is no alpha, or no record, it has no rows.
+pub(crate) struct AlphaPlane {
+    plane: Plane,
+    bytes: usize,
+    columns: usize,
+    rows: usize,
+    end: usize,
+}
+
+fn no_alpha(end: usize) -> AlphaPlane
+    ensures { λ r. ⌜ r ≡ noAlpha end ⌝ }
+{
+    AlphaPlane {
+        plane: Plane {
+            start: 0,
+            len: 0,
+            stride: 0,
+        },
+        bytes: 1,
+        columns: 0,
+        rows: 0,
+        end,
+    }
+}
+
+fn alpha_at(tray: &[u8], at: usize) -> AlphaPlane
+    ensures { λ r. ⌜ r ≡ alphaPlaneAt at (recordAt (now (tray .entry)) at) ⌝ }
+{
+    match image::read_record(tray, at) {
+        FrameRead::Refused(_) => no_alpha(at),
+        FrameRead::Read(fr) => {
+            let form = fr.form;
+            let f = form.format;
+            if !f.has(Part::Alpha) {
+                return no_alpha(fr.end);
+            }
+            let plane = fr.alpha;
+            AlphaPlane {
+                plane,
+                bytes: f.bytes_per_sample(),
+                columns: form.width as usize,
+                rows: form.height as usize,
+                end: fr.end,
+            }
+        }
+    }
+}
+
+// Whether an alpha sample of so many records in turn is above top, drawn or cut off. All loops are left on the first found.
+pub fn alpha_above(tray: &[u8], first: usize, count: u32, top: u16) -> bool
+    ensures { λ r. ⌜ r ≡ any (alphaAbove (now (tray .entry)) top) (framesFrom count (now (tray .entry)) first) ⌝ }
+{
+    let mut found = false;
+    let mut at = first;
+    'search: for i in 0..count {
+        let q = alpha_at(tray, at);
+        let bytes = q.bytes;
+        let p = q.plane;
+        let stride = p.stride;
+        let plane = planes::plane_data(tray, p);
+        let rows = q.rows;
+        let columns = q.columns;
+        for y in 0..rows {
+            for x in 0..columns {
+                if planes::sample(plane, bytes, stride, x, y) > top {
+                    found = true;
+                    break 'search;
+                }
+            }
+        }
+        at = q.end;
+    }
+    found
+}

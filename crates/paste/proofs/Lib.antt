@@ -1,0 +1,5 @@
+pub mod RowLaws
+pub mod SourceLaws
+pub mod StoreLaws
+pub mod HeadedLaws
+pub mod RectLaws

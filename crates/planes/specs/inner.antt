@@ -1,0 +1,4 @@
+-- What only proofs and the contracts of inner functions cite: no public promise does.
+pub mod Line
+pub mod Promoted
+pub mod Even

@@ -1,0 +1,45 @@
+-- What the calls on chains and properties answer and write.
+use mathlib.Core.List.{List, [], _∷_}
+use Prim.Native.Nat.{ℕ}
+use lib.ListN.{length}
+use Rattle.laws.specs.Out.{Out, andThen, done, fitted}
+use Rattle.props.specs.Aperture.{resolveOf}
+use Rattle.props.specs.Chain.{chainAt}
+use Rattle.props.specs.Scale.{scaleOf}
+use Rattle.props.specs.declared.clap.Clap.{Clap}
+use Rattle.props.specs.declared.clap.CropRect.{CropRect}
+use Rattle.props.specs.declared.iscl.Iscl.{Iscl}
+use Rattle.image.specs.declared.size.Size.{Size}
+
+-- how many entries a chain has
+unfoldable pub chainCount : List ℕ → Out ℕ
+chainCount s = andThen (chainAt s 0) (λ es. done (length es))
+
+-- an aperture by its eight fields, in document 01's order
+unfoldable pub clapOf : ℕ → ℕ → ℕ → ℕ → ℕ → ℕ → ℕ → ℕ → Clap
+clapOf wn wd hn hd xn xd yn yd = record {
+  «width_n» = wn;
+  «width_d» = wd;
+  «height_n» = hn;
+  «height_d» = hd;
+  «horiz_off_n» = xn;
+  «horiz_off_d» = xd;
+  «vert_off_n» = yn;
+  «vert_off_d» = yd;
+}
+
+unfoldable pub rectFields : CropRect → List ℕ
+rectFields r = r .x ∷ r .y ∷ r .width ∷ r .height ∷ []
+
+unfoldable pub clapWords : Clap → ℕ → ℕ → ℕ → Out (List ℕ)
+clapWords c width height room = andThen (resolveOf c width height) (λ r. fitted room (rectFields r))
+
+-- a scaling by its four fields
+unfoldable pub isclOf : ℕ → ℕ → ℕ → ℕ → Iscl
+isclOf wn wd hn hd = record { «width_num» = wn; «width_den» = wd; «height_num» = hn; «height_den» = hd }
+
+unfoldable pub sizeFields : Size → List ℕ
+sizeFields z = z .width ∷ z .height ∷ []
+
+unfoldable pub isclWords : Iscl → ℕ → ℕ → ℕ → Out (List ℕ)
+isclWords k width height room = andThen (scaleOf k width height) (λ z. fitted room (sizeFields z))
