@@ -1,6 +1,7 @@
 //! Finds the published Rust: in the folder that `HEIF_SRC` names (from this package's folder, if it
-//! is not an absolute path), else in `shared/docs/src` beside the repository. Where it is, `modules.rs` in the build's own folder names its files as modules
-//! and the cfg `source_present` is set; where it is not, neither.
+//! is not an absolute path), else in `shared/docs/src` beside the repository. Where it is,
+//! `modules.rs` in the build's own folder names its files as modules, the cfg `source_present` is
+//! set, and `HEIF_FOLDER` is the folder; where it is not, none of these.
 
 use std::path::{Path, PathBuf};
 use std::{env, fs};
@@ -50,4 +51,5 @@ fn main() {
     fs::write(out.join("modules.rs"), declarations(&folder))
         .expect("the build's folder is writable");
     println!("cargo::rustc-cfg=source_present");
+    println!("cargo::rustc-env=HEIF_FOLDER={}", folder.display());
 }

@@ -224,7 +224,7 @@ pub fn grid_scene(oracle: &dyn Oracle, parts: &SceneParts) -> Want<Scene> {
 }
 
 /// Whether any alpha sample of `frame` lies above top.
-fn alpha_above_top(frame: &Frame) -> bool {
+pub fn alpha_above_top(frame: &Frame) -> bool {
     frame.alpha != 0
         && frame
             .samples(frame.chroma.colour_planes())

@@ -9,5 +9,6 @@ pub mod generate;
 pub mod ours;
 pub mod refusals;
 pub mod rng;
+pub mod shaped;
 mod shrink;
 pub mod store;

@@ -4,7 +4,7 @@
 //! and what is printed is the table of docs/PERFORMANCE.md.
 //!
 //! `differential store FILE [--cases N] [--seed S]`: writes N answers of the published Rust for each
-//! operation, as the program `replay` reads them.
+//! operation, and a tenth as many that are 17, as the program `replay` reads them.
 
 use differential::compare::{Comparison, Sides};
 use differential::{comparisons, store};

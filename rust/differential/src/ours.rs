@@ -413,7 +413,7 @@ pub fn answers<T: PartialEq + Debug>(want: &Answer<T>, ours: Option<Answer<T>>) 
 }
 
 /// What stands in each byte of a lent buffer before the call.
-const BEFORE: u8 = 0xa5;
+pub const BEFORE: u8 = 0xa5;
 
 /// Lends buffers of some lengths. `want` is the answer and what the buffers hold after it; a
 /// refusal leaves them as they were.

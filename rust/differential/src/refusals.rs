@@ -31,6 +31,8 @@ const TEXTS: &[(&[&str], Refusal)] = &[
     (&["grid: tile ", ", the first tile is "], TILE_SIZE),
     (&["grid: tile ", " layout "], FORM),
     (&["iovl: input ", " bit depth "], FORM),
+    (&["alpha plane ", " does not match the "], TILE_SIZE),
+    (&["alpha depth ", " differs from master depth "], FORM),
 ];
 
 /// Whether `text` has `parts`, one after the other.

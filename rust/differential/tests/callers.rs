@@ -1,4 +1,5 @@
-//! Programs written against oxideav-heif's names, one for each caller. Each is one source that is
+//! Programs written against oxideav-heif's names, one for each caller and one more for the names
+//! that these have no need of. Each is one source that is
 //! compiled twice, with the crate `compose` as `heif` and with the published Rust, and gives the
 //! same pictures and turns the same things away.
 
@@ -16,6 +17,10 @@ macro_rules! callers {
         pub mod projector {
             use $heif as heif;
             include!("callers/projector.rs");
+        }
+        pub mod names {
+            use $heif as heif;
+            include!("callers/names.rs");
         }
     };
 }
@@ -68,6 +73,11 @@ oracle::where_present! {
     fn the_projector_sees_the_same_pictures() {
         alike!(projector, 76);
     }
+
+    #[test]
+    fn names_stand_for_the_same() {
+        alike!(names, 5);
+    }
 }
 
 #[test]
@@ -75,10 +85,12 @@ fn the_callers_run_over_the_proved_calls() {
     assert_eq!(ours::slope_importer::run().map(|made| made.len()), Ok(4));
     assert_eq!(ours::marker_desk::run().map(|made| made.len()), Ok(4));
     assert_eq!(ours::projector::run().map(|made| made.len()), Ok(76));
+    assert_eq!(ours::names::run().map(|made| made.len()), Ok(5));
     assert_eq!(
         ours::slope_importer::turned_away(),
         [true, true, true, false]
     );
     assert_eq!(ours::marker_desk::turned_away(), [true, true, true, false]);
     assert_eq!(ours::projector::turned_away(), [true, true, false, true]);
+    assert_eq!(ours::names::turned_away(), [true, true, true]);
 }

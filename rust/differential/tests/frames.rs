@@ -9,28 +9,10 @@ use compose::{
     Chroma, HeifFrame, HeifPixelFormat, Plane, Refusal, apply_clap, apply_imir, apply_irot,
     apply_transforms, apply_transforms_owned, chain, crop, resize_area,
 };
-use differential::expected::{Stop, settle};
 use differential::generate;
 use differential::rng::Rng;
-use model::{Frame, Operation, Outcome, Rectangle, parse_record};
-
-/// The same frame in the crate's own shape.
-fn heif(frame: &Frame) -> HeifFrame {
-    let chroma = Chroma::from_idc(frame.chroma as u8).expect("one of the four chromas");
-    let format = HeifPixelFormat::new(chroma, frame.depth, frame.alpha == 1).expect("a depth");
-    let planes = frame
-        .planes
-        .iter()
-        .map(|plane| Plane::new(plane.stride, plane.data.clone()))
-        .collect();
-    HeifFrame::new(frame.width, frame.height, format, planes)
-}
-
-/// Holds an answer of the crate to one of the published Rust.
-fn hold(ours: compose::Result<HeifFrame>, theirs: Outcome<Frame>, what: &str) {
-    let ours = ours.map_err(|refusal| Stop::Refused(refusal.number()));
-    assert_eq!(ours, settle(theirs).map(|frame| heif(&frame)), "{what}");
-}
+use differential::shaped::{heif, hold};
+use model::{Frame, Operation, Rectangle, parse_record};
 
 #[test]
 fn operations_are_oxideav_heifs() {

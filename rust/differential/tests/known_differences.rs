@@ -17,6 +17,10 @@
 //! | a record that is never validated | imir 1 of `0201000800020105` | 5 | panics, "range end index 2 out of range for slice of length 1" (image.rs:358) | the same |
 //! | a depth that `validate` does not look at | `0101000700010105` and `010100110002020500` | 6 | `validate` accepts | `validate` accepts |
 //! | the size after an iscl | 1 × 1, iscl 65535/1, 65535/1 | 4 | `Iscl::output_size` and `ItemProperties::output_size` accept, 65,535 × 65,535; `apply_iscl` says "limit exceeded" | the same |
+//! | an area of a ratio that no iscl has | `resize_area` of 70,001 × 1 to 70,000 × 1 | 4 | accepts | accepts |
+//! | 257 rows of tiles | `GridDescriptor::new(257, 1, 2, 2)`, 257 tiles of 2 × 2 | 4: a body has 256 at most | `composite_grid` accepts; `to_bytes` writes a body of one row | the same |
+//! | no rows of tiles | `GridDescriptor::new(0, 1, 2, 2)`, no tiles | 3 | `composite_grid` says "no tiles" | the same |
+//! | no inputs for an offset | `OverlayDescriptor` of one offset, no inputs | 15 | "0 inputs for 1 offsets", which is 11 | the same |
 //!
 //! A premultiplied list of another length (11) has no counterpart: the Rust keeps the flag with
 //! each input. 17, 18, the point call and the steps program have none either.
@@ -28,9 +32,10 @@ mod common;
 use common::{bytes, on_each_build};
 use differential::compare::Sides;
 use differential::ours::{Composer, Linked};
+use differential::shaped::{grid_descriptor, heif, overlay_descriptor};
 use model::{
-    Chroma, Colour, Entry, Frame, Iscl, Operation, Oracle, Outcome, OverlayInput, Plane, Property,
-    chain_bytes, parse_tray, parse_untested,
+    Chroma, Colour, Entry, Frame, Grid, Iscl, Operation, Oracle, Outcome, Overlay, OverlayInput,
+    Plane, Property, chain_bytes, parse_tray, parse_untested,
 };
 
 /// Runs `plain` on the plain build and `checked` on the checked one, where they are present.
@@ -232,4 +237,57 @@ fn the_size_after_an_iscl() {
     let input = compose::steps::input(1, 1, &chain_bytes(&[entry]));
     let text = compose::steps::text(&input);
     assert_eq!(text, "step kind width height\n0 4 refused 4\n");
+}
+
+/// Scaling by the ratio of two sides that have no smaller terms, both above 65,535.
+#[test]
+fn an_area_of_a_ratio_that_no_iscl_has() {
+    let frame = strip(70_001);
+    let ours = compose::resize_area(&heif(&frame), 70_000, 1);
+    assert_eq!(ours, Err(compose::Refusal::LIMIT));
+    let ours = compose::resize_area(&heif(&frame), 35_000, 1);
+    assert_eq!(ours, Err(compose::Refusal::LIMIT));
+    on_each_build(|oracle| {
+        let scaled = oracle.resize_area(&frame, 70_000, 1).done();
+        assert_eq!(scaled, Some(strip(70_000)));
+    });
+}
+
+/// Rows of tiles that no body holds: more than 256, and none.
+#[test]
+fn rows_that_no_body_holds() {
+    for (rows, refusal) in [(257, 4), (0, 3)] {
+        let grid = Grid {
+            rows,
+            columns: 1,
+            width: 2,
+            height: 2,
+        };
+        let tiles = vec![Frame::mono(2, 2, &[1, 2, 3, 4]); usize::from(rows)];
+        let ours: Vec<compose::HeifFrame> = tiles.iter().map(heif).collect();
+        let made = compose::composite_grid(&grid_descriptor(&grid), &ours);
+        assert_eq!(made.map_err(|refused| refused.number()), Err(refusal));
+        on_each_build(|oracle| match oracle.composite_grid(&grid, &tiles) {
+            Outcome::Done(picture) => assert_eq!((rows, picture), (257, tiles[0].clone())),
+            Outcome::Error(text) => assert_eq!(text, "heif: invalid data: grid: no tiles"),
+            Outcome::Panic(text) => panic!("{text}"),
+        });
+    }
+}
+
+#[test]
+fn no_inputs_for_an_offset() {
+    let overlay = Overlay {
+        fill: [0; 4],
+        width: 1,
+        height: 1,
+        offsets: vec![(0, 0)],
+    };
+    let made = compose::composite_overlay(&overlay_descriptor(&overlay), &[], None);
+    assert_eq!(made, Err(compose::Refusal::MISSING));
+    on_each_build(|oracle| {
+        let refused = oracle.composite_overlay(&overlay, &[], None);
+        let text = "heif: invalid data: iovl: 0 inputs for 1 offsets".to_string();
+        assert_eq!(refused, Outcome::Error(text));
+    });
 }

@@ -1,18 +1,26 @@
 //! Records and trays, read by the model and by the composer: the same number, or the same form and
 //! places, on every fault and every few faults at once, every cut and every changed byte.
 
-use compose::{Refusal, sys};
+use compose::{Refusal, sys, tray};
 use differential::compare::hex;
 use differential::damage::{each_choice, faulty_record, faulty_tray};
 use differential::generate::{self, Form};
 use differential::ours::{Composer, Linked};
 use differential::rng::Rng;
 use model::{Chroma, Frame, Layout, Place, number_bytes, parse_record, parse_tray, tray_bytes};
+use std::io::Cursor;
 
 /// Both readings of a record, held together.
 fn read_record(bytes: &[u8]) -> Result<Layout, u8> {
     let read = parse_record(bytes).map(|frame| frame.layout());
     assert_eq!(Linked.record(bytes).as_ref(), Some(&read), "{}", hex(bytes));
+    let outline = compose::record::outline(&mut Cursor::new(bytes)).expect("a file");
+    assert_eq!(
+        compose::record::inspect(&outline),
+        compose::record::inspect(bytes),
+        "{}",
+        hex(bytes)
+    );
     read
 }
 
@@ -20,6 +28,10 @@ fn read_record(bytes: &[u8]) -> Result<Layout, u8> {
 fn read_tray(bytes: &[u8]) -> Result<u32, u8> {
     let read = parse_tray(bytes).map(|frames| frames.len() as u32);
     assert_eq!(Linked.tray(bytes).as_ref(), Some(&read), "{}", hex(bytes));
+    let outline = tray::outline(&mut Cursor::new(bytes)).expect("a file");
+    assert_eq!(tray::count(&outline), tray::count(bytes), "{}", hex(bytes));
+    let refused_at = tray::refused_at(bytes);
+    assert!(read.is_err() || refused_at.is_none(), "{}", hex(bytes));
     read
 }
 

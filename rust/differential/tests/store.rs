@@ -1,11 +1,12 @@
 //! The stored answers of the published Rust (`crates/replay/stdin`): the file is what the Rust says,
-//! where that is present, and the composer's calls answer as it is stored.
+//! where that is present, and the composer's calls and the model answer as it is stored.
 
 use differential::compare::Sides;
 use differential::expected;
-use differential::ours::{Answer, Composer, Linked};
+use differential::ours::{Answer, BEFORE, Composer, Linked};
 use differential::store::{self, Call};
-use model::{Clap, Colour, Iscl, Marks, Operation, Rectangle, SceneParts};
+use model::refusal::ROOM;
+use model::{Clap, Colour, Iscl, Marks, Operation, Rectangle, Scene, SceneParts};
 use std::path::PathBuf;
 
 fn in_replay(file: &str) -> PathBuf {
@@ -41,11 +42,29 @@ fn the_programs_text_has_every_operation() {
     assert_eq!(text, stored().iter().map(line).collect::<String>());
 }
 
-/// What a call writes to an output that is long enough.
-fn written(call: impl FnOnce(&mut [u8]) -> Option<Answer<usize>>) -> Answer<Vec<u8>> {
-    let mut output = vec![0; 4_096];
-    let length = call(&mut output).expect("a call that is there")?;
-    output.truncate(length);
+/// What a call writes to the output that it is lent. What is past it, or the whole where it is
+/// refused, must be as it was.
+fn written(lent: usize, call: impl FnOnce(&mut [u8]) -> Option<Answer<usize>>) -> Answer<Vec<u8>> {
+    let mut output = vec![BEFORE; lent];
+    let length = call(&mut output).expect("a call that is there");
+    let past = &output[length.unwrap_or(0)..];
+    assert!(past.iter().all(|byte| *byte == BEFORE));
+    output.truncate(length?);
+    Ok(output)
+}
+
+/// What a scene writes to its output; past it, and in the spare, all is 0. Where it is refused,
+/// both must be as they were.
+fn composed(
+    [output, spare]: [usize; 2],
+    call: impl FnOnce(&mut [u8], &mut [u8]) -> Option<Answer<usize>>,
+) -> Answer<Vec<u8>> {
+    let (mut output, mut spare) = (vec![BEFORE; output], vec![BEFORE; spare]);
+    let length = call(&mut output, &mut spare).expect("a call that is there");
+    let left = if length.is_ok() { 0 } else { BEFORE };
+    let past = output[length.unwrap_or(0)..].iter().chain(&spare);
+    assert!(past.into_iter().all(|byte| *byte == left));
+    output.truncate(length?);
     Ok(output)
 }
 
@@ -61,15 +80,18 @@ where
     Ok(words.map(|word| u32::from(word).to_be_bytes()).concat())
 }
 
-/// For each call of a session 0 or its refusal, then the record of a finish that is the last.
-fn session(body: &[u8], calls: &[expected::Call]) -> Answer<Vec<u8>> {
-    let (mut state, mut buffer) = (vec![0; 1_034], vec![0; 4_096]);
+/// For each call of a session 0 or its refusal, then the record of a finish that is the last. A
+/// refused call must leave state and buffer.
+fn session(body: &[u8], calls: &[(expected::Call, usize)]) -> Answer<Vec<u8>> {
+    let (mut state, mut buffer) = (vec![0; 1_034], vec![BEFORE; store::LENT]);
     let started = Linked.canvas_start(body, &mut state);
     assert_eq!(started.expect("a call that is there")?, 0);
     let (mut answers, mut length) = (Vec::new(), 0);
-    for call in calls {
-        let answer = Linked.canvas_call(call, &mut state, &mut buffer);
+    for (call, lent) in calls {
+        let before = (state.clone(), buffer.clone());
+        let answer = Linked.canvas_call(call, &mut state, &mut buffer[..*lent]);
         let answer = answer.expect("a call that is there");
+        assert!(answer.is_ok() || before == (state.clone(), buffer.clone()));
         answers.extend(u32::from(answer.err().unwrap_or(0)).to_be_bytes());
         length = answer.unwrap_or(0);
     }
@@ -77,71 +99,163 @@ fn session(body: &[u8], calls: &[expected::Call]) -> Answer<Vec<u8>> {
     Ok(answers)
 }
 
-fn answer(call: &Call) -> Answer<Vec<u8>> {
-    let [one, two, three, four] = &call.parts;
-    let fields = call.fields;
-    let first = |at: usize| fields[at];
-    let short = |at: usize| fields[at] as u16;
-    let colour = |at: usize| {
-        (fields[at] != 0).then(|| Colour {
-            matrix: short(at + 1),
-            full_range: fields[at + 2] != 0,
+/// The fields of a call as what they stand for.
+struct Fields<'a>(&'a [u32; 10]);
+
+impl Fields<'_> {
+    fn clap(&self) -> Clap {
+        Clap::from_fields(std::array::from_fn(|at| self.0[at]))
+    }
+
+    fn iscl(&self) -> Iscl {
+        Iscl::from_fields(std::array::from_fn(|at| self.0[at] as u16))
+    }
+
+    fn fill(&self) -> [u16; 3] {
+        std::array::from_fn(|at| self.0[at] as u16)
+    }
+
+    /// A colour description from a field on.
+    fn colour(&self, at: usize) -> Option<Colour> {
+        (self.0[at] != 0).then(|| Colour {
+            matrix: self.0[at + 1] as u16,
+            full_range: self.0[at + 2] != 0,
         })
+    }
+
+    /// The operation on one record that has a number.
+    fn operation(&self, number: u32) -> Option<Operation> {
+        let fields = self.0;
+        Some(match number {
+            1 => Operation::Crop(Rectangle {
+                x: fields[0],
+                y: fields[1],
+                width: fields[2],
+                height: fields[3],
+            }),
+            2 => Operation::Clap(self.clap()),
+            3 => Operation::Irot(fields[0] as u8),
+            4 => Operation::Imir(fields[0] as u8),
+            5 => Operation::Iscl(self.iscl()),
+            6 => Operation::Nearest(fields[0], fields[1]),
+            7 => Operation::Depth(fields[0]),
+            _ => return None,
+        })
+    }
+}
+
+/// The parts of a scene, or of a grid or an overlay composed, which have no chain.
+fn scene(call: &Call) -> (SceneParts<'_>, Marks<'_>) {
+    let [body, tray, third, fourth] = &call.parts;
+    let (chain, premultiplied): (&[u8], _) = match call.operation {
+        15 | 16 => (third, fourth),
+        _ => (&[0], third),
     };
-    let (clap, iscl) = (
-        Clap::from_fields(std::array::from_fn(first)),
-        Iscl::from_fields(std::array::from_fn(short)),
-    );
-    let operation = match call.operation {
-        1 => Operation::Crop(Rectangle {
-            x: fields[0],
-            y: fields[1],
-            width: fields[2],
-            height: fields[3],
+    let parts = SceneParts {
+        body,
+        tray,
+        chain,
+        essential_only: call.fields[3] != 0,
+    };
+    let marks = Marks {
+        premultiplied,
+        colour: Fields(&call.fields).colour(0),
+    };
+    (parts, marks)
+}
+
+/// What the composer answers.
+fn answer(call: &Call) -> Answer<Vec<u8>> {
+    let ([one, two, three, _], [lent, _]) = (&call.parts, call.lent);
+    let (fields, of) = (call.fields, Fields(&call.fields));
+    if let Some(operation) = of.operation(call.operation) {
+        return written(lent, |out| Linked.operation(one, &operation, out));
+    }
+    let (parts, marks) = scene(call);
+    match call.operation {
+        8 => written(lent, |out| Linked.attach(one, two, out)),
+        9 => numbers::<u16, 3>(|words| Linked.fill(of.fill(), fields[3], of.colour(4), words)),
+        10 => written(lent, |out| Linked.grid(one, two, out)),
+        11 => written(lent, |out| {
+            Linked.overlay(one, two, three, of.colour(0), out)
         }),
-        2 => Operation::Clap(clap),
-        3 => Operation::Irot(fields[0] as u8),
-        4 => Operation::Imir(fields[0] as u8),
-        5 => Operation::Iscl(iscl),
-        6 => Operation::Nearest(fields[0], fields[1]),
-        7 => Operation::Depth(fields[0]),
-        8 => return written(|out| Linked.attach(one, two, out)),
-        9 => {
-            let fill = std::array::from_fn(short);
-            return numbers::<u16, 3>(|words| Linked.fill(fill, fields[3], colour(4), words));
-        }
-        10 => return written(|out| Linked.grid(one, two, out)),
-        11 => return written(|out| Linked.overlay(one, two, three, colour(0), out)),
         12 => {
             let size = (fields[8], fields[9]);
-            return numbers::<u32, 4>(|words| Linked.clap_resolve(&clap, size, words));
+            numbers::<u32, 4>(|words| Linked.clap_resolve(&of.clap(), size, words))
         }
         13 => {
             let size = (fields[4], fields[5]);
-            return numbers::<u32, 2>(|words| Linked.iscl_size(&iscl, size, words));
+            numbers::<u32, 2>(|words| Linked.iscl_size(&of.iscl(), size, words))
         }
-        14 => return written(|out| Linked.steps(one, out)),
-        15 | 16 => {
-            let parts = SceneParts {
-                body: one,
-                tray: two,
-                chain: three,
-                essential_only: fields[3] != 0,
-            };
-            let marks = Marks {
-                premultiplied: four,
-                colour: colour(0),
-            };
-            let mut spare = vec![0; 4_096];
-            return written(|out| match call.operation {
-                15 => Linked.grid_scene(&parts, out, &mut spare),
-                _ => Linked.overlay_scene(&parts, &marks, out, &mut spare),
-            });
-        }
-        17 => return session(one, &store::scripted(two, three).expect("a script")),
+        14 => written(lent, |out| Linked.steps(one, out)),
+        15 => composed(call.lent, |out, spare| {
+            Linked.grid_scene(&parts, out, spare)
+        }),
+        16 => composed(call.lent, |out, spare| {
+            Linked.overlay_scene(&parts, &marks, out, spare)
+        }),
+        17 => session(one, &store::scripted(two, three).expect("a script")),
         other => panic!("no operation has the number {other}"),
+    }
+}
+
+/// Bytes that a call writes, where they fit what it is lent.
+fn fitting(call: &Call, bytes: Answer<Vec<u8>>) -> Answer<Vec<u8>> {
+    let bytes = bytes?;
+    if bytes.len() > call.lent[0] {
+        return Err(ROOM);
+    }
+    Ok(bytes)
+}
+
+/// What the model answers; it has no attach and no session.
+fn modelled(call: &Call) -> Option<Answer<Vec<u8>>> {
+    let (fields, of) = (call.fields, Fields(&call.fields));
+    if let Some(operation) = of.operation(call.operation) {
+        let frame = model::parse_record(&call.parts[0]);
+        let made = frame.and_then(|frame| operation.apply(&frame));
+        return Some(fitting(call, made.map(|frame| frame.record())));
+    }
+    let words = |words: &[u32]| words.iter().flat_map(|word| word.to_be_bytes()).collect();
+    let record = |scene: Answer<Scene>| fitting(call, scene.map(|scene| scene.record));
+    let (parts, marks) = scene(call);
+    let lent = |scene: Answer<Scene>| {
+        let record = scene.clone()?.record;
+        scene?.lent(call.lent[0], call.lent[1])?;
+        Ok(record)
     };
-    written(|out| Linked.operation(one, &operation, out))
+    Some(match call.operation {
+        9 => model::fill_samples(of.fill(), fields[3], of.colour(4))
+            .map(|samples| words(&samples.map(u32::from))),
+        10 => record(model::grid_scene(&parts)),
+        11 => record(model::overlay_scene(&parts, &marks)),
+        12 => of
+            .clap()
+            .resolve(fields[8], fields[9])
+            .map(|stays| words(&[stays.x, stays.y, stays.width, stays.height])),
+        13 => of
+            .iscl()
+            .output_size(fields[4], fields[5])
+            .map(|(width, height)| words(&[width, height])),
+        14 => {
+            let text = model::steps_text(&call.parts[0], |entry, size| Ok(entry.size_after(size)));
+            fitting(call, text.map(String::into_bytes))
+        }
+        15 => lent(model::grid_scene(&parts)),
+        16 => lent(model::overlay_scene(&parts, &marks)),
+        _ => return None,
+    })
+}
+
+#[test]
+fn the_model_answers_as_it_is_stored() {
+    for operation in stored() {
+        for (at, call) in operation.calls.iter().enumerate() {
+            let model = modelled(call);
+            let alike = model.is_none_or(|answer| answer == call.answer);
+            assert!(alike, "{} {at}", operation.name);
+        }
+    }
 }
 
 #[test]
@@ -149,8 +263,43 @@ fn the_composer_answers_as_it_is_stored() {
     for operation in stored() {
         for (at, call) in operation.calls.iter().enumerate() {
             assert!(answer(call) == call.answer, "{} {at}", operation.name);
-            let parts = call.parts.iter().chain(call.answer.as_ref());
-            assert!(parts.map(Vec::len).max() <= Some(1_024));
+        }
+    }
+}
+
+/// What the program has room for.
+#[test]
+fn the_program_can_hold_the_calls() {
+    for call in stored().iter().flat_map(|operation| &operation.calls) {
+        let [first, others @ ..] = &call.parts;
+        assert!(first.len() <= 65_664);
+        let others = others.iter().chain(call.answer.as_ref());
+        assert!(others.map(Vec::len).max() <= Some(1_024));
+        assert!(call.lent.into_iter().max() <= Some(store::LENT));
+    }
+}
+
+/// Every operation that lends a buffer has calls of 17, and iscl on a record its 10 and its 4.
+#[test]
+fn refusals_that_are_rare_are_stored() {
+    for operation in stored() {
+        let count = |number| {
+            let calls = operation.calls.iter();
+            calls.filter(|call| call.answer == Err(number)).count()
+        };
+        match operation.name.as_str() {
+            "fill" | "clap-resolve" | "iscl-size" => assert_eq!(count(ROOM), 0),
+            "session" => {
+                let answers = operation.calls.iter().flat_map(|call| {
+                    let turns = 4 * call.fields[0] as usize;
+                    let answer = call.answer.as_ref().expect("a session that is started");
+                    answer[..turns].as_chunks::<4>().0
+                });
+                let short = answers.filter(|answer| **answer == [0, 0, 0, ROOM]);
+                assert!(short.count() > 400);
+            }
+            "iscl" => assert_eq!([count(4), count(10), count(ROOM)], [10, 10, 25]),
+            _ => assert_eq!(count(ROOM), 25, "{}", operation.name),
         }
     }
 }

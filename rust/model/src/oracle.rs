@@ -125,6 +125,7 @@ pub trait Oracle: Sync {
     fn validate(&self, frame: &Frame) -> Outcome<()>;
     fn promote_to_444(&self, frame: &Frame) -> Outcome<Frame>;
     fn tight(&self, frame: &Frame) -> Outcome<Frame>;
+    fn with_alpha_plane(&self, frame: &Frame, alpha: &Frame) -> Outcome<Frame>;
 
     // derived.rs
     fn parse_grid(&self, body: &[u8]) -> Outcome<Grid>;

@@ -239,6 +239,10 @@ impl Oracle for Published {
         picture(|| Ok(published(frame).tight()))
     }
 
+    fn with_alpha_plane(&self, frame: &Frame, alpha: &Frame) -> Outcome<Frame> {
+        picture(|| published(frame).with_alpha_plane(&published(alpha)))
+    }
+
     fn parse_grid(&self, body: &[u8]) -> Outcome<Grid> {
         attempt(|| GridDescriptor::parse(body)).map(|read| Grid {
             rows: read.rows,

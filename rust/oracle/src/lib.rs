@@ -37,6 +37,9 @@ macro_rules! where_present {
 /// Whether the published Rust was there when this crate was built.
 pub const PRESENT: bool = cfg!(source_present);
 
+/// The folder of the published Rust's files, where it is present.
+pub const FOLDER: Option<&str> = option_env!("HEIF_FOLDER");
+
 /// The published Rust, where it is present.
 pub fn open() -> Option<&'static dyn Oracle> {
     #[cfg(source_present)]

@@ -1,0 +1,131 @@
+//! Pictures in oxideav-heif's shape, as the crate `compose` has it: frames of the model in that
+//! shape, legal or not, and what document 01 wants of the calls on them.
+
+use crate::expected::{Stop, Want, alpha_above_top, attach, settle};
+use compose::{Chroma, GridDescriptor, HeifFrame, HeifPixelFormat, OverlayDescriptor, Plane};
+use model::{Colour, Frame, Grid, Oracle, Outcome, Overlay, OverlayInput, parse_record, refusal};
+
+/// The same frame in the crate's own shape. Nothing is judged.
+pub fn heif(frame: &Frame) -> HeifFrame {
+    let chroma = Chroma::from_idc(frame.chroma as u8).expect("one of the four chromas");
+    let format = HeifPixelFormat::new(chroma, 8, frame.alpha == 1).expect("a depth");
+    let planes = frame
+        .planes
+        .iter()
+        .map(|plane| Plane::new(plane.stride, plane.data.clone()))
+        .collect();
+    let format = format.with_bit_depth(frame.depth);
+    HeifFrame::new(frame.width, frame.height, format, planes)
+}
+
+pub fn grid_descriptor(grid: &Grid) -> GridDescriptor {
+    GridDescriptor::new(grid.rows, grid.columns, grid.width, grid.height)
+}
+
+pub fn overlay_descriptor(overlay: &Overlay) -> OverlayDescriptor {
+    let offsets = overlay.offsets.clone();
+    OverlayDescriptor::new(overlay.fill, overlay.width, overlay.height, offsets)
+}
+
+/// Holds an answer of the crate to what is wanted.
+pub fn hold_to(ours: compose::Result<HeifFrame>, want: Want<Frame>, what: &str) {
+    let ours = ours.map_err(|refusal| Stop::Refused(refusal.number()));
+    assert_eq!(ours, want.map(|frame| heif(&frame)), "{what}");
+}
+
+/// Holds an answer of the crate to one of the published Rust.
+pub fn hold(ours: compose::Result<HeifFrame>, theirs: Outcome<Frame>, what: &str) {
+    hold_to(ours, settle(theirs), what);
+}
+
+/// The pixel limit L of document 01.
+const MAX_PIXELS: u64 = 1 << 30;
+
+fn refused<T>(number: model::Refusal) -> Want<T> {
+    Err(Stop::Refused(number))
+}
+
+/// A frame whose record is judged.
+pub fn judged(frame: &Frame) -> Want<Frame> {
+    Ok(parse_record(&frame.record())?)
+}
+
+/// A descriptor's canvas: 3 a side 0, 4 above L.
+fn canvas(width: u32, height: u32) -> Want<()> {
+    if width == 0 || height == 0 {
+        return refused(refusal::ZERO_SIDE);
+    }
+    if u64::from(width) * u64::from(height) > MAX_PIXELS {
+        return refused(refusal::LIMIT);
+    }
+    Ok(())
+}
+
+/// A grid that may be out of range: rows and columns from 1 to 256 are what a body has room for, so
+/// that 0 of them is 3 and more of them are 4, where the canvas has these.
+pub fn grid(grid: &Grid) -> Want<()> {
+    if grid.rows == 0 || grid.columns == 0 {
+        return refused(refusal::ZERO_SIDE);
+    }
+    canvas(grid.width, grid.height)?;
+    if grid.rows > 256 || grid.columns > 256 {
+        return refused(refusal::LIMIT);
+    }
+    Ok(())
+}
+
+/// `composite_grid`: the body's, 11, the records' in turn, then 12, 13 and 14.
+pub fn composite_grid(oracle: &dyn Oracle, desc: &Grid, tiles: &[Frame]) -> Want<Frame> {
+    grid(desc)?;
+    if tiles.len() != desc.cells() {
+        return refused(refusal::COUNT);
+    }
+    let tiles: Vec<Frame> = tiles.iter().map(judged).collect::<Want<_>>()?;
+    settle(oracle.composite_grid(desc, &tiles))
+}
+
+/// `composite_overlay`: the body's, 4 above 65,536 inputs, 15, 11, the records' in turn, 14, 16.
+pub fn composite_overlay(
+    oracle: &dyn Oracle,
+    desc: &Overlay,
+    inputs: &[OverlayInput],
+    colour: Option<Colour>,
+) -> Want<Frame> {
+    canvas(desc.width, desc.height)?;
+    if inputs.len() > 65_536 {
+        return refused(refusal::LIMIT);
+    }
+    if inputs.is_empty() {
+        return refused(refusal::MISSING);
+    }
+    if inputs.len() != desc.offsets.len() {
+        return refused(refusal::COUNT);
+    }
+    for input in inputs {
+        judged(&input.frame)?;
+    }
+    let depth = inputs[0].frame.depth;
+    if inputs.iter().any(|input| input.frame.depth != depth) {
+        return refused(refusal::FORM);
+    }
+    if inputs.iter().any(|input| alpha_above_top(&input.frame)) {
+        return refused(refusal::ALPHA);
+    }
+    settle(oracle.composite_overlay(desc, inputs, colour))
+}
+
+/// `promote_to_444`: the record.
+pub fn promote_to_444(oracle: &dyn Oracle, frame: &Frame) -> Want<Frame> {
+    settle(oracle.promote_to_444(&judged(frame)?))
+}
+
+/// `with_alpha_plane`: both records, then 13 another size, 14 another depth.
+pub fn with_alpha_plane(oracle: &dyn Oracle, frame: &Frame, alpha: &Frame) -> Want<Frame> {
+    settle(oracle.with_alpha_plane(&judged(frame)?, &judged(alpha)?))
+}
+
+/// `attach_alpha`: the master's record, then the alpha's.
+pub fn attach_alpha(oracle: &dyn Oracle, master: &Frame, alpha: &Frame) -> Want<Frame> {
+    let record = attach(oracle, &master.record(), &alpha.record())?;
+    Ok(parse_record(&record)?)
+}

@@ -1,0 +1,407 @@
+//! The crate `compose` on what its types allow and its calls do not: descriptors and frames out of
+//! range, and two faults at once. What the published Rust refuses is refused, and the number is the
+//! first of document 01's order.
+
+mod common;
+
+use common::{bytes, on_each_build};
+use compose::props::{Clap, Imir, Irot, Iscl, Property, PropertyEntry};
+use compose::{
+    GridCanvas, GridDescriptor, HeifFrame, OverlayDescriptor, OverlayInput, Refusal, Result,
+    apply_clap, apply_imir, apply_irot, apply_iscl, apply_transforms, apply_transforms_owned,
+    attach_alpha, composite_grid, composite_overlay, crop, rescale_depth, resize_area,
+    resize_nearest,
+};
+use differential::expected::{Stop, Want, operation, settle};
+use differential::generate;
+use differential::rng::Rng;
+use differential::shaped::{
+    self, grid, grid_descriptor, heif, hold_to, judged, overlay_descriptor,
+};
+use model::{Canvas, Frame, Grid, Operation, Oracle, Rectangle, parse_record, refusal};
+
+/// Makes a frame one that no record holds, by one fault or two.
+fn spoil(rng: &mut Rng, frame: &mut Frame) {
+    for _ in 0..rng.number(1..=2) {
+        let plane = rng.below(frame.planes.len().max(1));
+        match (rng.below(6), frame.planes.get_mut(plane)) {
+            (0, _) => frame.depth = rng.pick(&[0, 7, 17, 40, 255]),
+            (1, _) => *rng.pick_side(frame) = 0,
+            (2, _) => *rng.pick_side(frame) = u32::MAX,
+            (3, Some(plane)) => plane.stride = 0,
+            (4, Some(plane)) => plane.data.clear(),
+            (_, Some(_)) if rng.flag() => drop(frame.planes.pop()),
+            (_, Some(plane)) => {
+                let again = plane.clone();
+                frame.planes.push(again);
+            }
+            (_, None) => {}
+        }
+    }
+}
+
+/// One side or the other.
+trait PickSide {
+    fn pick_side<'a>(&mut self, frame: &'a mut Frame) -> &'a mut u32;
+}
+
+impl PickSide for Rng {
+    fn pick_side<'a>(&mut self, frame: &'a mut Frame) -> &'a mut u32 {
+        match self.flag() {
+            true => &mut frame.width,
+            false => &mut frame.height,
+        }
+    }
+}
+
+/// A frame, in most cases spoilt.
+fn doubtful(rng: &mut Rng) -> Frame {
+    let mut frame = generate::frame(rng);
+    if !rng.once_in(4) {
+        spoil(rng, &mut frame);
+    }
+    frame
+}
+
+/// A frame that could be the alpha of another: in most cases of its size and depth.
+fn alike(rng: &mut Rng, frame: &Frame) -> Frame {
+    let fits = (1..=64).contains(&frame.width) && (1..=64).contains(&frame.height);
+    let mut form = generate::form(rng);
+    if !fits || !(8..=16).contains(&frame.depth) {
+        return doubtful(rng);
+    }
+    if !rng.once_in(4) {
+        form.depth = frame.depth;
+    }
+    let size = match rng.once_in(4) {
+        true => generate::size(rng),
+        false => (frame.width, frame.height),
+    };
+    generate::frame_of(rng, size, form, true)
+}
+
+/// Mono, 2 × 2.
+fn tile() -> HeifFrame {
+    HeifFrame::from_record(&bytes("02 02 00 08 00 02 04 07 07 07 07")).expect("a record")
+}
+
+/// A picture of no width.
+fn empty() -> HeifFrame {
+    tile().with_width(0)
+}
+
+/// One of a depth that there is not.
+fn deep() -> HeifFrame {
+    tile().with_format(tile().format.with_bit_depth(40))
+}
+
+/// Rows or columns that a body has no room for.
+#[test]
+fn grids_that_no_body_holds() {
+    for (rows, columns, tiles, refusal) in [
+        (257, 1, 1, Refusal::LIMIT),
+        (257, 1, 257, Refusal::LIMIT),
+        (1, 257, 1, Refusal::LIMIT),
+        (65_535, 65_535, 1, Refusal::LIMIT),
+        (0, 1, 256, Refusal::EMPTY),
+        (0, 1, 0, Refusal::EMPTY),
+        (1, 0, 1, Refusal::EMPTY),
+        // A side 0 comes before what is above a limit.
+        (257, 0, 1, Refusal::EMPTY),
+    ] {
+        let desc = GridDescriptor::new(rows, columns, 2, 2);
+        let made = composite_grid(&desc, &vec![tile(); tiles]);
+        assert_eq!(made, Err(refusal), "{rows} rows, {columns} columns");
+        let mut canvas = GridCanvas::new(&desc);
+        assert_eq!(canvas.place(0, &tile()), Err(refusal));
+        assert_eq!(canvas.place_blank(0), Err(refusal));
+        assert_eq!(canvas.finish(), Err(refusal));
+    }
+    let desc = GridDescriptor::new(257, 1, 0, 2);
+    assert_eq!(composite_grid(&desc, &[]), Err(Refusal::EMPTY));
+    let desc = GridDescriptor::new(256, 1, 2, 2);
+    assert!(composite_grid(&desc, &vec![tile(); 256]).is_ok());
+}
+
+/// Two faults at once: the first of document 01's order is the refusal.
+#[test]
+fn the_first_refusal_is_document_01s() {
+    assert_eq!(attach_alpha(&empty(), &deep()), Err(Refusal::EMPTY));
+    assert_eq!(attach_alpha(&deep(), &empty()), Err(Refusal::DEPTH));
+
+    let row = GridDescriptor::new(1, 2, 4, 2);
+    let mut canvas = GridCanvas::new(&row);
+    assert_eq!(canvas.place(7, &empty()), Err(Refusal::COUNT));
+    assert_eq!(canvas.place(1, &empty()), Err(Refusal::EMPTY));
+
+    assert_eq!(composite_grid(&row, &[empty()]), Err(Refusal::COUNT));
+    let none = GridDescriptor::new(1, 1, 0, 2);
+    assert_eq!(composite_grid(&none, &[deep()]), Err(Refusal::EMPTY));
+    assert_eq!(composite_grid(&none, &[]), Err(Refusal::EMPTY));
+
+    let lay = |width, places, frames: &[HeifFrame]| {
+        let desc = OverlayDescriptor::new([0; 4], width, 2, vec![(0, 0); places]);
+        let inputs: Vec<OverlayInput> = frames
+            .iter()
+            .map(|frame| OverlayInput::new(frame, false))
+            .collect();
+        composite_overlay(&desc, &inputs, None)
+    };
+    assert_eq!(lay(0, 1, &[deep()]), Err(Refusal::EMPTY));
+    assert_eq!(lay(0, 2, &[deep()]), Err(Refusal::EMPTY));
+    assert_eq!(lay(0, 0, &[]), Err(Refusal::EMPTY));
+    assert_eq!(lay(u32::MAX, 1, &[]), Err(Refusal::LIMIT));
+    assert_eq!(lay(2, 1, &[]), Err(Refusal::MISSING));
+    assert_eq!(lay(2, 2, &[deep()]), Err(Refusal::COUNT));
+    assert_eq!(lay(2, 1, &[deep(), empty()]), Err(Refusal::COUNT));
+    assert_eq!(lay(2, 2, &[deep(), empty()]), Err(Refusal::DEPTH));
+    assert_eq!(lay(2, 2, &[empty(), deep()]), Err(Refusal::EMPTY));
+
+    let long = [PropertyEntry::new(1, true, Property::Irot(Irot::new(1))); 257];
+    assert_eq!(apply_transforms(&deep(), &long, false), Err(Refusal::LIMIT));
+    assert_eq!(resize_area(&deep(), 0, 1), Err(Refusal::DEPTH));
+    assert_eq!(resize_nearest(&deep(), 0, 1), Err(Refusal::DEPTH));
+    assert_eq!(rescale_depth(&empty(), 40), Err(Refusal::EMPTY));
+    assert_eq!(crop(&deep(), 9, 9, 9, 9), Err(Refusal::DEPTH));
+    let none = Clap::new(0, 0, 0, 0, 0, 0, 0, 0);
+    assert_eq!(apply_clap(&deep(), &none), Err(Refusal::DEPTH));
+    let none = Iscl::new(0, 0, 0, 0);
+    assert_eq!(apply_iscl(&empty(), &none), Err(Refusal::EMPTY));
+}
+
+/// More inputs than an overlay may have, with as many places and with one.
+#[test]
+fn overlays_of_too_many_inputs() {
+    let frame = deep();
+    let inputs = vec![OverlayInput::new(&frame, false); 65_537];
+    for places in [1, 65_537] {
+        let desc = OverlayDescriptor::new([0; 4], 2, 2, vec![(0, 0); places]);
+        assert_eq!(composite_overlay(&desc, &inputs, None), Err(Refusal::LIMIT));
+    }
+    let desc = OverlayDescriptor::new([0; 4], 2, 2, vec![(0, 0); 65_537]);
+    let refused = composite_overlay(&desc, &inputs[..1], None);
+    assert_eq!(refused, Err(Refusal::COUNT));
+}
+
+#[test]
+fn operations_on_doubtful_frames() {
+    let wanted = |oracle: &dyn Oracle, frame: &Frame, what: &Operation| -> Want<Frame> {
+        Ok(parse_record(&operation(oracle, &frame.record(), what)?)?)
+    };
+    on_each_build(|oracle| {
+        let mut rng = Rng::new(21);
+        for _ in 0..2_000 {
+            let frame = doubtful(&mut rng);
+            let ours = heif(&frame);
+            let (angle, axis) = (rng.byte(), rng.byte());
+            let turned = apply_irot(&ours, &Irot::new(angle));
+            hold_to(
+                turned,
+                wanted(oracle, &frame, &Operation::Irot(angle)),
+                "irot",
+            );
+            let mirrored = apply_imir(&ours, &Imir::new(axis));
+            hold_to(
+                mirrored,
+                wanted(oracle, &frame, &Operation::Imir(axis)),
+                "imir",
+            );
+
+            let [x, y, width, height] = std::array::from_fn(|_| rng.number(0..=5));
+            let rectangle = Operation::Crop(Rectangle {
+                x,
+                y,
+                width,
+                height,
+            });
+            let cropped = crop(&ours, x, y, width, height);
+            hold_to(cropped, wanted(oracle, &frame, &rectangle), "crop");
+            let sized = resize_nearest(&ours, width, height);
+            let nearest = Operation::Nearest(width, height);
+            hold_to(sized, wanted(oracle, &frame, &nearest), "nearest");
+            let sized = resize_area(&ours, width, height);
+            let want =
+                judged(&frame).and_then(|frame| settle(oracle.resize_area(&frame, width, height)));
+            hold_to(sized, want, "area");
+
+            let depth = rng.pick(&[0, 7, 8, 10, 16, 17, 40]);
+            let rescaled = rescale_depth(&ours, depth);
+            let depth = Operation::Depth(u32::from(depth));
+            hold_to(rescaled, wanted(oracle, &frame, &depth), "depth");
+
+            let fields = generate::iscl(&mut rng);
+            let [wn, wd, hn, hd] = fields.fields();
+            let want = wanted(oracle, &frame, &Operation::Iscl(fields));
+            if want != Err(Stop::Large) {
+                let scaled = apply_iscl(&ours, &Iscl::new(wn, wd, hn, hd));
+                hold_to(scaled, want, "iscl");
+            }
+
+            let promoted = ours.promote_to_444();
+            hold_to(promoted, shaped::promote_to_444(oracle, &frame), "promote");
+
+            let alpha = doubtful(&mut rng);
+            let attached = attach_alpha(&ours, &heif(&alpha));
+            hold_to(
+                attached,
+                shaped::attach_alpha(oracle, &frame, &alpha),
+                "attach",
+            );
+            let alpha = alike(&mut rng, &frame);
+            let with = ours.with_alpha_plane(&heif(&alpha));
+            let want = shaped::with_alpha_plane(oracle, &frame, &alpha);
+            hold_to(with, want, "with_alpha_plane");
+            let valid = ours.validate().map(|()| ours.clone());
+            hold_to(valid, judged(&frame), "validate");
+        }
+    });
+}
+
+/// A chain's frame is judged where an entry is applied.
+#[test]
+fn chains_on_doubtful_frames() {
+    on_each_build(|oracle| {
+        let mut rng = Rng::new(22);
+        for _ in 0..1_000 {
+            let frame = doubtful(&mut rng);
+            let chain = generate::chain(&mut rng, (frame.width.clamp(1, 20), 7));
+            let entries = compose::chain::entries(&model::chain_bytes(&chain)).expect("a chain");
+            let essential_only = rng.flag();
+            let applied = chain
+                .iter()
+                .any(|entry| entry.applied(essential_only).is_some());
+            let want = match applied {
+                true => judged(&frame).and_then(|frame| {
+                    settle(oracle.apply_transforms(&frame, &chain, essential_only))
+                }),
+                false => Ok(frame.clone()),
+            };
+            let ours = apply_transforms(&heif(&frame), &entries, essential_only);
+            hold_to(ours, want.clone(), "apply_transforms");
+            let ours = apply_transforms_owned(heif(&frame), &entries, essential_only);
+            hold_to(ours, want, "apply_transforms_owned");
+        }
+    });
+}
+
+/// Rows, columns or sides that may be out of range.
+fn doubtful_grid(rng: &mut Rng, grid: &mut Grid) {
+    match rng.below(8) {
+        0 => grid.rows = rng.pick(&[0, 256, 257, 512, 65_535]),
+        1 => grid.columns = rng.pick(&[0, 256, 257, 512, 65_535]),
+        2 => grid.width = rng.pick(&[0, 1, 1 << 31]),
+        3 => grid.height = rng.pick(&[0, 1, 1 << 31]),
+        _ => {}
+    }
+}
+
+#[test]
+fn grids_of_doubtful_tiles() {
+    on_each_build(|oracle| {
+        let mut rng = Rng::new(23);
+        for _ in 0..4_000 {
+            let (mut desc, mut tiles) = generate::grid_scene(&mut rng);
+            doubtful_grid(&mut rng, &mut desc);
+            if rng.once_in(3) {
+                let tile = rng.below(tiles.len());
+                spoil(&mut rng, &mut tiles[tile]);
+            }
+            match rng.below(10) {
+                0 => drop(tiles.pop()),
+                1 => tiles.push(tiles[0].clone()),
+                _ => {}
+            }
+            let ours: Vec<HeifFrame> = tiles.iter().map(heif).collect();
+            let made = composite_grid(&grid_descriptor(&desc), &ours);
+            hold_to(made, shaped::composite_grid(oracle, &desc, &tiles), "grid");
+        }
+    });
+}
+
+#[test]
+fn overlays_of_doubtful_inputs() {
+    on_each_build(|oracle| {
+        let mut rng = Rng::new(24);
+        for _ in 0..4_000 {
+            let (mut desc, mut inputs) = generate::overlay_scene(&mut rng);
+            match rng.below(8) {
+                0 => desc.width = rng.pick(&[0, u32::MAX]),
+                1 => desc.height = rng.pick(&[0, u32::MAX]),
+                2 => drop(desc.offsets.pop()),
+                3 => desc.offsets.push((1, 1)),
+                _ => {}
+            }
+            if rng.once_in(3) && !inputs.is_empty() {
+                let input = rng.below(inputs.len());
+                spoil(&mut rng, &mut inputs[input].frame);
+            }
+            let colour = generate::colour(&mut rng);
+            let frames: Vec<HeifFrame> = inputs.iter().map(|input| heif(&input.frame)).collect();
+            let ours = lent(&frames, &inputs);
+            let colr = colour.map(|colour| compose::props::Colr::Nclx {
+                primaries: 1,
+                transfer: 13,
+                matrix: colour.matrix,
+                full_range: colour.full_range,
+            });
+            let made = composite_overlay(&overlay_descriptor(&desc), &ours, colr.as_ref());
+            let want = shaped::composite_overlay(oracle, &desc, &inputs, colour);
+            hold_to(made, want, "overlay");
+        }
+    });
+}
+
+/// Overlay inputs that stand on `frames`.
+fn lent<'a>(frames: &'a [HeifFrame], inputs: &[model::OverlayInput]) -> Vec<OverlayInput<'a>> {
+    let lent = frames.iter().zip(inputs);
+    lent.map(|(frame, input)| OverlayInput::new(frame, input.premultiplied))
+        .collect()
+}
+
+/// What document 01 wants of placing a tile: the grid's, 11, the record's, 12 to 14.
+fn wanted_place(canvas: &mut dyn Canvas, desc: &Grid, index: usize, tile: &Frame) -> Want<()> {
+    grid(desc)?;
+    if index >= desc.cells() {
+        return Err(Stop::Refused(refusal::COUNT));
+    }
+    settle(canvas.place(index, &judged(tile)?))
+}
+
+/// The same of a blank cell: the grid's, 15, 11.
+fn wanted_blank(canvas: &mut dyn Canvas, desc: &Grid, index: usize) -> Want<()> {
+    grid(desc)?;
+    settle(canvas.place_blank(index))
+}
+
+#[test]
+fn canvases_with_doubtful_tiles() {
+    let number = |answer: Result<()>| answer.map_err(|refusal| Stop::Refused(refusal.number()));
+    on_each_build(|oracle| {
+        let mut rng = Rng::new(25);
+        for _ in 0..1_500 {
+            let (mut desc, tiles) = generate::grid_scene(&mut rng);
+            doubtful_grid(&mut rng, &mut desc);
+            let mut ours = GridCanvas::new(&grid_descriptor(&desc));
+            let mut theirs = oracle.canvas(&desc);
+            for tile in &tiles {
+                let mut tile = tile.clone();
+                if rng.once_in(4) {
+                    spoil(&mut rng, &mut tile);
+                }
+                let index = match rng.below(6) {
+                    0 => rng.pick(&[desc.cells(), 1 << 16, 1 << 32, usize::MAX]),
+                    _ => rng.below(desc.cells().max(1)),
+                };
+                if rng.once_in(5) {
+                    let blank = number(ours.place_blank(index));
+                    assert_eq!(blank, wanted_blank(&mut *theirs, &desc, index));
+                    continue;
+                }
+                let placed = number(ours.place(index, &heif(&tile)));
+                assert_eq!(placed, wanted_place(&mut *theirs, &desc, index, &tile));
+            }
+            let want = grid(&desc).and_then(|()| settle(theirs.finish()));
+            hold_to(ours.finish(), want, "finish");
+        }
+    });
+}
