@@ -2,7 +2,8 @@
  *
  * Each call has a contract in crates/capi/src, for every input; what is said here is short for it. A call takes any
  * bytes. It reads and writes only what it is lent, allocates nothing and keeps nothing. A part of length 0 may have
- * any pointer but NULL, and a part that is written overlaps no other.
+ * any pointer, NULL too, and a part that is written overlaps no other.
+ * A call takes at most 136 KiB of stack.
  *
  * A record is a picture, a tray several of them, as document 01 sets them out ("What is handed in").
  */
@@ -15,6 +16,10 @@
 #ifdef __cplusplus
 extern "C" {
 #endif
+
+/* The version of these calls: major * 10000 + minor * 100 + patch, as the crate's in rust/Cargo.toml is. It grows when a
+ * call is added or changed. */
+#define COMPOSE_API_VERSION 100
 
 /* Every call answers a number of 64 bits. Below 2^63 it is a length, a count, or 0 where there is none; from there on
  * it is 2^63 + the number of a refusal, and then nothing was written. */

@@ -1,31 +1,61 @@
-/* Turns a small picture and prints its samples, then asks for a part that lies outside.
+/* Joins two tiles, turns the picture, prints it, and asks what its top left place shows; then asks for a place outside.
  *
  *     cc -I include include/example.c target/staticlib/libcapi.a -o target/example && target/example
  */
 #include "compose.h"
 #include <stdio.h>
 
+/* One row of two tiles, on a canvas of 4 x 2. */
+static const uint8_t body[] = {0, 0, 0, 1, 0, 4, 0, 2};
+
+/* Two records. Each is 2 x 2, mono, depth 8, no alpha; one plane of stride 2 and 4 bytes. */
+static const uint8_t tray[] = {2, 2, 2, 0, 8, 0, 2, 4, 1, 2, 3, 4, 2, 2, 0, 8, 0, 2, 4, 5, 6, 7, 8};
+
+/* One property: an irot, essential, a quarter turn. */
+static const uint8_t chain[] = {1, 2, 1, 1};
+
+static int refused(uint64_t answer)
+{
+    if (!COMPOSE_IS_REFUSAL(answer))
+        return 0;
+    printf("refused %d\n", COMPOSE_REFUSAL(answer));
+    return 1;
+}
+
+static void print(const uint8_t *record, size_t length)
+{
+    uint64_t words[17];
+    if (refused(compose_record(record, length, words, 17)))
+        return;
+    uint64_t width = words[0], height = words[1], luma = words[5], stride = words[7];
+    for (uint64_t y = 0; y < height; y++) {
+        for (uint64_t x = 0; x < width; x++)
+            printf(" %d", record[luma + y * stride + x]);
+        printf("\n");
+    }
+}
+
+/* What a place of the turned picture shows. */
+static void ask(uint32_t column, uint32_t row)
+{
+    uint32_t words[10];
+    printf("(%d, %d): ", (int)column, (int)row);
+    uint64_t answer = compose_grid_point(body, sizeof body, tray, sizeof tray, chain, sizeof chain, 0, column, row,
+                                         words, 10);
+    if (!refused(answer))
+        printf("tile %d at (%d, %d)\n", (int)words[1], (int)words[2], (int)words[3]);
+}
+
 int main(void)
 {
-    /* 3 x 1, mono, depth 8, no alpha; one plane of stride 3 and 3 bytes. */
-    const uint8_t record[] = {3, 1, 0, 8, 0, 3, 3, 10, 20, 30};
-    uint8_t out[64];
-    uint64_t words[17];
-
-    uint64_t length = compose_irot(record, sizeof record, 1, out, sizeof out);
-    if (COMPOSE_IS_REFUSAL(length)) {
-        printf("refused %d\n", COMPOSE_REFUSAL(length));
+    /* Both must have room for the longest of the composed record and the turned one. */
+    uint8_t output[64], spare[64];
+    uint64_t length = compose_grid_scene(body, sizeof body, tray, sizeof tray, chain, sizeof chain, 0, output,
+                                         sizeof output, spare, sizeof spare);
+    if (refused(length))
         return 1;
-    }
-    compose_record(out, (size_t)length, words, 17);
-    printf("%d x %d:", (int)words[0], (int)words[1]);
-    /* Luma starts at words[5] and has words[6] bytes. */
-    for (uint64_t at = words[5]; at < words[5] + words[6]; at++)
-        printf(" %d", out[at]);
-    printf("\n");
-
-    uint64_t outside = compose_crop(record, sizeof record, 1, 0, 3, 1, out, sizeof out);
-    if (COMPOSE_IS_REFUSAL(outside) && COMPOSE_REFUSAL(outside) == COMPOSE_OUTSIDE)
-        printf("refused %d\n", COMPOSE_REFUSAL(outside));
+    print(output, (size_t)length);
+    ask(0, 0);
+    ask(2, 0);
     return 0;
 }

@@ -22,6 +22,7 @@
 
 use crate::derived::GridDescriptor;
 use crate::image::{Chroma, HeifFrame};
+use crate::lend::buffer;
 use crate::{Refusal, Result, sys};
 
 /// How many words a session's state has: the grid's four numbers, the first tile's five, whether a
@@ -47,7 +48,8 @@ impl GridCanvas {
     /// A canvas on which nothing is placed.
     pub fn new(desc: &GridDescriptor) -> Self {
         let mut words = vec![0; STATE_WORDS].into_boxed_slice();
-        let started = sys::compose_canvas_start(&desc.to_bytes(), &mut words);
+        let body = desc.body();
+        let started = body.and_then(|body| sys::compose_canvas_start(&body, &mut words));
         Self {
             desc: *desc,
             state: started.map(|_| words),
@@ -69,7 +71,8 @@ impl GridCanvas {
     /// A tile in its cell, over what is there; one without alpha leaves the alpha there. Refusals:
     /// 11 an index outside; the frame's; 12, 13, 14.
     pub fn place(&mut self, index: usize, t: &HeifFrame) -> Result<()> {
-        let record = t.to_record()?;
+        // The cell is judged before the frame.
+        let record = t.unjudged();
         let index = cell(index);
         let state = self.state.as_mut().map_err(|refusal| *refusal)?;
         match sys::compose_canvas_place(state, index, &record, &mut self.buffer) {
@@ -77,7 +80,7 @@ impl GridCanvas {
             answer => return answer.map(drop),
         }
         // Only the first tile that is accepted finds too little room.
-        let mut buffer = vec![0; self.room(t)];
+        let mut buffer = buffer(self.room(t));
         let state = self.state.as_mut().map_err(|refusal| *refusal)?;
         sys::compose_canvas_place(state, index, &record, &mut buffer)?;
         self.buffer = buffer;

@@ -64,28 +64,30 @@ pub fn overlay(
     })
 }
 
-/// The tiles of a grid, each in its cell. Refusals: 11 another number of tiles; the frames'; 12, 13,
-/// 14.
+/// The tiles of a grid, each in its cell. Refusals: the descriptor's; 11 another number of tiles; the
+/// frames'; 12, 13, 14.
 pub fn composite_grid(desc: &GridDescriptor, tiles: &[HeifFrame]) -> Result<HeifFrame> {
-    HeifFrame::from_record(&grid(&desc.to_bytes(), &tray_of(tiles.iter())?)?)
+    let body = desc.body()?;
+    if tiles.len() != desc.tile_count() {
+        return Err(Refusal::COUNT);
+    }
+    HeifFrame::from_record(&grid(&body, &tray_of(tiles.iter())?)?)
 }
 
-/// The inputs of an overlay, the last on top; `colr` is for the fill. Refusals: 11 another number of
-/// inputs; 15 none; the frames'; 14; 16.
+/// The inputs of an overlay, the last on top; `colr` is for the fill. Refusals: the descriptor's; 15 no
+/// inputs; 11 another number of them; the frames'; 14; 16.
 pub fn composite_overlay(
     desc: &OverlayDescriptor,
     inputs: &[OverlayInput<'_>],
     colr: Option<&Colr>,
 ) -> Result<HeifFrame> {
-    if inputs.len() != desc.offsets.len() {
-        return Err(Refusal::COUNT);
-    }
+    let body = desc.body(inputs.len())?;
     let list: Vec<u8> = inputs
         .iter()
         .map(|input| input.premultiplied.into())
         .collect();
     let tray = tray_of(inputs.iter().map(|input| input.frame))?;
-    HeifFrame::from_record(&overlay(&desc.to_bytes(), &tray, &list, colr)?)
+    HeifFrame::from_record(&overlay(&body, &tray, &list, colr)?)
 }
 
 #[cfg(test)]

@@ -17,12 +17,23 @@
 //! ```
 
 use crate::lend::narrow;
-use crate::{Result, sys};
+use crate::{Refusal, Result, sys};
+
+/// The most inputs of one overlay.
+pub const MAX_DERIVATION_INPUTS: usize = 1 << 16;
+
+/// The most pixels of a canvas.
+pub const MAX_CANVAS_PIXELS: u64 = 1 << 30;
 
 /// An offset of its two parts, of which one is 0.
 fn signed(ahead: u64, behind: u64) -> i32 {
     let (ahead, behind): (u32, u32) = (narrow(ahead), narrow(behind));
     ahead.wrapping_sub(behind).cast_signed()
+}
+
+/// A number of inputs; more than a call can count are too many as well.
+fn inputs(count: usize) -> u32 {
+    u32::try_from(count).unwrap_or(u32::MAX)
 }
 
 /// A size or an offset of 32 bits or 16.
@@ -75,7 +86,23 @@ impl GridDescriptor {
         usize::from(self.rows) * usize::from(self.columns)
     }
 
-    /// The body, with sizes of 16 bits where they fit. Rows and columns are cut to 1 to 256.
+    /// The body, judged before it is handed on: rows and columns that it has no room for are
+    /// refused as its sides are. Refusals: 3 no rows, no columns or a side 0; 4 above 2^30 pixels, or
+    /// above 256 rows or columns.
+    pub fn body(&self) -> Result<Vec<u8>> {
+        if self.rows == 0 || self.columns == 0 {
+            return Err(Refusal::EMPTY);
+        }
+        let body = self.to_bytes();
+        let held = Self::parse(&body)?;
+        match held == *self {
+            true => Ok(body),
+            false => Err(Refusal::LIMIT),
+        }
+    }
+
+    /// The body, with sizes of 16 bits where they fit. It holds rows and columns from 1 to 256, and
+    /// of others what is left mod 256; [`GridDescriptor::body`] refuses them.
     pub fn to_bytes(&self) -> Vec<u8> {
         let large = self.output_width > 0xffff || self.output_height > 0xffff;
         let less = |tiles: u16| tiles.wrapping_sub(1) as u8;
@@ -120,8 +147,7 @@ impl OverlayDescriptor {
     /// The descriptor of a body that places so many inputs. Refusals: 1 empty, 2 a version other
     /// than 0, 1 short, 3 a side 0, 4 above 2^30 pixels, 4 above 65,536 inputs, 1 offsets short.
     pub fn parse(body: &[u8], reference_count: usize) -> Result<Self> {
-        // More than a u32 holds are too many as well.
-        let count = u32::try_from(reference_count).unwrap_or(u32::MAX);
+        let count = inputs(reference_count);
         let mut words = [0; 6];
         sys::compose_overlay_descriptor(body, count, &mut words)?;
         let [fill @ .., width, height] = words;
@@ -137,6 +163,24 @@ impl OverlayDescriptor {
             output_height: narrow(height),
             offsets: (0..count).map(offset).collect::<Result<_>>()?,
         })
+    }
+
+    /// The body for so many inputs, judged before it is handed on. Refusals: 3 a side 0; 4 above
+    /// 2^30 pixels; 4 above 65,536 inputs; 15 none; 11 another number of offsets.
+    pub(crate) fn body(&self, count: usize) -> Result<Vec<u8>> {
+        let body = self.to_bytes();
+        match sys::compose_overlay_descriptor(&body, inputs(count), &mut [0; 6]) {
+            // The fields are all there: it is the offsets that are fewer.
+            Err(Refusal::SHORT) => return Err(Refusal::COUNT),
+            judged => judged?,
+        };
+        if count == 0 {
+            return Err(Refusal::MISSING);
+        }
+        match count == self.offsets.len() {
+            true => Ok(body),
+            false => Err(Refusal::COUNT),
+        }
     }
 
     /// The body, with sizes and offsets of 16 bits where all fit.

@@ -110,15 +110,53 @@ fn the_header_says_what_refusals_mean() {
     }
 }
 
-/// A C program over the header and the library, with every warning an error.
+/// The version of the calls is the crate's.
+#[test]
+fn the_header_has_the_version() {
+    let parts: Vec<u32> = env!("CARGO_PKG_VERSION")
+        .split('.')
+        .map(|part| part.parse().expect("a number"))
+        .collect();
+    let number = parts.iter().fold(0, |number, part| number * 100 + part);
+    let line = format!("#define COMPOSE_API_VERSION {number}\n");
+    assert!(header().contains(&line), "{line}");
+}
+
+/// The lines of README's steps for C.
+fn steps_for_c() -> Vec<String> {
+    let readme = fs::read_to_string(in_repository("README.md")).expect("the first page");
+    let (_, part) = readme.split_once("\n## From C\n").expect("the part");
+    let (part, _) = part.split_once("\n## ").expect("an end");
+    let code = part.lines().filter_map(|line| line.strip_prefix("    "));
+    code.map(|line| {
+        line.split("  #")
+            .next()
+            .unwrap_or(line)
+            .trim_end()
+            .to_string()
+    })
+    .collect()
+}
+
+/// The steps of README: the library, and the example over it, here with every warning an error.
 #[test]
 fn the_example_runs() {
+    let [library, example] = &steps_for_c()[..] else {
+        panic!("two steps");
+    };
+    assert_eq!(library, "rt staticlib capi");
+    let comment = fs::read_to_string(in_repository("include/example.c")).expect("the example");
+    assert!(comment.contains(&format!(" *     {example}\n")));
+    let words: Vec<&str> = example.split_whitespace().collect();
+    let [compiler, words @ .., "-o", made, "&&", run] = &words[..] else {
+        panic!("a compiler, its words, what it makes, and its run: {example}");
+    };
+    assert_eq!(made, run);
     let program = std::env::temp_dir().join(format!("compose-example-{}", std::process::id()));
-    let compiled = Command::new("cc")
-        .args(["-std=c99", "-Wall", "-Wextra", "-Werror", "-pedantic", "-I"])
-        .arg(in_repository("include"))
-        .arg(in_repository("include/example.c"))
-        .arg(in_repository("target/staticlib/libcapi.a"))
+    let compiled = Command::new(compiler)
+        .current_dir(in_repository(""))
+        .args(["-std=c99", "-Wall", "-Wextra", "-Werror", "-pedantic"])
+        .args(words)
         .arg("-o")
         .arg(&program)
         .output();
@@ -133,6 +171,6 @@ fn the_example_runs() {
     assert!(ran.status.success());
     assert_eq!(
         String::from_utf8_lossy(&ran.stdout),
-        "1 x 3: 30 20 10\nrefused 9\n"
+        " 6 8\n 5 7\n 2 4\n 1 3\n(0, 0): tile 1 at (1, 0)\n(2, 0): refused 18\n"
     );
 }

@@ -162,6 +162,10 @@ impl Plane {
     }
 }
 
+/// The name of [`Plane`] before oxideav-heif 0.0.9.
+#[deprecated(note = "renamed to `Plane`")]
+pub type HeifPlane = Plane;
+
 /// A planar picture: luma, Cb, Cr (mono has luma alone), then alpha.
 #[derive(Clone, Debug, PartialEq, Eq)]
 pub struct HeifFrame {
@@ -302,9 +306,69 @@ impl HeifFrame {
         Some(Self::new(self.width, self.height, format, vec![alpha]))
     }
 
+    /// The frame in 4:4:4, each pixel with the chroma sample that covered it; mono gets the middle,
+    /// 2^(depth − 1). The alpha plane stays as it stands. Refusals: document 01's *Record*.
+    ///
+    /// ```
+    /// use compose::image::{Chroma, HeifFrame, HeifPixelFormat, Plane};
+    ///
+    /// let planes = [vec![1, 2, 3], vec![10, 20], vec![30, 40]];
+    /// let planes = planes.map(|row| Plane::new(row.len(), row)).to_vec();
+    /// let format = HeifPixelFormat::new(Chroma::Yuv422, 8, false)?;
+    /// let promoted = HeifFrame::new(3, 1, format, planes).promote_to_444()?;
+    /// assert_eq!(promoted.planes[1].data, [10, 10, 20]);
+    /// # Ok::<(), compose::Refusal>(())
+    /// ```
+    pub fn promote_to_444(&self) -> Result<Self> {
+        self.validate()?;
+        let format = self.format.with_chroma(Chroma::Yuv444);
+        let middle = 1 << (format.bit_depth - 1);
+        let mut promoted = Self::filled(self.width, self.height, format, middle)?;
+        let (across, down) = self.format.chroma.shift();
+        for plane in 0..self.format.chroma.colour_planes() {
+            let (across, down) = if plane == 0 { (0, 0) } else { (across, down) };
+            for y in 0..self.height {
+                for x in 0..self.width {
+                    let sample = self.sample(plane, x >> across, y >> down);
+                    promoted.set_sample(plane, x, y, sample);
+                }
+            }
+        }
+        if let (Some(from), Some(to)) = (self.format.alpha_plane(), format.alpha_plane()) {
+            promoted.planes[to] = self.planes[from].clone();
+        }
+        Ok(promoted)
+    }
+
+    /// The frame with the first plane of `alpha`, which has its size and depth, as its alpha plane.
+    /// Refusals: the frame's, then alpha's; 13 another size; 14 another depth.
+    pub fn with_alpha_plane(&self, alpha: &HeifFrame) -> Result<Self> {
+        self.validate()?;
+        alpha.validate()?;
+        if (alpha.width, alpha.height) != (self.width, self.height) {
+            return Err(Refusal::TILE);
+        }
+        if alpha.format.bit_depth != self.format.bit_depth {
+            return Err(Refusal::LAYOUT);
+        }
+        let mut with = self.without_alpha();
+        with.format = with.format.with_alpha();
+        with.planes.push(alpha.planes[0].clone());
+        Ok(with)
+    }
+
     /// The frame as a record, strides and spare bytes as they are. Refusals: document 01's
     /// *Record*, so that what comes is one.
     pub fn to_record(&self) -> Result<Vec<u8>> {
+        let record = self.unjudged();
+        record::inspect(&record)?;
+        Ok(record)
+    }
+
+    /// The same bytes before they are judged, for a call that judges something else first. Where
+    /// the frame is no record's, they are none either, and their refusal is the frame's: a stride
+    /// or a length that is no house number ends them in a malformed one.
+    pub(crate) fn unjudged(&self) -> Vec<u8> {
         let format = [self.format.chroma.idc(), self.format.bit_depth];
         let alpha = u32::from(self.format.has_alpha);
         let [chroma, depth] = format.map(u32::from);
@@ -313,14 +377,16 @@ impl HeifFrame {
             record::push_number(&mut record, number);
         }
         for plane in &self.planes {
-            for number in [plane.stride, plane.data.len()] {
-                let number = u32::try_from(number).map_err(|_| Refusal::MALFORMED)?;
-                record::push_number(&mut record, number);
-            }
+            let numbers = [plane.stride, plane.data.len()].map(u32::try_from);
+            let [Ok(stride), Ok(length)] = numbers else {
+                record.extend([0xff; record::LONGEST_NUMBER + 1]);
+                return record;
+            };
+            record::push_number(&mut record, stride);
+            record::push_number(&mut record, length);
             record.extend_from_slice(&plane.data);
         }
-        record::inspect(&record)?;
-        Ok(record)
+        record
     }
 
     /// The frame that a record holds. Refusals: document 01's *Record*.

@@ -5,6 +5,11 @@ use crate::{Refusal, Result};
 /// No record is longer: 2^30 pixels, four planes, two bytes a sample, and its numbers.
 const MOST: usize = (1 << 33) + 64;
 
+/// A buffer to lend, all zero: every one that a picture is written to is made here.
+pub(crate) fn buffer(length: usize) -> Vec<u8> {
+    vec![0; length]
+}
+
 /// What `call` writes to the output that it is lent: none at first, so that a refusal costs
 /// nothing; then `room` bytes, and twice as many while it says that they are too few.
 pub(crate) fn written(room: usize, call: impl Fn(&mut [u8]) -> Result<u64>) -> Result<Vec<u8>> {
@@ -27,7 +32,7 @@ fn up_to(most: usize, room: usize, call: impl Fn(&mut [u8]) -> Result<u64>) -> R
     let mut output = Vec::new();
     loop {
         match call(&mut output) {
-            Err(Refusal::ROOM) if output.len() < most => output = vec![0; room.min(most)],
+            Err(Refusal::ROOM) if output.len() < most => output = buffer(room.min(most)),
             Err(refusal) => return Err(refusal),
             Ok(length) => {
                 output.truncate(usize::try_from(length).expect("a length of the output"));

@@ -8,7 +8,8 @@
 //!
 //! Functions and types have oxideav-heif's names and shapes; a program changes its `use` lines: the
 //! crate's name in them, as its modules [`mod@compose`], [`derived`], [`image`], [`props`] and
-//! [`error`] are where they were. What they have in common use stands at the top here, too.
+//! [`error`] are where they were. What they have in common use stands at the top here, too. What a
+//! frame does by itself, such as [`HeifFrame::promote_to_444`], is plain Rust and no call.
 //!
 //! ```
 //! use compose::image::{Chroma, HeifFrame, HeifPixelFormat, Plane};
@@ -75,6 +76,30 @@
 //! # Ok::<(), compose::Refusal>(())
 //! ```
 //!
+//! # What stays out
+//!
+//! A program that uses one of these changes more than its `use` lines. Where a call is there and
+//! answers otherwise, docs/DIFFERENCES.md says so.
+//!
+//! - Of `error`, what an error holds: a [`Refusal`] is a number, with no variants and no text of its
+//!   own. `HeifError::invalid`, `HeifError::unsupported`, `HeifError::exhausted`, `HeifError::limit`,
+//!   `HeifError::io`, `HeifError::layered_hevc`, `HeifError::layered_hevc_info`,
+//!   `HeifError::external_tile_unresolved`, `HeifError::external_tile_info`.
+//! - Of `compose`, colour format enhancement: `CfenPlan`, `CfenRegion`, `CfenRegionPlan`,
+//!   `plan_colour_format_enhancement`, `plan_colour_format_enhancement_regions`,
+//!   `composite_colour_format_enhancement`, `pack_colour_format_channels`.
+//! - Of `image`, the bridge to a framework: `core_bridge`.
+//! - Of `derived`, items of a file: `ImageKind`, `ImageNode`, `TiledItem`, `ColourFormatEnhancement`,
+//!   `CfenInput`, `build_graph`, `build_primary_graph`, `is_derived_type`, `DIMG`,
+//!   `MAX_DERIVATION_DEPTH`, `MAX_GRAPH_ITEMS`.
+//! - Of `props`, properties that move no picture, which [`Property::Other`](props::Property::Other)
+//!   stands for, and reading and writing them: `A1lx`, `A1op`, `Altt`, `Amve`, `AuxC`, `AuxKind`,
+//!   `Cclv`, `Cexg`, `Clli`, `Dadj`, `Ispe`, `Lsel`, `Mdcv`, `Ndwt`, `Pasp`, `Pixi`, `PixiChannel`,
+//!   `PixiExtended`, `Reve`, `Rloc`, `Rref`, `Stag`, `StereoAggressor`, `TilC`, `TimeInfo`, `Udes`,
+//!   `ItemProperties`, `Property::box_type`, `Property::is_decoder_config`, `Property::parse`,
+//!   `is_transformative_type`, `write`, `MAX_TILC_DIMENSIONS`, `AUX_URN_ALPHA`, `AUX_URN_DEPTH`,
+//!   `AUX_URN_ALPHA_HEVC`, `AUX_URN_DEPTH_HEVC`.
+//!
 //! # On records
 //!
 //! The calls work on records, and so can a program: [`record`] says what one holds, [`operation`]
@@ -93,6 +118,8 @@
 //! # Ok::<(), compose::Refusal>(())
 //! ```
 
+#[cfg(test)]
+mod calls;
 pub mod canvas;
 pub mod chain;
 pub mod composite;
@@ -106,6 +133,7 @@ mod header;
 pub mod image;
 mod lend;
 pub mod operation;
+mod outline;
 pub mod props;
 pub mod record;
 mod refusal;
@@ -135,7 +163,7 @@ pub mod compose {
     pub use crate::fill::fill_to_ycbcr;
     pub use crate::transform::{
         apply_clap, apply_imir, apply_irot, apply_iscl, apply_transforms, apply_transforms_owned,
-        attach_alpha, crop, rescale_depth, resize_area, resize_nearest,
+        attach_alpha, crop, needs_444, rescale_depth, resize_area, resize_nearest,
     };
 }
 

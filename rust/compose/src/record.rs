@@ -2,7 +2,9 @@
 
 use crate::image::Chroma;
 use crate::lend::narrow;
+use crate::outline::Outline;
 use crate::{Result, sys};
+use std::io::{self, Read, Seek};
 
 /// Where a plane's bytes stand in its record. A plane that the picture has not has no bytes.
 #[derive(Clone, Copy, Debug, PartialEq, Eq, Hash)]
@@ -72,8 +74,11 @@ impl RecordInfo {
     }
 }
 
-/// A record's numbers take at most 5 bytes each: five of the header, two a plane.
-const LONGEST_NUMBERS: usize = 5 * (5 + 2 * 4);
+/// The most bytes that a house number has.
+pub(crate) const LONGEST_NUMBER: usize = 5;
+
+/// The most bytes of a record's numbers: five of the header, two a plane.
+const LONGEST_NUMBERS: usize = LONGEST_NUMBER * (5 + 2 * 4);
 
 /// Appends a house number: groups of seven bits, the lowest first, the top bit set on all but the
 /// last.
@@ -89,7 +94,7 @@ pub(crate) fn push_number(bytes: &mut Vec<u8>, number: u32) {
 /// Takes a house number off the front; none where there is none whole.
 pub(crate) fn read_number(bytes: &mut &[u8]) -> Option<u32> {
     let mut number = 0;
-    for group in 0..5 {
+    for group in 0..LONGEST_NUMBER as u32 {
         let byte;
         (byte, *bytes) = bytes.split_first()?;
         number |= u32::from(byte & 127).checked_shl(7 * group)?;
@@ -105,4 +110,21 @@ pub fn inspect(record: &[u8]) -> Result<RecordInfo> {
     let mut words = [0; 17];
     sys::compose_record(record, &mut words)?;
     Ok(RecordInfo::from_words(words))
+}
+
+/// The record that `file` holds, with 0 for its samples, which are not read. [`inspect`] says of it
+/// what it says of the whole.
+///
+/// ```
+/// use compose::record::{inspect, outline};
+///
+/// let record = [2, 1, 0, 8, 0, 2, 2, 10, 20];
+/// let numbers = outline(&mut std::io::Cursor::new(record))?;
+/// assert_eq!(inspect(&numbers), inspect(&record));
+/// # Ok::<(), std::io::Error>(())
+/// ```
+pub fn outline(file: &mut (impl Read + Seek)) -> io::Result<Vec<u8>> {
+    let mut outline = Outline::of(file)?;
+    outline.record()?;
+    Ok(outline.into_bytes())
 }

@@ -1,5 +1,5 @@
 //! The library's C functions (`crates/capi`, which has their contracts), each as a safe function
-//! on slices. The only unsafe code of the workspace is here.
+//! on slices. The only unsafe code of the workspace is here, but for the clock of `bench`.
 
 #![allow(unsafe_code)]
 #![allow(clippy::too_many_arguments)]
@@ -8,6 +8,7 @@ use crate::{Refusal, Result};
 
 /// What a function's word says: below 2^63 a count, a length, or 0 where there is none; from there
 /// on 2^63 + a refusal's number.
+#[inline]
 fn answer(word: u64) -> Result<u64> {
     let Some(number) = word.checked_sub(1 << 63) else {
         return Ok(word);
@@ -57,6 +58,7 @@ macro_rules! safe {
     };
     (($(#[$about:meta])* $name:ident) ($($here:tt)*) ($($in_c:tt)*) ($($passes:tt)*) $(,)?) => {
         $(#[$about])*
+        #[inline]
         pub fn $name($($here)*) -> $crate::Result<u64> {
             unsafe extern "C" {
                 fn $name($($in_c)*) -> u64;

@@ -23,9 +23,24 @@
 //! # Ok::<(), compose::Refusal>(())
 //! ```
 
-use crate::image::HeifFrame;
+use crate::image::{Chroma, HeifFrame};
 use crate::props::{Clap, Imir, Irot, Iscl, Property, PropertyEntry};
 use crate::{Refusal, Result, chain, operation};
+
+/// Whether an odd column or an odd row asks for a chroma sample that a picture of this chroma has
+/// not, so that it is promoted to 4:4:4 first.
+///
+/// ```
+/// use compose::compose::needs_444;
+/// use compose::image::Chroma;
+///
+/// assert!(needs_444(Chroma::Yuv422, true, false));
+/// assert!(!needs_444(Chroma::Yuv422, false, true));
+/// ```
+pub fn needs_444(chroma: Chroma, x_odd: bool, y_odd: bool) -> bool {
+    let (across, down) = chroma.shift();
+    (across == 1 && x_odd) || (down == 1 && y_odd)
+}
 
 /// An operation on a record, on a frame.
 fn on_frame(f: &HeifFrame, operation: impl Fn(&[u8]) -> Result<Vec<u8>>) -> Result<HeifFrame> {
@@ -122,8 +137,9 @@ pub fn rescale_depth(f: &HeifFrame, depth: u8) -> Result<HeifFrame> {
 /// `master` with the luma of `alpha` as its alpha plane, at the master's size and depth. Refusals:
 /// the master's, then the alpha frame's.
 pub fn attach_alpha(master: &HeifFrame, alpha: &HeifFrame) -> Result<HeifFrame> {
-    let alpha = alpha.to_record()?;
-    on_frame(master, |record| operation::attach_alpha(record, &alpha))
+    // The call judges the master before the alpha.
+    let (master, alpha) = (master.unjudged(), alpha.unjudged());
+    HeifFrame::from_record(&operation::attach_alpha(&master, &alpha)?)
 }
 
 /// The record after one property of a chain, or none where the property is skipped.

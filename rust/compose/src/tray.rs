@@ -8,8 +8,10 @@
 //! # Ok::<(), compose::Refusal>(())
 //! ```
 
+use crate::outline::Outline;
 use crate::record::{push_number, read_number};
 use crate::{Refusal, Result, sys};
+use std::io::{self, Read, Seek};
 
 /// How many records `tray` has. Refusals: 5 a count that is unreadable, then *Record*'s of each in
 /// turn, 5 bytes left over.
@@ -35,6 +37,36 @@ pub fn records(tray: &[u8]) -> Result<Vec<&[u8]>> {
     read_number(&mut rest);
     let record = |_| first_record(&mut rest).expect("a record that the call took");
     Ok((0..count).map(record).collect())
+}
+
+/// Which record of `tray` is the first that is refused, counted from 0. None where none is, or where
+/// it is the count or what follows the last record.
+///
+/// ```
+/// let tray = [2, 1, 1, 0, 8, 0, 1, 1, 7, 1, 1, 0, 9, 0, 1, 1, 7];
+/// assert_eq!(compose::tray::count(&tray).unwrap_err().number(), 5);
+/// assert_eq!(compose::tray::refused_at(&tray), Some(1));
+/// ```
+pub fn refused_at(tray: &[u8]) -> Option<u32> {
+    let mut rest = tray;
+    let count = read_number(&mut rest)?;
+    (0..count).find(|_| {
+        let record = first_record(&mut rest);
+        record.is_none_or(|record| crate::record::inspect(record).is_err())
+    })
+}
+
+/// The tray that `file` holds, with 0 for its samples, which are not read. [`count`], [`records`] and
+/// [`inspect`](crate::record::inspect) say of it what they say of the whole.
+pub fn outline(file: &mut (impl Read + Seek)) -> io::Result<Vec<u8>> {
+    let mut outline = Outline::of(file)?;
+    let count = outline.number()?.unwrap_or(0);
+    for _ in 0..count {
+        if outline.record()?.is_none() {
+            break;
+        }
+    }
+    Ok(outline.into_bytes())
 }
 
 /// The record at the front, taken off. It is not judged here: the tray was.

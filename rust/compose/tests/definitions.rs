@@ -170,7 +170,8 @@ fn nothing_that_a_public_promise_is_built_on_is_inner() {
     let mut roots = calls();
     let pages = [("promises", "Promises"), ("cases", "Table")];
     roots.extend(all.texts.keys().cloned().filter(|(of, module, name)| {
-        pages.contains(&(of.as_str(), module.as_str())) || (of.as_str(), name.as_str()) == ("steps_text", "textOf")
+        pages.contains(&(of.as_str(), module.as_str()))
+            || (of.as_str(), name.as_str()) == ("steps_text", "textOf")
     }));
     let public = all.closure(roots);
     assert!(public.len() > 300, "{} definitions", public.len());
@@ -179,6 +180,9 @@ fn nothing_that_a_public_promise_is_built_on_is_inner() {
         .filter(|(_, module, _)| module.starts_with("inner."))
         .collect();
     assert!(inner.is_empty(), "{inner:?}");
-    let apart = all.texts.keys().filter(|(_, module, _)| module.starts_with("inner."));
+    let apart = all
+        .texts
+        .keys()
+        .filter(|(_, module, _)| module.starts_with("inner."));
     assert!(apart.count() > 80, "definitions in inner files");
 }

@@ -1,7 +1,8 @@
-//! From a picture's samples to red, green and blue, for eyes alone: the composer itself has no such
-//! step.
+//! From a picture's samples to red, green and blue, for screens and for files of other programs: the
+//! composer itself has no such step.
 
 use super::Failure;
+use super::options::{MATRIX, STUDIO};
 use super::words::Words;
 use compose::HeifFrame;
 use compose::props::Colr;
@@ -20,15 +21,35 @@ impl Description {
         studio: false,
     };
 
+    /// Planes of green, blue and red, as they are.
+    pub const GBR: Self = Self {
+        matrix: 0,
+        studio: false,
+    };
+
+    /// Whether the planes are green, blue and red.
+    pub fn is_gbr(self) -> bool {
+        self.matrix == 0
+    }
+
+    pub fn full_range(self) -> bool {
+        !self.studio
+    }
+
+    /// The same in studio range or not.
+    pub fn in_studio(self, studio: bool) -> Self {
+        Self { studio, ..self }
+    }
+
     /// The options `--matrix N` and `--studio`.
-    pub fn take(words: &mut Words) -> Result<Self, Failure> {
+    pub fn take(words: &Words) -> Result<Self, Failure> {
         Ok(Self::given(words)?.unwrap_or(Self::DEFAULT))
     }
 
     /// The same options; none where neither is given.
-    pub fn given(words: &mut Words) -> Result<Option<Self>, Failure> {
-        let matrix = words.number_option("--matrix")?;
-        let studio = words.flag("--studio");
+    pub fn given(words: &Words) -> Result<Option<Self>, Failure> {
+        let matrix = words.number_option(MATRIX.name)?;
+        let studio = words.flag(STUDIO.name);
         let given = matrix.is_some() || studio;
         let matrix = matrix.unwrap_or(Self::DEFAULT.matrix);
         Ok(given.then_some(Self { matrix, studio }))
@@ -67,8 +88,8 @@ impl Description {
 /// Red, green and blue of a pixel.
 pub type Pixel = [u8; 3];
 
-/// The pixel at a place. What shines through is a board of two greys.
-pub fn pixel(frame: &HeifFrame, description: Description, x: u32, y: u32) -> Pixel {
+/// Red, green and blue at a place, where they lie between the ends from 0 to 1.
+pub fn rgb(frame: &HeifFrame, description: Description, x: u32, y: u32) -> [f64; 3] {
     let format = frame.format;
     let top = f64::from(format.max_value());
     let step = f64::from(1u32 << (format.bit_depth - 8));
@@ -85,11 +106,17 @@ pub fn pixel(frame: &HeifFrame, description: Description, x: u32, y: u32) -> Pix
         true => (sample / step - 128.0) / 224.0,
         false => (sample - 128.0 * step) / top,
     };
-    let rgb = match format.chroma.colour_planes() {
+    match format.chroma.colour_planes() {
         1 => [luma(sample(0)); 3],
-        _ if description.matrix == 0 => [2, 0, 1].map(|plane| sample(plane) / top),
+        _ if description.is_gbr() => [2, 0, 1].map(|plane| sample(plane) / top),
         _ => description.rgb(luma(sample(0)), chroma(sample(1)), chroma(sample(2))),
-    };
+    }
+}
+
+/// The pixel at a place, for a screen. What shines through is a board of two greys.
+pub fn pixel(frame: &HeifFrame, description: Description, x: u32, y: u32) -> Pixel {
+    let format = frame.format;
+    let top = f64::from(format.max_value());
     let alpha = format.alpha_plane().map_or(1.0, |alpha| {
         (f64::from(frame.sample(alpha, x, y)) / top).min(1.0)
     });
@@ -98,7 +125,7 @@ pub fn pixel(frame: &HeifFrame, description: Description, x: u32, y: u32) -> Pix
     } else {
         0.6
     };
-    rgb.map(|part| {
+    rgb(frame, description, x, y).map(|part| {
         let part = part.clamp(0.0, 1.0) * alpha + behind * (1.0 - alpha);
         (part * 255.0).round() as u8
     })

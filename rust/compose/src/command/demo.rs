@@ -1,7 +1,9 @@
 //! A small demonstration: a debris field joined from tiles, flags laid over it, turned and cropped.
 
 use super::colour::Description;
-use super::files::{about, say};
+use super::files::{about, counted, say};
+use super::options::{FORCE, FORMAT, OUT, Opt};
+use super::pictures::{Format, Pictures, Target};
 use super::view::Screen;
 use super::words::Words;
 use super::{Command, Failure};
@@ -9,30 +11,64 @@ use compose::image::{Chroma, HeifFrame, HeifPixelFormat};
 use compose::props::{Clap, CropRect, Irot, Property, PropertyEntry};
 use compose::{
     GridDescriptor, OverlayDescriptor, OverlayInput, Result as Answer, Scene, Shows,
-    apply_transforms, chain, composite_grid, composite_overlay, fill_to_ycbcr, point, tray,
+    apply_transforms, attach_alpha, chain, composite_grid, composite_overlay, fill_to_ycbcr, point,
+    tray,
 };
 
 pub const DEMO: Command = Command {
     name: "demo",
     takes: "",
+    options: &[
+        Opt {
+            value: "FOLDER",
+            about: "writes the pictures to this folder, too, which is made where it is missing",
+            ..OUT
+        },
+        Opt {
+            about: "replaces what is there already",
+            ..FORCE
+        },
+        Opt {
+            about: "how they are written: record, y4m, pgm, ppm or pam; else ppm",
+            ..FORMAT
+        },
+    ],
     about: "a debris field with flags, step by step",
     more: "\
-Shows a debris field that is joined from four tiles, the same with three flags laid over it, and what
-is left when that is turned and cropped; then asks, of that, where each flag came from.
+Shows a debris field that is joined from four tiles, the same with three flags laid over it, a searched
+strip blended over that, and what is left when the one with the flags is turned and cropped; then asks,
+of that, where each flag came from.
+  compose demo -o pictures
 ",
     run,
 };
 
 fn run(words: &mut Words) -> Result<(), Failure> {
     words.end()?;
+    let targets = targets(words)?;
     let refused = |refusal| words.refused(refusal);
     let desk = Desk::new().map_err(refused)?;
-    for (title, frame) in desk.pictures().map_err(refused)? {
-        let shown = Screen::usual().show(&frame, Description::DEFAULT);
-        say(&format!("{title}: {}\n{shown}\n", about(&frame)))?;
+    let pictures = desk.pictures().map_err(refused)?;
+    for (title, frame) in &pictures {
+        let shown = Screen::usual().show(frame, Description::DEFAULT);
+        say(&format!("{title}: {}\n{shown}\n", about(frame)))?;
     }
     say(&desk.origins().map_err(refused)?)?;
+    for ((_, frame), target) in pictures.iter().zip(&targets) {
+        let record = frame.to_record().map_err(refused)?;
+        Pictures::of(Description::DEFAULT).write(words, target, &record)?;
+    }
     say("compose --help says what else there is.\n")
+}
+
+/// The files of the pictures, where a folder is named; none is written unless all can be.
+fn targets(words: &Words) -> Result<Vec<Target>, Failure> {
+    let Some(folder) = words.option(OUT.name) else {
+        return Ok(Vec::new());
+    };
+    let names = ["field", "marked", "searched", "shown"];
+    let targets = names.map(|name| Target::in_folder(words, folder, name, Format::Ppm));
+    targets.into_iter().collect()
 }
 
 /// Rows and columns of tiles, and the sides of each.
@@ -94,18 +130,26 @@ impl Desk {
     }
 
     /// The pictures that are shown, each with its title.
-    fn pictures(&self) -> Answer<[(&'static str, HeifFrame); 3]> {
+    fn pictures(&self) -> Answer<[(&'static str, HeifFrame); 4]> {
         let field = composite_grid(&Self::grid(), &self.tiles)?;
         let inputs: Vec<OverlayInput> = std::iter::once(&field)
             .chain(&self.flags)
             .map(|frame| OverlayInput::new(frame, false))
             .collect();
         let marked = composite_overlay(&Self::places(), &inputs, None)?;
+        let searched = searched(&marked)?;
         let shown = apply_transforms(&marked, &self.chain, false)?;
         Ok([
             ("A debris field, joined from four tiles", field),
             ("Three flags laid over it", marked),
-            ("Turned a quarter anticlockwise, and cropped", shown),
+            (
+                "A searched strip blended over it, clearer to the right",
+                searched,
+            ),
+            (
+                "The flags, turned a quarter anticlockwise, and cropped",
+                shown,
+            ),
         ])
     }
 }
@@ -133,8 +177,12 @@ impl Desk {
             _ => (part.height, part.width),
         };
         let mut text = format!(
-            "The last picture is {} × {} from ({}, {}) of the one before, {} quarter turns.\n",
-            part.width, part.height, part.x, part.y, whole.turns
+            "The last picture is {} × {} from ({}, {}) of the one with the flags, {}.\n",
+            part.width,
+            part.height,
+            part.x,
+            part.y,
+            counted(usize::from(whole.turns), "quarter turn")
         );
         let mut seen = [0; 1 + FLAGS.len()];
         let mut lines = vec![String::new(); 1 + FLAGS.len()];
@@ -160,10 +208,25 @@ impl Desk {
             };
         }
         for (line, places) in lines.iter().zip(seen) {
-            text += &format!("  {line}: the first of {places} places\n");
+            text += &format!("  {line}: the first of {}\n", counted(places, "place"));
         }
         Ok(text + "\n")
     }
+}
+
+/// A strip of green over the field, from opaque on its left to clear on its right.
+fn searched(marked: &HeifFrame) -> Answer<HeifFrame> {
+    let size = (FIELD.0, 10);
+    let green = drawn(size, |_, _| paint([40, 160, 70], 255))?;
+    let mut opacity = HeifFrame::zeroed(size.0, size.1, green.format.with_chroma(Chroma::Mono))?;
+    for (x, y) in (0..size.1).flat_map(|y| (0..size.0).map(move |x| (x, y))) {
+        opacity.set_sample(0, x, y, (255 * (size.0 - x) / size.0) as u16);
+    }
+    let strip = attach_alpha(&green, &opacity)?;
+    let places = vec![(0, 0), (0, FIELD.1 as i32 - 16)];
+    let places = OverlayDescriptor::new([0, 0, 0, 65_535], FIELD.0, FIELD.1, places);
+    let inputs = [marked, &strip].map(|frame| OverlayInput::new(frame, false));
+    composite_overlay(&places, &inputs, None)
 }
 
 /// A colour of 8 bits a channel, at a light from 0 to 255, in samples.

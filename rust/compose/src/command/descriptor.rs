@@ -1,6 +1,7 @@
 //! What descriptor bodies hold.
 
-use super::files::{read, say, write};
+use super::files::{counted, read, say};
+use super::options::{FORCE, OUT};
 use super::words::Words;
 use super::{Command, Failure};
 use compose::{GridDescriptor, OverlayDescriptor};
@@ -8,6 +9,7 @@ use compose::{GridDescriptor, OverlayDescriptor};
 pub const DESCRIPTOR: Command = Command {
     name: "descriptor",
     takes: "grid|overlay BODY [COUNT]",
+    options: &[],
     about: "what a descriptor body holds",
     more: "\
 BODY is a file with the body of a grid or an overlay item (ISO/IEC 23008-12, 6.6.2). Of a grid it
@@ -20,56 +22,48 @@ its fill and a line an input: its index and how far right of and below the canva
 
 pub const BODY: Command = Command {
     name: "body",
-    takes: "grid|overlay FIELD.. OUT",
+    takes: "grid|overlay FIELD..",
+    options: &[OUT, FORCE],
     about: "a descriptor body",
     more: "\
 Writes the body of a grid, from rows and columns of tiles and the size of its canvas:
-  compose body grid ROWS COLUMNS WIDTH HEIGHT OUT
+  compose body grid ROWS COLUMNS WIDTH HEIGHT -o OUT
 or of an overlay, from the size of its canvas, its fill (from 0 to 65535; an ALPHA of 65535 is
 opaque), and how far right of and below the canvas's corner each input goes:
-  compose body overlay WIDTH HEIGHT RED GREEN BLUE ALPHA OUT [RIGHT BELOW]..
+  compose body overlay WIDTH HEIGHT RED GREEN BLUE ALPHA [RIGHT BELOW].. -o OUT
 ",
     run: run_body,
 };
 
 fn run_body(words: &mut Words) -> Result<(), Failure> {
     let sort = words.next("grid or overlay")?;
-    let (out, body) = match sort.as_str() {
+    let body = match sort.as_str() {
         "grid" => {
             let [rows, columns] = words.numbers(["ROWS", "COLUMNS"])?;
             let [width, height] = words.numbers(["WIDTH", "HEIGHT"])?;
-            let out = words.next("OUT")?;
-            words.end()?;
-            if ![rows, columns]
-                .iter()
-                .all(|tiles| (1..=256).contains(tiles))
-            {
-                return Err(words.wrong("ROWS and COLUMNS go from 1 to 256".into()));
-            }
-            let body = GridDescriptor::new(rows, columns, width, height).to_bytes();
-            (out, GridDescriptor::parse(&body).map(|_| body))
+            GridDescriptor::new(rows, columns, width, height).body()
         }
         "overlay" => {
             let [width, height] = words.numbers(["WIDTH", "HEIGHT"])?;
             let fill = words.numbers(["RED", "GREEN", "BLUE", "ALPHA"])?;
-            let out = words.next("OUT")?;
             let mut offsets = Vec::new();
             while !words.is_empty() {
                 offsets.push((words.number("RIGHT")?, words.number("BELOW")?));
             }
             let count = offsets.len();
             let body = OverlayDescriptor::new(fill, width, height, offsets).to_bytes();
-            (out, OverlayDescriptor::parse(&body, count).map(|_| body))
+            OverlayDescriptor::parse(&body, count).map(|_| body)
         }
         _ => return Err(words.wrong(format!("it takes grid or overlay, not {sort}"))),
     };
+    let out = words.output()?;
     let body = body.map_err(|refusal| words.refused(refusal))?;
-    write(&out, &body, &format!("{sort} body"))
+    out.write(&body, &format!("{sort} body"))
 }
 
 fn run(words: &mut Words) -> Result<(), Failure> {
     let sort = words.next("grid or overlay")?;
-    let file = words.next("BODY")?;
+    let file = words.file("BODY")?;
     let text = match sort.as_str() {
         "grid" => {
             words.end()?;
@@ -82,7 +76,7 @@ fn run(words: &mut Words) -> Result<(), Failure> {
         }
         _ => return Err(words.wrong(format!("it takes grid or overlay, not {sort}"))),
     };
-    say(&text.map_err(|refusal| words.refused(refusal))?)
+    say(&text.map_err(|refusal| words.refused_in(&file, refusal))?)
 }
 
 fn about_grid(grid: GridDescriptor) -> String {
@@ -95,10 +89,10 @@ fn about_grid(grid: GridDescriptor) -> String {
 fn about_overlay(overlay: OverlayDescriptor) -> String {
     let [red, green, blue, alpha] = overlay.canvas_fill;
     let mut text = format!(
-        "{} × {}, fill {red} {green} {blue}, alpha {alpha}, {} inputs\n",
+        "{} × {}, fill {red} {green} {blue}, alpha {alpha}, {}\n",
         overlay.output_width,
         overlay.output_height,
-        overlay.offsets.len()
+        counted(overlay.offsets.len(), "input")
     );
     for (index, (right, below)) in overlay.offsets.iter().enumerate() {
         text += &format!("{index:>5}  {right} {below}\n");

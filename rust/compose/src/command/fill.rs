@@ -2,21 +2,27 @@
 
 use super::colour::Description;
 use super::files::say;
+use super::options::{MATRIX, Opt, STUDIO};
 use super::words::Words;
 use super::{Command, Failure};
 use compose::fill;
 
 pub const FILL: Command = Command {
     name: "fill",
-    takes: "RED GREEN BLUE [OPTION..]",
+    takes: "RED GREEN BLUE",
+    options: &[
+        Opt {
+            name: "--depth",
+            value: "N",
+            about: "the depth of the samples, 8 where none is given",
+        },
+        MATRIX,
+        STUDIO,
+    ],
     about: "the samples of a colour",
     more: "\
 RED, GREEN and BLUE go from 0 to 65535. Prints luma, Cb and Cr, or for matrix 0 G, B and R.
   compose fill 65535 0 0             76 85 255
-
---depth N    the depth of the samples, 8 where none is given
---matrix N   a matrix number of ITU-T H.273, 6 where none is given
---studio     the range that keeps clear of both ends; else the full range
 ",
     run,
 };

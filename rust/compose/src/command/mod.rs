@@ -7,20 +7,28 @@ mod descriptor;
 mod files;
 mod fill;
 mod operation;
+mod options;
+mod pages;
+mod parts;
+mod pictures;
+mod progress;
 mod properties;
 mod records;
+mod terminal;
 mod view;
 mod words;
 
 use compose::Refusal;
+use options::Opt;
 use std::fmt;
 use words::Words;
 
 /// One command.
 struct Command {
     name: &'static str,
-    /// The words after the name, as a usage line has them.
+    /// The words after the name, as a usage line has them; options are named apart.
     takes: &'static str,
+    options: &'static [Opt],
     /// One line.
     about: &'static str,
     /// What more a newcomer may want to know.
@@ -62,8 +70,9 @@ const FAMILIES: &[Family] = &[
         commands: &[properties::RESOLVE, properties::STEPS],
     },
     Family {
-        title: "Change one record",
+        title: "Change one picture",
         commands: &[
+            operation::CONVERT,
             operation::CROP,
             operation::CLAP,
             operation::IROT,
@@ -83,6 +92,10 @@ const FAMILIES: &[Family] = &[
             composing::POINT,
         ],
     },
+    Family {
+        title: "Set up",
+        commands: &[pages::MAN, pages::COMPLETIONS],
+    },
 ];
 
 /// Why a command did nothing.
@@ -90,6 +103,8 @@ pub enum Failure {
     /// The composer refused.
     Refused {
         command: &'static str,
+        /// The file that is refused, and its part; none where it is the words, or several files.
+        part: Option<String>,
         refusal: Refusal,
     },
     /// The words are not what the command takes.
@@ -101,7 +116,14 @@ pub enum Failure {
 impl fmt::Display for Failure {
     fn fmt(&self, f: &mut fmt::Formatter<'_>) -> fmt::Result {
         match self {
-            Self::Refused { command, refusal } => write!(f, "compose {command}: {refusal}"),
+            Self::Refused {
+                command,
+                part: Some(part),
+                refusal,
+            } => write!(f, "compose {command}: {part}: {refusal}"),
+            Self::Refused {
+                command, refusal, ..
+            } => write!(f, "compose {command}: {refusal}"),
             Self::Usage { complaint, usage } => write!(f, "compose: {complaint}\n{usage}"),
             Self::File { complaint } => write!(f, "compose: {complaint}"),
         }
@@ -109,10 +131,26 @@ impl fmt::Display for Failure {
 }
 
 impl Command {
+    /// The words after `compose`, as the help lists them: with the output, without other options.
+    fn takes(&self) -> String {
+        let mut takes = format!("{} {}", self.name, self.takes);
+        if self
+            .options
+            .iter()
+            .any(|one| one.value == options::OUT.value)
+        {
+            takes += &format!(" {}", options::OUT.usage());
+        }
+        takes.trim_end().replace("  ", " ")
+    }
+
     fn usage(&self) -> String {
-        format!("compose {} {}", self.name, self.takes)
-            .trim_end()
-            .to_string()
+        let others = self
+            .options
+            .iter()
+            .any(|one| one.value != options::OUT.value);
+        let others = if others { " [OPTION..]" } else { "" };
+        format!("compose {}{others}", self.takes())
     }
 }
 
@@ -120,51 +158,14 @@ fn commands() -> impl Iterator<Item = &'static Command> {
     FAMILIES.iter().flat_map(|family| family.commands)
 }
 
-const ABOUT: &str = "\
-compose: pictures from tiles and marks, by code that is proved
-
-A picture is a record: a file that holds its width, height, chroma, depth and alpha, then its planes
-of samples. Several records in one file are a tray. Try:
-
-  compose example slope.rec          a small picture to begin with
-  compose view slope.rec             shows it here
-  compose irot slope.rec 1 up.rec    turns it a quarter anticlockwise
-  compose view up.rec --ppm up.ppm   shows the turned one, and writes it for other programs
-
-";
-
-const ENDS: &str = "\
-A file called - is standard input, or standard output. What the composer does not take it refuses by
-a number and a name, and then nothing is written. Exit status: 0 done, 1 wrong words or a file that
-cannot be read or written, 2 refused.
-
-compose help NAME says more of one command, compose help refusals what the numbers mean.
-";
-
 /// The help: all commands, one, or the refusals.
 fn help(of: Option<&str>) -> Result<String, Failure> {
-    let Some(name) = of else {
-        let mut text = ABOUT.to_string();
-        for family in FAMILIES {
-            text += &format!("{}:\n", family.title);
-            for command in family.commands {
-                let usage = format!("{} {}", command.name, command.takes);
-                text += &format!("  {usage:<41} {}\n", command.about);
-            }
-            text += "\n";
-        }
-        return Ok(text + ENDS);
-    };
-    if name == "refusals" {
-        let line = |refusal: &Refusal| {
-            let (number, name) = (refusal.number(), refusal.name());
-            format!("{number:>3}  {name:<10} {}\n", refusal.meaning())
-        };
-        return Ok(Refusal::ALL.iter().map(line).collect());
+    let columns = pages::width();
+    match of {
+        None => Ok(pages::all(columns)),
+        Some("refusals") => Ok(pages::refusals()),
+        Some(name) => Ok(pages::of(find(name)?, columns)),
     }
-    let command = find(name)?;
-    let (usage, about) = (command.usage(), command.about);
-    Ok(format!("usage: {usage}\n\n{about}\n\n{}", command.more))
 }
 
 fn find(name: &str) -> Result<&'static Command, Failure> {
@@ -179,23 +180,21 @@ fn find(name: &str) -> Result<&'static Command, Failure> {
 /// Runs what the words ask for. Without a word it is the demonstration.
 pub fn run(words: &[String]) -> Result<(), Failure> {
     let asks = |word: &String| ["--help", "-h"].contains(&word.as_str());
-    match words {
-        [] => run_command(&demo::DEMO, &[]),
-        [first] if asks(first) => files::say(&help(None)?),
-        [first, rest @ ..] if first == "help" => {
-            files::say(&help(rest.first().map(String::as_str))?)
-        }
-        [name, rest @ ..] => {
-            let command = find(name)?;
-            if rest.iter().any(asks) {
-                return files::say(&help(Some(name))?);
-            }
-            run_command(command, rest)
-        }
+    let Some((first, rest)) = words.split_first() else {
+        return run_command(&demo::DEMO, &[]);
+    };
+    match first.as_str() {
+        "help" | "--help" | "-h" => files::say(&help(rest.first().map(String::as_str))?),
+        "--version" | "-V" => files::say(concat!("compose ", env!("CARGO_PKG_VERSION"), "\n")),
+        name if rest.iter().any(asks) => files::say(&help(Some(name))?),
+        name => run_command(find(name)?, rest),
     }
 }
 
 fn run_command(command: &'static Command, words: &[String]) -> Result<(), Failure> {
-    let mut words = Words::new(command.name, command.usage(), words);
-    (command.run)(&mut words)
+    let mut words = Words::new(command, words)?;
+    progress::start(command.name);
+    let ended = (command.run)(&mut words);
+    progress::clear();
+    ended
 }

@@ -1,17 +1,34 @@
-//! Operations on one record.
+//! Operations on one picture.
 
-use super::files::{about, read, write};
+use super::options::PICTURE;
+use super::pictures::{Pictures, Target};
 use super::words::Words;
 use super::{Command, Failure};
+use compose::Result as Answer;
 use compose::operation::{
     attach_alpha, clap, crop, imir, irot, iscl, rescale_depth, resize_nearest,
 };
 use compose::props::Iscl;
-use compose::{HeifFrame, Result as Answer};
+
+pub const CONVERT: Command = Command {
+    name: "convert",
+    takes: "PICTURE",
+    options: PICTURE,
+    about: "the same in another format",
+    more: "\
+Writes a picture as a record, or as other programs read it: Y4M (its planes as they are), PGM (grey), PPM
+(red, green, blue) or PAM (either, with alpha), at the depth that it has. Nothing is lost: what a format
+cannot hold is not written.
+  compose convert tile.y4m -o tile.rec
+  compose convert slope.rec --matrix 6 -o slope.ppm
+",
+    run: run_convert,
+};
 
 pub const CROP: Command = Command {
     name: "crop",
-    takes: "RECORD X Y WIDTH HEIGHT OUT",
+    takes: "PICTURE X Y WIDTH HEIGHT",
+    options: PICTURE,
     about: "the part in a rectangle",
     more: "\
 X and Y count from 0, from the left and the top. Where the chroma is halved and an edge or a size is
@@ -22,19 +39,21 @@ odd, the picture is promoted to 4:4:4.
 
 pub const CLAP: Command = Command {
     name: "clap",
-    takes: "RECORD WN WD HN HD XN XD YN YD OUT",
+    takes: "PICTURE WN WD HN HD XN XD YN YD",
+    options: PICTURE,
     about: "the part in a clean aperture",
     more: "\
 The aperture is WN/WD wide and HN/HD high; its centre lies XN/XD to the right of the picture's and
 YN/YD below it (XN and YN may be negative). Size and edges must come out whole.
-  compose clap slope.rec 24 1 16 1 0 1 -2 1 part.rec
+  compose clap slope.rec 24 1 16 1 0 1 -2 1 -o part.rec
 ",
     run: run_clap,
 };
 
 pub const IROT: Command = Command {
     name: "irot",
-    takes: "RECORD ANGLE OUT",
+    takes: "PICTURE ANGLE",
+    options: PICTURE,
     about: "turned anticlockwise",
     more: "ANGLE is the number of quarter turns, 0 to 255; 4 of them are none.\n",
     run: run_irot,
@@ -42,7 +61,8 @@ pub const IROT: Command = Command {
 
 pub const IMIR: Command = Command {
     name: "imir",
-    takes: "RECORD AXIS OUT",
+    takes: "PICTURE AXIS",
+    options: PICTURE,
     about: "mirrored",
     more: "AXIS 0 exchanges top and bottom, 1 left and right.\n",
     run: run_imir,
@@ -50,27 +70,30 @@ pub const IMIR: Command = Command {
 
 pub const ISCL: Command = Command {
     name: "iscl",
-    takes: "RECORD WN WD HN HD OUT",
+    takes: "PICTURE WN WD HN HD",
+    options: PICTURE,
     about: "scaled by two fractions",
     more: "\
 The width becomes WN/WD of what it is, the height HN/HD, both rounded up; samples are means of what
 they cover. The four numbers go from 1 to 65535.
-  compose iscl slope.rec 1 2 1 2 small.rec
+  compose iscl slope.rec 1 2 1 2 -o small.rec
 ",
     run: run_iscl,
 };
 
 pub const NEAREST: Command = Command {
     name: "nearest",
-    takes: "RECORD WIDTH HEIGHT OUT",
+    takes: "PICTURE WIDTH HEIGHT",
+    options: PICTURE,
     about: "at another size, by nearest samples",
-    more: "  compose nearest slope.rec 96 64 large.rec\n",
+    more: "  compose nearest slope.rec 96 64 -o large.rec\n",
     run: run_nearest,
 };
 
 pub const DEPTH: Command = Command {
     name: "depth",
-    takes: "RECORD DEPTH OUT",
+    takes: "PICTURE DEPTH",
+    options: PICTURE,
     about: "at another depth",
     more: "DEPTH goes from 8 to 16; each sample keeps its part of the largest one.\n",
     run: run_depth,
@@ -78,83 +101,84 @@ pub const DEPTH: Command = Command {
 
 pub const ATTACH: Command = Command {
     name: "attach",
-    takes: "RECORD ALPHA OUT",
-    about: "with another record as its alpha",
+    takes: "PICTURE ALPHA",
+    options: PICTURE,
+    about: "with another picture as its alpha",
     more: "\
-The luma of the record ALPHA becomes the alpha plane, brought to the size and the depth of RECORD. An
-alpha plane that RECORD had is dropped.
+The luma of the picture ALPHA becomes the alpha plane, brought to the size and the depth of PICTURE. An
+alpha plane that PICTURE had is dropped.
+  compose attach slope.rec shade.pgm -o shaded.pam --matrix 6
 ",
     run: run_attach,
 };
 
-/// The last word, then one operation from a record to it.
+/// One operation, from a picture to the output.
 fn apply(
-    words: &mut Words,
+    words: &Words,
     file: &str,
     operation: impl Fn(&[u8]) -> Answer<Vec<u8>>,
 ) -> Result<(), Failure> {
-    let out = words.next("OUT")?;
-    words.end()?;
-    let record = read(file)?;
-    keep(words, &out, operation(&record))
+    let mut pictures = Pictures::take(words)?;
+    let target = Target::take(words)?;
+    let record = pictures.read(words, file)?;
+    let made = operation(&record).map_err(|refusal| words.refused(refusal))?;
+    pictures.write(words, &target, &made)
 }
 
-/// Writes the record that a call made.
-pub fn keep(words: &Words, out: &str, made: Answer<Vec<u8>>) -> Result<(), Failure> {
-    let refused = |refusal| words.refused(refusal);
-    let made = made.map_err(refused)?;
-    let frame = HeifFrame::from_record(&made).map_err(refused)?;
-    write(out, &made, &about(&frame))
+fn run_convert(words: &mut Words) -> Result<(), Failure> {
+    let file = words.file("PICTURE")?;
+    apply(words, &file, |record| Ok(record.to_vec()))
 }
 
 fn run_crop(words: &mut Words) -> Result<(), Failure> {
-    let file = words.next("RECORD")?;
+    let file = words.file("PICTURE")?;
     let [x, y, width, height] = words.numbers(["X", "Y", "WIDTH", "HEIGHT"])?;
     apply(words, &file, |record| crop(record, x, y, width, height))
 }
 
 fn run_clap(words: &mut Words) -> Result<(), Failure> {
-    let file = words.next("RECORD")?;
+    let file = words.file("PICTURE")?;
     let aperture = words.clap()?;
     apply(words, &file, |record| clap(record, &aperture))
 }
 
 fn run_irot(words: &mut Words) -> Result<(), Failure> {
-    let file = words.next("RECORD")?;
+    let file = words.file("PICTURE")?;
     let angle = words.number("ANGLE")?;
     apply(words, &file, |record| irot(record, angle))
 }
 
 fn run_imir(words: &mut Words) -> Result<(), Failure> {
-    let file = words.next("RECORD")?;
+    let file = words.file("PICTURE")?;
     let axis = words.number("AXIS")?;
     apply(words, &file, |record| imir(record, axis))
 }
 
 fn run_iscl(words: &mut Words) -> Result<(), Failure> {
-    let file = words.next("RECORD")?;
+    let file = words.file("PICTURE")?;
     let [width_num, width_den, height_num, height_den] = words.numbers(["WN", "WD", "HN", "HD"])?;
     let scale = Iscl::new(width_num, width_den, height_num, height_den);
     apply(words, &file, |record| iscl(record, &scale))
 }
 
 fn run_nearest(words: &mut Words) -> Result<(), Failure> {
-    let file = words.next("RECORD")?;
+    let file = words.file("PICTURE")?;
     let [width, height] = words.numbers(["WIDTH", "HEIGHT"])?;
     apply(words, &file, |record| resize_nearest(record, width, height))
 }
 
 fn run_depth(words: &mut Words) -> Result<(), Failure> {
-    let file = words.next("RECORD")?;
+    let file = words.file("PICTURE")?;
     let depth = words.number("DEPTH")?;
     apply(words, &file, |record| rescale_depth(record, depth))
 }
 
 fn run_attach(words: &mut Words) -> Result<(), Failure> {
-    let file = words.next("RECORD")?;
-    let alpha = words.next("ALPHA")?;
-    let out = words.next("OUT")?;
-    words.end()?;
-    let (record, alpha) = (read(&file)?, read(&alpha)?);
-    keep(words, &out, attach_alpha(&record, &alpha))
+    let [file, alpha] = words.files(["PICTURE", "ALPHA"])?;
+    let mut pictures = Pictures::take(words)?;
+    let target = Target::take(words)?;
+    let master = pictures.read(words, &file)?;
+    let alpha = pictures.read(words, &alpha)?;
+    let made = attach_alpha(&master, &alpha).map_err(|refusal| words.refused(refusal))?;
+    pictures.write(words, &target, &made)
 }

@@ -1,6 +1,7 @@
 //! Chains, and the sizes that properties give.
 
-use super::files::{read, say, write};
+use super::files::{counted, read, say};
+use super::options::{FORCE, OUT};
 use super::words::Words;
 use super::{Command, Failure};
 use compose::props::{Clap, Imir, Irot, Iscl, Property, PropertyEntry};
@@ -9,6 +10,7 @@ use compose::{chain, steps};
 pub const CHAIN: Command = Command {
     name: "chain",
     takes: "CHAIN",
+    options: &[],
     about: "what a chain of properties holds",
     more: "\
 Prints how many entries there are, then a line an entry: its index, its property with the fields as
@@ -20,19 +22,19 @@ Prints how many entries there are, then a line an entry: its index, its property
 
 pub const ENTRIES: Command = Command {
     name: "entries",
-    takes: "OUT [PROPERTY FIELD..]..",
+    takes: "[PROPERTY FIELD..]..",
+    options: &[OUT, FORCE],
     about: "a chain of properties",
     more: "\
 Writes the chain of these properties, in this order; of none, too. A property is one of
   clap WN WD HN HD XN XD YN YD   irot ANGLE   imir AXIS   iscl WN WD HN HD   other
 and one with a ! behind its name is essential.
-  compose entries turn.chain irot! 1 clap 24 1 16 1 0 1 -2 1
+  compose entries irot! 1 clap 24 1 16 1 0 1 -2 1 -o turn.chain
 ",
     run: run_entries,
 };
 
 fn run_entries(words: &mut Words) -> Result<(), Failure> {
-    let out = words.next("OUT")?;
     let mut entries = Vec::new();
     while !words.is_empty() {
         let word = words.next("PROPERTY")?;
@@ -50,13 +52,15 @@ fn run_entries(words: &mut Words) -> Result<(), Failure> {
         };
         entries.push(PropertyEntry::new(0, name != word, property));
     }
+    let out = words.output()?;
     let chain = chain::join(&entries).map_err(|refusal| words.refused(refusal))?;
-    write(&out, &chain, &format!("{} entries", entries.len()))
+    out.write(&chain, &counted(entries.len(), "entry"))
 }
 
 pub const RESOLVE: Command = Command {
     name: "resolve",
     takes: "clap|iscl WIDTH HEIGHT FIELD..",
+    options: &[],
     about: "what a property makes of a size",
     more: "\
 Of a picture of that size, for
@@ -72,12 +76,15 @@ picture's and below it (XN and YN may be negative).
 
 pub const STEPS: Command = Command {
     name: "steps",
-    takes: "INPUT",
+    takes: "WIDTH HEIGHT CHAIN",
+    options: &[],
     about: "the size after each entry of a chain",
     more: "\
-INPUT is a width, a height and a chain. Prints what the program steps does: a heading, then a line an
-entry with its index, its kind and the size after it. A refused entry ends the text, and input that
-is refused has only that; the text is printed all the same, and the exit status is 2.
+Prints what the program steps does of a picture of that size: a heading, then a line an entry with its
+index, its kind and the size after it. A refused entry ends the text, and input that is refused has only
+that; the text is printed all the same, and the exit status is 2.
+  compose steps 48 32 turn.chain
+One file alone is the program's own input: a width, a height and a chain.
   printf '\\6\\4\\2\\2\\1\\1\\3\\0\\1' | compose steps -
 ",
     run: run_steps,
@@ -115,10 +122,11 @@ fn about(property: &Property) -> String {
 }
 
 fn run_chain(words: &mut Words) -> Result<(), Failure> {
-    let file = words.next("CHAIN")?;
+    let file = words.file("CHAIN")?;
     words.end()?;
-    let entries = chain::entries(&read(&file)?).map_err(|refusal| words.refused(refusal))?;
-    let mut text = format!("{} entries\n", entries.len());
+    let entries = chain::entries(&read(&file)?);
+    let entries = entries.map_err(|refusal| words.refused_in(&file, refusal))?;
+    let mut text = format!("{}\n", counted(entries.len(), "entry"));
     for (index, entry) in entries.iter().enumerate() {
         let PropertyEntry {
             essential,
@@ -161,9 +169,16 @@ fn resolve_iscl(words: &mut Words) -> Result<Vec<u32>, Failure> {
 }
 
 fn run_steps(words: &mut Words) -> Result<(), Failure> {
-    let file = words.next("INPUT")?;
-    words.end()?;
-    let text = steps::text(&read(&file)?);
+    let input = match words.len() {
+        1 => read(&words.file("INPUT")?)?,
+        _ => {
+            let [width, height] = words.numbers(["WIDTH", "HEIGHT"])?;
+            let file = words.file("CHAIN")?;
+            words.end()?;
+            steps::input(width, height, &read(&file)?)
+        }
+    };
+    let text = steps::text(&input);
     say(&text)?;
     match steps::refusal(&text) {
         Some(refusal) => Err(words.refused(refusal)),

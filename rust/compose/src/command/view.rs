@@ -1,81 +1,77 @@
-//! Showing a picture in a terminal, and writing it as PPM.
+//! Showing a picture in a terminal.
 
 use super::colour::{Description, Pixel, pixel};
-use super::files::{about, read, say, write};
+use super::files::{about, say};
+use super::options::{MATRIX, Opt, STUDIO};
+use super::pictures::Pictures;
+use super::terminal::Colours;
 use super::words::Words;
-use super::{Command, Failure};
+use super::{Command, Failure, terminal};
 use compose::HeifFrame;
-use std::env;
-use std::io::{IsTerminal, stdout};
 
 pub const VIEW: Command = Command {
     name: "view",
-    takes: "RECORD [OPTION..]",
+    takes: "PICTURE",
+    options: &[
+        Opt {
+            name: "--columns",
+            value: "N",
+            about: "how wide it may be; else COLUMNS, the terminal's width, or 80",
+        },
+        Opt {
+            name: "--colour",
+            value: "",
+            about: "in colour; this is how it is in a terminal that has colours, unless NO_COLOR is set",
+        },
+        Opt {
+            name: "--plain",
+            value: "",
+            about: "in shades of text; this is how it is elsewhere",
+        },
+        Opt {
+            about: "what the samples stand for, a matrix number of ITU-T H.273; else what the format of \
+                    the file says of them, or 6 (BT.601)",
+            ..MATRIX
+        },
+        STUDIO,
+    ],
     about: "shows a picture here",
     more: "\
 Shows the picture with two pixels to a character, made smaller where it is too wide and larger where
-it is very small. Where it has alpha, a board of two greys shines through.
-
---ppm FILE   writes it whole as PPM, too, at 8 bits, for other programs
---columns N  how wide it may be; else the terminal's width (COLUMNS, or 80)
---colour     in colour; this is how it is in a terminal, unless NO_COLOR is set
---plain      in shades of text; this is how it is elsewhere
---matrix N   what the samples stand for, as with compose fill
---studio     the same
+it is very small. Where it has alpha, a board of two greys shines through. What is shown is for eyes;
+`compose convert` writes a picture for other programs.
 ",
     run,
 };
 
 fn run(words: &mut Words) -> Result<(), Failure> {
-    let description = Description::take(words)?;
-    let ppm = words.option("--ppm")?;
     let columns = words.number_option("--columns")?.filter(|n| *n > 0);
     let (colour, plain) = (words.flag("--colour"), words.flag("--plain"));
-    let file = words.next("RECORD")?;
+    let file = words.file("PICTURE")?;
     words.end()?;
-    let bytes = read(&file)?;
-    let frame = HeifFrame::from_record(&bytes).map_err(|refusal| words.refused(refusal))?;
-    if ppm.as_deref() == Some("-") {
-        return write("-", &as_ppm(&frame, description), "");
+    let mut pictures = Pictures::take(words)?;
+    let record = pictures.read(words, &file)?;
+    let frame = HeifFrame::from_record(&record).map_err(|refusal| words.refused(refusal))?;
+    let mut screen = Screen::usual();
+    screen.columns = columns.unwrap_or(screen.columns);
+    if plain {
+        screen.colours = Colours::None;
+    } else if colour && screen.colours == Colours::None {
+        screen.colours = Colours::All;
     }
-    let screen = Screen {
-        columns: columns.unwrap_or_else(terminal_columns),
-        colour: !plain && (colour || in_colour()),
-    };
-    let shown = screen.show(&frame, description);
-    say(&format!("{shown}{}\n", about(&frame)))?;
-    match ppm {
-        Some(ppm) => write(&ppm, &as_ppm(&frame, description), "PPM"),
-        None => Ok(()),
-    }
-}
-
-/// The picture as a PPM file.
-fn as_ppm(frame: &HeifFrame, description: Description) -> Vec<u8> {
-    let (width, height) = (frame.width, frame.height);
-    let mut ppm = format!("P6\n{width} {height}\n255\n").into_bytes();
-    for y in 0..height {
-        ppm.extend((0..width).flat_map(|x| pixel(frame, description, x, y)));
-    }
-    ppm
-}
-
-fn in_colour() -> bool {
-    env::var_os("NO_COLOR").is_none() && stdout().is_terminal()
-}
-
-fn terminal_columns() -> u32 {
-    let columns = env::var("COLUMNS").ok().and_then(|text| text.parse().ok());
-    columns.filter(|columns| *columns > 0).unwrap_or(80)
+    let shown = screen.show(&frame, pictures.description());
+    say(&format!("{shown}{}\n", about(&frame)))
 }
 
 /// Where a picture is shown.
 pub struct Screen {
     /// The most characters in a line.
     pub columns: u32,
-    /// Whether it has colours.
-    pub colour: bool,
+    pub colours: Colours,
 }
+
+/// How wide a screen is where there is no terminal.
+const COLUMNS: u32 = 80;
 
 /// Very small pictures are made this wide or high.
 const SMALL: u32 = 32;
@@ -87,8 +83,8 @@ impl Screen {
     /// The screen that standard output is.
     pub fn usual() -> Self {
         Self {
-            columns: terminal_columns(),
-            colour: in_colour(),
+            columns: terminal::columns().unwrap_or(COLUMNS),
+            colours: Colours::usual(),
         }
     }
 
@@ -128,25 +124,38 @@ impl Screen {
             for column in 0..columns {
                 let (above, below) = (shown(column, row), shown(column, row + 1));
                 let above = above.expect("a row that is shown");
-                if self.colour {
-                    text += &blocks(above, below);
-                } else {
-                    text.push(shade(above, below.unwrap_or(above)));
+                match self.colours {
+                    Colours::None => text.push(shade(above, below.unwrap_or(above))),
+                    colours => text += &halves(colours, above, below),
                 }
             }
-            text += if self.colour { "\x1b[0m\n" } else { "\n" };
+            text += match self.colours {
+                Colours::None => "\n",
+                _ => "\x1b[0m\n",
+            };
         }
         text
     }
 }
 
 /// A character whose upper half has one colour and whose lower half another, or none.
-fn blocks([red, green, blue]: Pixel, below: Option<Pixel>) -> String {
+fn halves(colours: Colours, above: Pixel, below: Option<Pixel>) -> String {
     let below = match below {
-        Some([red, green, blue]) => format!("\x1b[48;2;{red};{green};{blue}m"),
-        None => "\x1b[49m".into(),
+        Some(below) => format!("48;{}", code(colours, below)),
+        None => "49".into(),
     };
-    format!("\x1b[38;2;{red};{green};{blue}m{below}▀")
+    format!("\x1b[38;{}m\x1b[{below}m▀", code(colours, above))
+}
+
+/// A colour as terminals are told it.
+fn code(colours: Colours, [red, green, blue]: Pixel) -> String {
+    if colours == Colours::All {
+        return format!("2;{red};{green};{blue}");
+    }
+    // The cube's first level is 0, the others lie 40 apart from 95 on.
+    let level = |part: u8| u32::from(part.saturating_sub(35) / 40);
+    let place = 16 + 36 * level(red) + 6 * level(green) + level(blue);
+    format!("5;{place}")
 }
 
 /// A character as light as two pixels are together.
@@ -158,8 +167,15 @@ fn shade(above: Pixel, below: Pixel) -> char {
 
 #[cfg(test)]
 mod tests {
-    use super::{Description, Screen, as_ppm, shade};
+    use super::{Colours, Description, Screen, code, shade};
     use compose::image::{Chroma, HeifFrame, HeifPixelFormat, Plane};
+
+    fn plain(columns: u32) -> Screen {
+        Screen {
+            columns,
+            colours: Colours::None,
+        }
+    }
 
     fn row(samples: &[u8]) -> HeifFrame {
         let format = HeifPixelFormat::new(Chroma::Mono, 8, false).expect("a depth");
@@ -168,47 +184,36 @@ mod tests {
     }
 
     #[test]
-    fn ppm_has_a_header_and_three_bytes_a_pixel() {
-        let ppm = as_ppm(&row(&[7, 9]), Description::DEFAULT);
-        assert_eq!(ppm, b"P6\n2 1\n255\n\x07\x07\x07\x09\x09\x09");
-    }
-
-    #[test]
     fn pictures_fit_the_screen() {
-        let size = |columns, samples: &[u8]| {
-            let colour = false;
-            Screen { columns, colour }.size(&row(samples))
-        };
+        let size = |columns, samples: &[u8]| plain(columns).size(&row(samples));
         assert_eq!(size(80, &[0; 100]), (80, 1));
         assert_eq!(size(80, &[0; 40]), (40, 1));
         assert_eq!(size(80, &[0; 4]), (32, 8));
         assert_eq!(size(10, &[0; 4]), (8, 2));
         assert_eq!(size(2, &[0; 4]), (2, 1));
         let column = HeifFrame::new(1, 4_096, row(&[0]).format, Vec::new());
-        let colour = false;
-        assert_eq!(
-            Screen {
-                columns: 80,
-                colour
-            }
-            .size(&column),
-            (1, 160)
-        );
+        assert_eq!(plain(80).size(&column), (1, 160));
     }
 
     #[test]
     fn shades_go_from_dark_to_light() {
         assert_eq!(shade([0; 3], [0; 3]), ' ');
         assert_eq!(shade([255; 3], [255; 3]), '@');
-        let colour = false;
-        let shown = Screen { columns: 2, colour }.show(&row(&[0, 255]), Description::DEFAULT);
+        let shown = plain(2).show(&row(&[0, 255]), Description::DEFAULT);
         assert_eq!(shown, " @\n");
     }
 
     #[test]
     fn colours_are_terminal_codes() {
-        let colour = true;
-        let shown = Screen { columns: 1, colour }.show(&row(&[7]), Description::DEFAULT);
-        assert_eq!(shown, "\x1b[38;2;7;7;7m\x1b[49m▀\x1b[0m\n");
+        let shown = |colours| {
+            let screen = Screen {
+                columns: 1,
+                colours,
+            };
+            screen.show(&row(&[7]), Description::DEFAULT)
+        };
+        assert_eq!(shown(Colours::All), "\x1b[38;2;7;7;7m\x1b[49m▀\x1b[0m\n");
+        assert_eq!(shown(Colours::Table), "\x1b[38;5;16m\x1b[49m▀\x1b[0m\n");
+        assert_eq!(code(Colours::Table, [255, 95, 0]), "5;202");
     }
 }

@@ -1,8 +1,10 @@
 //! The words that a command is given.
 
-use super::Failure;
+use super::files::Output;
+use super::{Command, Failure, options};
 use compose::Refusal;
 use compose::props::Clap;
+use std::collections::VecDeque;
 use std::fmt::Display;
 use std::str::FromStr;
 
@@ -23,53 +25,131 @@ macro_rules! numbers {
 
 numbers! { u8 u16 u32 i32 }
 
-/// The words after a command's name; options are taken out wherever they stand.
+/// Whether a word is an option: not a negative number, and not the file called -.
+fn is_option(word: &str) -> bool {
+    let mut letters = word.chars();
+    letters.next() == Some('-') && letters.next().is_some_and(|c| !c.is_ascii_digit())
+}
+
+/// The words after a command's name. Options are taken out wherever they stand; behind -- there are
+/// none.
 pub struct Words {
-    command: &'static str,
-    usage: String,
-    rest: Vec<String>,
+    command: &'static Command,
+    rest: VecDeque<String>,
+    options: Vec<(&'static str, String)>,
+    /// The files that were taken as words, to be read.
+    handed_in: Vec<String>,
 }
 
 impl Words {
-    pub fn new(command: &'static str, usage: String, words: &[String]) -> Self {
-        let mut rest = words.to_vec();
-        rest.reverse();
-        Self {
+    pub fn new(command: &'static Command, given: &[String]) -> Result<Self, Failure> {
+        let mut words = Self {
             command,
-            usage,
-            rest,
+            rest: VecDeque::new(),
+            options: Vec::new(),
+            handed_in: Vec::new(),
+        };
+        let mut given = given.iter().cloned();
+        while let Some(word) = given.next() {
+            if word == "--" {
+                words.rest.extend(given);
+                break;
+            }
+            match is_option(&word) {
+                true => words.take_option(&word, &mut given)?,
+                false => words.rest.push_back(word),
+            }
         }
+        Ok(words)
+    }
+
+    /// An option, as `--matrix 6`, `--matrix=6` or `--studio`.
+    fn take_option(
+        &mut self,
+        word: &str,
+        given: &mut impl Iterator<Item = String>,
+    ) -> Result<(), Failure> {
+        let (name, value) = match word.split_once('=') {
+            Some((name, value)) if name.starts_with("--") => (name, Some(value.to_string())),
+            _ => (word, None),
+        };
+        let Some(option) = self.command.options.iter().find(|one| one.name == name) else {
+            let command = self.command.name;
+            return Err(self.wrong(format!("{name} is no option of {command}")));
+        };
+        if self.options.iter().any(|(given, _)| *given == name) {
+            return Err(self.wrong(format!("{name} is given twice")));
+        }
+        let value = match (option.value.is_empty(), value) {
+            (true, None) => String::new(),
+            (true, Some(_)) => return Err(self.wrong(format!("{name} takes no word"))),
+            (false, value) => value
+                .or_else(|| given.next())
+                .ok_or_else(|| self.wrong(format!("{name} takes a word")))?,
+        };
+        self.options.push((option.name, value));
+        Ok(())
     }
 
     /// What is wrong with the words.
     pub fn wrong(&self, complaint: String) -> Failure {
         Failure::Usage {
-            complaint: format!("{}: {complaint}", self.command),
-            usage: format!("usage: {}", self.usage),
+            complaint: format!("{}: {complaint}", self.command.name),
+            usage: format!("usage: {}", self.command.usage()),
         }
     }
 
     /// A refusal of the composer, of this command.
     pub fn refused(&self, refusal: Refusal) -> Failure {
+        self.refused_part(None, refusal)
+    }
+
+    /// The same of a file, or a part of one.
+    pub fn refused_in(&self, part: &str, refusal: Refusal) -> Failure {
+        self.refused_part(Some(part.into()), refusal)
+    }
+
+    /// The same, of a part where one is known.
+    pub fn refused_part(&self, part: Option<String>, refusal: Refusal) -> Failure {
         Failure::Refused {
-            command: self.command,
+            command: self.command.name,
+            part,
             refusal,
         }
     }
 
     /// The next word, which is `what`.
     pub fn next(&mut self, what: &str) -> Result<String, Failure> {
-        let next = self.rest.pop();
+        let next = self.rest.pop_front();
         next.ok_or_else(|| self.wrong(format!("{what} is missing")))
     }
 
-    /// The next words, one for each name.
+    /// The next word, a file that is read.
+    pub fn file(&mut self, what: &str) -> Result<String, Failure> {
+        let file = self.next(what)?;
+        self.handed_in.push(file.clone());
+        Ok(file)
+    }
+
+    /// The next words, a file for each name.
     pub fn files<const N: usize>(&mut self, names: [&str; N]) -> Result<[String; N], Failure> {
         let mut files = Vec::new();
         for name in names {
-            files.push(self.next(name)?);
+            files.push(self.file(name)?);
         }
-        Ok(files.try_into().expect("a word for each name"))
+        Ok(files.try_into().expect("a file for each name"))
+    }
+
+    /// All words that are left, files that are read.
+    pub fn other_files(&mut self) -> Vec<String> {
+        let files: Vec<String> = self.rest.drain(..).collect();
+        self.handed_in.extend_from_slice(&files);
+        files
+    }
+
+    /// How many words are left.
+    pub fn len(&self) -> usize {
+        self.rest.len()
     }
 
     /// Whether no word is left.
@@ -115,42 +195,38 @@ impl Words {
         ))
     }
 
-    /// Whether the option stands among the words. It is taken out.
-    pub fn flag(&mut self, option: &str) -> bool {
-        let at = self.rest.iter().position(|word| word == option);
-        at.map(|at| self.rest.remove(at)).is_some()
+    /// Whether an option is given.
+    pub fn flag(&self, option: &str) -> bool {
+        self.option(option).is_some()
     }
 
-    /// The word behind an option, if the option stands among the words. Both are taken out.
-    pub fn option(&mut self, option: &str) -> Result<Option<String>, Failure> {
-        let Some(at) = self.rest.iter().position(|word| word == option) else {
-            return Ok(None);
-        };
-        self.rest.remove(at);
-        match at.checked_sub(1) {
-            Some(value) => Ok(Some(self.rest.remove(value))),
-            None => Err(self.wrong(format!("{option} takes a word"))),
-        }
+    /// The word behind an option, if the option is given.
+    pub fn option(&self, option: &str) -> Option<&str> {
+        let given = self.options.iter().find(|(name, _)| *name == option);
+        given.map(|(_, value)| value.as_str())
     }
 
     /// The number behind an option.
-    pub fn number_option<T: Number>(&mut self, option: &str) -> Result<Option<T>, Failure> {
-        let word = self.option(option)?;
-        word.map(|word| self.parse(option, &word)).transpose()
-    }
-
-    /// All words that are left.
-    pub fn others(&mut self) -> Vec<String> {
-        let mut others = std::mem::take(&mut self.rest);
-        others.reverse();
-        others
+    pub fn number_option<T: Number>(&self, option: &str) -> Result<Option<T>, Failure> {
+        let word = self.option(option);
+        word.map(|word| self.parse(option, word)).transpose()
     }
 
     /// No word may be left.
     pub fn end(&self) -> Result<(), Failure> {
-        match self.rest.last() {
+        match self.rest.front() {
             Some(word) => Err(self.wrong(format!("{word} is a word too many"))),
             None => Ok(()),
         }
+    }
+
+    /// The file to write, which no word is left for: none that is handed in, and none that is there
+    /// already unless it may be replaced.
+    pub fn output(&self) -> Result<Output, Failure> {
+        let Some(file) = self.option(options::OUT.name) else {
+            return Err(self.wrong(format!("{} is missing", options::OUT.usage())));
+        };
+        self.end()?;
+        Output::new(file, self.flag(options::FORCE.name), &self.handed_in)
     }
 }

@@ -1,0 +1,75 @@
+//! The options that several commands take.
+
+/// One option of a command.
+pub struct Opt {
+    /// As it is written, `-o` or `--force`.
+    pub name: &'static str,
+    /// What the word behind it is; none where it takes no word.
+    pub value: &'static str,
+    /// A few words.
+    pub about: &'static str,
+}
+
+impl Opt {
+    /// The option and its word.
+    pub fn usage(&self) -> String {
+        format!("{} {}", self.name, self.value)
+            .trim_end()
+            .to_string()
+    }
+}
+
+pub const OUT: Opt = Opt {
+    name: "-o",
+    value: "OUT",
+    about: "the file that is written; - is standard output",
+};
+
+pub const FORCE: Opt = Opt {
+    name: "--force",
+    value: "",
+    about: "replaces OUT where it is there already; what is read is never replaced",
+};
+
+pub const FORMAT: Opt = Opt {
+    name: "--format",
+    value: "NAME",
+    about: "the format of OUT: record, y4m, pgm, ppm or pam; else its ending tells it, and what ends \
+            otherwise is a record",
+};
+
+pub const MATRIX: Opt = Opt {
+    name: "--matrix",
+    value: "N",
+    about: "what the samples stand for, a matrix number of ITU-T H.273: 0 is G, B, R planes, 6 (BT.601) \
+            is what holds where nothing is said",
+};
+
+pub const RGB_MATRIX: Opt = Opt {
+    about: "how R, G, B of PPM and PAM files and the samples go together, a matrix number of ITU-T \
+            H.273: 0, which holds where nothing is said, is G, B, R planes, exact both ways; 1 is BT.709, \
+            6 is BT.601. It must be given where a file of Y, Cb, Cr or halved chroma meets one of R, G, B",
+    ..MATRIX
+};
+
+/// The options of every command that makes a picture.
+pub const PICTURE: &[Opt] = &[OUT, FORCE, FORMAT, RGB_MATRIX, STUDIO];
+
+pub const STUDIO: Opt = Opt {
+    name: "--studio",
+    value: "",
+    about: "samples in the range that keeps clear of both ends; else the full range",
+};
+
+pub const ESSENTIAL: Opt = Opt {
+    name: "--essential",
+    value: "",
+    about: "the essential properties alone",
+};
+
+pub const PREMULTIPLIED: Opt = Opt {
+    name: "--premultiplied",
+    value: "LIST",
+    about: "a 0 or a 1 for each input, as 0,1,0: whether its colour is multiplied by its alpha \
+            already; none is where no list is given",
+};

@@ -1,0 +1,8 @@
+//! The command `compose`: what it prints, what it writes, and how it ends.
+
+mod folder;
+mod help;
+mod outputs;
+mod pictures;
+mod refusals;
+mod shown;
