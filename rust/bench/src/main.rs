@@ -1,38 +1,60 @@
-//! `bench [--rounds N] [TEXT..]`: times the composer beside the published Rust on the same
-//! pictures, in turns, and prints the table that docs/PERFORMANCE.md keeps. With texts, only the
-//! cases whose name has one of them.
+//! `bench [--rounds N] [--table] [--beside FILE] [TEXT..]`: times the composer, the published Rust
+//! and a plain copy of as many bytes, on the same pictures, in turns. With texts, only the tables
+//! whose title and the rows whose name has one of them. `--table` prints the tables that
+//! docs/PERFORMANCE.md keeps; `--beside` puts the ratios of the tables in a file beside them.
 
-mod cases;
+mod case;
+mod clock;
+mod composing;
+mod frames;
+mod operations;
+mod reading;
+mod report;
 mod stopwatch;
+mod tables;
 
-use cases::Case;
-use std::env;
+use case::{Case, Row, Table};
+use report::{Earlier, Layout, Times};
+use std::cell::RefCell;
+use std::hint::black_box;
 use std::process::ExitCode;
-use stopwatch::{Job, least, span};
+use std::{env, fs};
+use stopwatch::{Job, least};
 
 /// The side of the pictures.
 const SIDE: u32 = 2_048;
 
 /// What the command line asks for.
 struct Request {
-    rounds: usize,
+    /// None: as many as fit in a second.
+    rounds: Option<usize>,
+    layout: Layout,
     texts: Vec<String>,
 }
 
 impl Request {
     fn read(mut words: impl Iterator<Item = String>) -> Result<Self, String> {
         let mut request = Self {
-            rounds: 25,
+            rounds: None,
+            layout: Layout {
+                markdown: false,
+                earlier: None,
+            },
             texts: Vec::new(),
         };
         while let Some(word) = words.next() {
             match word.as_str() {
                 "--rounds" => {
-                    request.rounds = words
-                        .next()
-                        .and_then(|number| number.parse().ok())
-                        .filter(|rounds| *rounds > 0)
-                        .ok_or("--rounds takes a whole number above 0")?;
+                    let rounds = words.next().and_then(|number| number.parse().ok());
+                    let rounds = rounds.filter(|rounds| *rounds > 0);
+                    request.rounds = Some(rounds.ok_or("--rounds takes a whole number above 0")?);
+                }
+                "--table" => request.layout.markdown = true,
+                "--beside" => {
+                    let file = words.next().ok_or("--beside takes a file")?;
+                    let text = fs::read_to_string(&file);
+                    let text = text.map_err(|error| format!("{file}: {error}"))?;
+                    request.layout.earlier = Some(Earlier::read(&text));
                 }
                 option if option.starts_with('-') => {
                     return Err(format!("{option} is no option"));
@@ -43,40 +65,75 @@ impl Request {
         Ok(request)
     }
 
-    fn wants(&self, case: &Case) -> bool {
-        self.texts.is_empty() || self.texts.iter().any(|text| case.name.contains(text))
+    fn wants(&self, table: &Table, row: &Row) -> bool {
+        let has = |text: &String| row.name.contains(text) || table.title.contains(text);
+        self.texts.is_empty() || self.texts.iter().any(has)
     }
 }
 
-/// One line of the table: the call, into a buffer that is lent again and again; the crate
-/// `compose`; the published Rust. Where one is not there, a dash.
-fn line(case: &Case, rounds: usize) -> String {
-    let mut buffer = vec![0; case.room];
-    let mut call = || (case.call)(&mut buffer);
-    let frames = case.frames.as_deref();
-    let theirs = oracle::open().map(|oracle| oracle.ready(case.theirs.clone()));
-    let mut frames = frames.map(|run| move || run());
+/// An output that is lent again and again, each time from another place of a page on: where input
+/// and output lie to each other can double the time of a plain copy.
+struct Output {
+    bytes: Vec<u8>,
+    first: usize,
+}
+
+impl Output {
+    const PAGE: usize = 4_096;
+    /// From a place to the next: an odd number of lines of the cache, so that each gets its turn.
+    const STEP: usize = 29 * 64;
+
+    fn new(room: usize) -> Self {
+        Self {
+            bytes: vec![0; room + Self::PAGE],
+            first: 0,
+        }
+    }
+
+    fn lend(&mut self) -> &mut [u8] {
+        self.first = (self.first + Self::STEP) % Self::PAGE;
+        let room = self.bytes.len() - Self::PAGE;
+        black_box(&mut self.bytes[self.first..][..room])
+    }
+}
+
+/// Times a case: the call, into an output that is lent again and again; the crate `compose`; the
+/// published Rust; a copy of as many bytes into that same output.
+fn time(case: Case, rounds: Option<usize>) -> Times {
+    let output = RefCell::new(Output::new(case.room));
+    let mut call = || (case.call)(output.borrow_mut().lend());
+    let frames = frames::ready(case.work.clone());
+    let mut frames = || drop(black_box(frames()));
+    let theirs = oracle::open().map(|oracle| oracle.ready(case.work));
     let mut theirs = theirs.map(|run| move || run());
-    let jobs: [Option<Job>; 3] = [
+    let from = vec![1u8; case.room];
+    let mut copy = || output.borrow_mut().lend().copy_from_slice(black_box(&from));
+    let jobs: [Option<Job>; 4] = [
         Some(&mut call),
-        frames.as_mut().map(|run| run as Job),
+        Some(&mut frames),
         theirs.as_mut().map(|run| run as Job),
+        (case.room > 0).then_some(&mut copy),
     ];
-    let [call, frames, theirs] = least(jobs, rounds);
-    let time = |time: Option<f64>| time.map_or("–".into(), span);
-    let ratio = |ours: Option<f64>| match (ours, theirs) {
-        (Some(ours), Some(theirs)) => format!("{:.2}", ours / theirs),
-        _ => "–".into(),
-    };
-    let cells = [
-        case.name.clone(),
-        time(call),
-        time(frames),
-        time(theirs),
-        ratio(call),
-        ratio(frames),
-    ];
-    format!("| {} |", cells.join(" | "))
+    let [call, frames, theirs, copy] = least(jobs, rounds);
+    Times {
+        call,
+        frames,
+        theirs,
+        copy,
+        units: case.units,
+    }
+}
+
+/// Times the rows of a table that are wanted, a line each.
+fn print(table: &Table, request: &Request) {
+    let mut rows = table.rows.iter().filter(|row| request.wants(table, row));
+    let Some(first) = rows.next() else { return };
+    println!("{}", request.layout.head(table));
+    for row in [first].into_iter().chain(rows) {
+        let times = time((row.make)(), request.rounds);
+        println!("{}", request.layout.row(&row.name, &times));
+    }
+    println!();
 }
 
 fn main() -> ExitCode {
@@ -84,14 +141,12 @@ fn main() -> ExitCode {
         Ok(request) => request,
         Err(complaint) => {
             eprintln!("bench: {complaint}");
-            eprintln!("usage: bench [--rounds N] [TEXT..]");
+            eprintln!("usage: bench [--rounds N] [--table] [--beside FILE] [TEXT..]");
             return ExitCode::from(2);
         }
     };
-    println!("| case | call | crate | the Rust | call / Rust | crate / Rust |");
-    println!("|---|---:|---:|---:|---:|---:|");
-    for case in cases::all(SIDE).iter().filter(|case| request.wants(case)) {
-        println!("{}", line(case, request.rounds));
+    for table in tables::all(SIDE) {
+        print(&table, &request);
     }
     ExitCode::SUCCESS
 }
