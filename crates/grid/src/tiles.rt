@@ -6,13 +6,13 @@ ghost use Rattle.laws.specs.Pick.{pick};
 ghost use Rattle.image.specs.Format.{hasAlpha};
 ghost use Rattle.image.specs.Tray.{framesAt};
 ghost use Rattle.grid.specs.Tiles.{promotesOf, canvasForm, spansCanvas, sameLayout, judgeOf, tilesOf, tilesOut};
-ghost use Rattle.grid.specs.inner.Taken.{FramesTaken};
+ghost use lib.Dec.{eqb};
+ghost use Rattle.grid.specs.inner.Taken.{unlikeOf};
 use crate::cell::tile_form;
 use derived::GridDescriptor;
 use derived::GridRead;
 use image::Form;
 use image::FrameRead;
-use image::TrayRead;
 use laws::Refusal;
 use numbers::NumberRead;
 
@@ -80,18 +80,49 @@ pub fn with_tile(alpha: u32, m: Form) -> u32
     1
 }
 
-// Tiles that stand in the tray, held to the first of them.
+// 12 where tiles of that size do not cover the canvas, else 0.
+fn uncovered(g: GridDescriptor, t: Form) -> u8
+    ensures { λ r. ⌜ r ≡ pick (spansCanvas g t) 0 12 ⌝ }
+{
+    if spans_canvas(g, t) {
+        return 0;
+    }
+    12
+}
+
+// The first of two faults that is one.
+fn first_fault(before: u8, here: u8) -> u8
+    ensures { λ r. ⌜ r ≡ pick (eqb before 0) here before ⌝ }
+{
+    if before == 0 {
+        return here;
+    }
+    before
+}
+
+// What is wrong with a tile beside the first, 0 for nothing.
+fn unlike(t: Form, m: Form) -> u8
+    ensures { λ r. ⌜ r ≡ unlikeOf t m ⌝ }
+{
+    if !m.has_size(t.width, t.height) {
+        return 13;
+    }
+    if !same_layout(t, m) {
+        return 14;
+    }
+    0
+}
+
+// So many tiles from a place on, each held to the first of them. What is wrong with one is told after all records were read.
 fn judge_tiles(tray: &[u8], g: GridDescriptor, at: usize, count: u32) -> TilesRead
-    requires { ⌜ FramesTaken count (now tray) at × (0 < count) ⌝ }
+    requires { ⌜ 0 < count ⌝ }
     ensures { λ r. ⌜ tilesOut r ≡ andThen (framesAt count (now (tray .entry)) at) (judgeOf g at) ⌝ }
 {
     match image::read_record(tray, at) {
         FrameRead::Refused(e) => TilesRead::Refused(e),
         FrameRead::Read(first) => {
             let tile = first.form;
-            if !spans_canvas(g, tile) {
-                return TilesRead::Refused(Refusal::COVER);
-            }
+            let mut fault: u8 = uncovered(g, tile);
             let mut alpha: u32 = 0;
             let mut next = at;
             let mut left = count;
@@ -102,24 +133,20 @@ fn judge_tiles(tray: &[u8], g: GridDescriptor, at: usize, count: u32) -> TilesRe
                     }
                     FrameRead::Read(f) => {
                         let m = f.form;
-                        if !m.has_size(tile.width, tile.height) {
-                            return TilesRead::Refused(Refusal::TILE);
-                        }
-                        if !same_layout(tile, m) {
-                            return TilesRead::Refused(Refusal::LAYOUT);
-                        }
+                        fault = first_fault(fault, unlike(tile, m));
                         alpha = with_tile(alpha, m);
                         next = f.end;
                     }
                 }
                 left -= 1;
             }
-            TilesRead::Read(Tiles {
-                desc: g,
-                tile,
-                alpha,
-                first: at,
-            })
+            if next < tray.len() {
+                return TilesRead::Refused(Refusal::MALFORMED);
+            }
+            if fault == 0 {
+                return TilesRead::Read(Tiles { desc: g, tile, alpha, first: at });
+            }
+            TilesRead::Refused(Refusal { number: fault, sort: 0, index: 0 })
         }
     }
 }
@@ -141,10 +168,7 @@ pub fn read_tiles(body: &[u8], tray: &[u8]) -> TilesRead
             if count as u64 != g.rows as u64 * g.columns as u64 {
                 return TilesRead::Refused(Refusal::COUNT);
             }
-            match image::check_records(tray, at, count) {
-                TrayRead::Refused(e) => TilesRead::Refused(e),
-                TrayRead::Read(n) => judge_tiles(tray, g, at, count),
-            }
+            judge_tiles(tray, g, at, count)
         }
     }
 }

@@ -3,11 +3,9 @@ use Prim.Native.Nat.{_-_, _^_}
 use native.Mathlib.Omega.{arith}
 use borrow.Author.Needs.{needs}
 use Rattle.laws.proofs.Order.{mul-below}
-use Rattle.laws.proofs.Out.{then-refused}
-use Rattle.image.specs.Tray.{trayOut}
 use Rattle.derived.proofs.Taken.{grid-taken}
 use Rattle.derived.specs.Grid.{gridOut}
-use Rattle.grid.proofs.TilesLaws.{count-refused, count-some, count-taken, tiles-body, tiles-count, tiles-frames, tiles-malformed, tiles-number}
+use Rattle.grid.proofs.TilesLaws.{count-some, tiles-body, tiles-count, tiles-frames, tiles-malformed, tiles-number}
 use Rattle.grid.proofs.tiles.read_tiles.Statement.{statement}
 use Rattle.grid.specs.Tiles.{countOf}
 use Rattle.grid.proofs.tiles.read_tiles.Tie as tie
@@ -15,7 +13,6 @@ use Rattle.grid.proofs.tiles.read_tiles.Reads as reads
 use Rattle.grid.proofs.tiles.read_tiles.Lts as lts
 use Rattle.derived.proofs.grid.GridDescriptor.parse.Reads as parse-reads
 use Rattle.grid.proofs.tiles.judge_tiles.Reads as judge-tiles-reads
-use Rattle.image.proofs.check_records.Reads as check-records-reads
 use Rattle.numbers.proofs.read_number.Reads as read-number-reads
 
 read-number-requires : tie.Need-read-number-requires
@@ -49,68 +46,42 @@ cast-if1-3 : tie.Need-cast-if1-3
 cast-if1-3 c = search needs
 
 mul-if1 : tie.Need-mul-if1
-mul-if1 c = omega (arith, mul-below (2 ^ 32 - 1) (2 ^ 32 - 1) (c .before .before .before .g .given .0 .0 .rows) (c .before .before .before .g .given .0 .0 .columns) (omega arith) (omega arith))
+mul-if1 c =
+    let g = c .before .before .before .g in
+    omega (arith, mul-below (2 ^ 32 - 1) (2 ^ 32 - 1) (g .given .0 .0 .rows) (g .given .0 .0 .columns) (omega arith) (omega arith))
 
 returns-2 : tie.Need-returns-2
 unfolding countOf
 returns-2 c =
-    let g = c .before .before .before .before .g in
-    let parse = c .before .before .before .before .before .before .parse in
-    let count = c .before .before .before .before .before .before .before .before .count in
     let read-number = c .before .before .before .before .before .before .before .before .before .before .read-number in
-    sym (tiles-number _ _ _ _ (sym (read-number .ensures) ∙ count .given .1)
-    ∙ tiles-count _ _ _ _ _ (sym (parse .ensures) ∙ ap gridOut (g .given .1)) (c .if1 .taken))
-
-check-records-requires : tie.Need-check-records-requires
-check-records-requires c κs = search needs
-
-enum-known-e-2 : tie.Need-enum-known-e-2
-enum-known-e-2 c = search needs
-
-enum-known-n : tie.Need-enum-known-n
-enum-known-n c = search needs
+    let count = c .before .before .before .before .before .before .before .before .count in
+    let parse = c .before .before .before .before .before .before .parse in
+    let g = c .before .before .before .before .g in
+    sym (tiles-number _ _ _ _ (sym (read-number .ensures) ∙ count .given .1) ∙ tiles-count _ _ _ _ _ (sym (parse .ensures) ∙ ap gridOut (g .given .1)) (c .if1 .taken))
 
 judge-tiles-requires : tie.Need-judge-tiles-requires
 unfolding countOf
 judge-tiles-requires c κs =
-    let if1 = c .before .before .before .before .if1 in
-    let g = c .before .before .before .before .before .before .before .before .g in
-    let after-parse = c .before .before .before .before .before .before .before .before .before .before in
-    let parse = after-parse .parse in
-    let shared-slice-known = after-parse .before .before .before .before .before .before .shared-slice-known in
-    let k = grid-taken _ _ (λ i. omega (arith, shared-slice-known .given i)) (sym (parse .ensures) ∙ ap gridOut (g .given .1)) in (
-      count-taken _ _ _ _ (ap trayOut (sym (c .before .n .given .1)) ∙ c .before .before .before .check-records .ensures),
-      rw (if1 .left) (count-some (g .given .0 .0) (k .positiveRows) (k .positiveColumns)),
-    )
+    let shared-slice-known = c .before .before .before .before .before .before .before .before .before .before .before .before .shared-slice-known in
+    let parse = c .before .before .before .before .before .before .parse in
+    let g = c .before .before .before .before .g in
+    let k = grid-taken _ _ (λ i. omega (arith, shared-slice-known .given i)) (sym (parse .ensures) ∙ ap gridOut (g .given .1)) in rw (c .if1 .left) (count-some (g .given .0 .0) (k .positiveRows) (k .positiveColumns))
 
 returns-3 : tie.Need-returns-3
-returns-3 c = sym (tiles-number _ _ _ _ (sym (c .before .before .before .before .before .before .before .read-number .ensures) ∙ c .before .before .before .before .before .count .given .1) ∙ tiles-body _ _ _ _ _ (sym (c .before .before .before .parse .ensures) ∙ ap gridOut (c .before .e .given .1)))
+returns-3 c =
+    let read-number = c .before .before .before .before .before .before .before .read-number in
+    let count = c .before .before .before .before .before .count in
+    let parse = c .before .before .before .parse in
+    sym (tiles-number _ _ _ _ (sym (read-number .ensures) ∙ count .given .1) ∙ tiles-body _ _ _ _ _ (sym (parse .ensures) ∙ ap gridOut (c .before .e .given .1)))
 
 returns-4 : tie.Need-returns-4
 unfolding countOf
 returns-4 c =
-    let if1 = c .before .before .before .before .if1 in
-    let g = c .before .before .before .before .before .before .before .before .g in
-    let after-parse = c .before .before .before .before .before .before .before .before .before .before in
-    let parse = after-parse .parse in
-    let count = after-parse .before .before .count in
-    let read-number = after-parse .before .before .before .before .read-number in
-    sym (tiles-number _ _ _ _ (sym (read-number .ensures) ∙ count .given .1)
-    ∙ tiles-frames _ _ _ _ _ (sym (parse .ensures) ∙ ap gridOut (g .given .1)) (if1 .left)
-    ∙ then-refused _ (count-refused _ _ _ _ (ap trayOut (sym (c .before .e2 .given .1)) ∙ c .before .before .before .check-records .ensures)))
-
-returns-5 : tie.Need-returns-5
-unfolding countOf
-returns-5 c =
-    let if1 = c .before .before .before .before .before .if1 in
-    let after-g = c .before .before .before .before .before .before .before .before .before in
-    let g = after-g .g in
-    let parse = after-g .before .before .parse in
-    let count = after-g .before .before .before .before .count in
-    let read-number = after-g .before .before .before .before .before .before .read-number in
-    c .judge-tiles .ensures
-    ∙ sym (tiles-number _ _ _ _ (sym (read-number .ensures) ∙ count .given .1)
-    ∙ tiles-frames _ _ _ _ _ (sym (parse .ensures) ∙ ap gridOut (g .given .1)) (if1 .left))
+    let read-number = c .before .before .before .before .before .before .before .before .before .before .before .read-number in
+    let count = c .before .before .before .before .before .before .before .before .before .count in
+    let parse = c .before .before .before .before .before .before .before .parse in
+    let g = c .before .before .before .before .before .g in
+    c .judge-tiles .ensures ∙ sym (tiles-number _ _ _ _ (sym (read-number .ensures) ∙ count .given .1) ∙ tiles-frames _ _ _ _ _ (sym (parse .ensures) ∙ ap gridOut (g .given .1)) (c .before .if1 .left))
 
 pub read-tiles-spec : {M : Type 1} → statement M
 read-tiles-spec =
@@ -128,10 +99,6 @@ read-tiles-spec =
     cast-if1-3
     mul-if1
     returns-2
-    check-records-requires
-    enum-known-e-2
-    enum-known-n
     judge-tiles-requires
     returns-3
-    returns-4
-    returns-5)
+    returns-4)
