@@ -16,32 +16,31 @@ use Rattle.laws.specs.Out.{done, reason, refused}
 use Rattle.laws.specs.Pick.{pick}
 use Rattle.laws.specs.Puts.{puts}
 use Rattle.image.proofs.FormLaws.{columns-some, rows-some}
-use Rattle.planes.proofs.PictureLaws.{needs-colour}
-use Rattle.planes.proofs.RoundTrip.{encode-agree, length-encode}
-use Rattle.planes.specs.Bytes.{decode, encode, headBytes, sizeOf, pictureIn}
-use Rattle.image.specs.Format.{bytesOf, columnsOf, halved, halvesX, halvesY, hasPart, isMono, rowsOf, sideOf, topOf, as444, needs444, odd, sized, withAlpha}
-use Rattle.planes.specs.Picture.{Agree, Pic}
+use Rattle.image.specs.Format.{as444, bytesOf, columnsOf, halved, halvesX, halvesY, hasPart, isMono, needs444, odd, rowsOf, sideOf, sized, topOf, withAlpha}
+use Rattle.image.specs.Tray.{noFrame}
 use Rattle.image.specs.declared.format.Form.{Form}
 use Rattle.image.specs.declared.format.Part.{Part}
 use Rattle.image.specs.declared.format.Part.the-variants.{Alpha, Cb, Cr, Luma}
 use Rattle.image.specs.declared.format.PixelFormat.{PixelFormat}
 use Rattle.image.specs.declared.record.Frame.{Frame}
+use Rattle.planes.proofs.PictureLaws.{needs-colour}
+use Rattle.planes.proofs.RoundTrip.{encode-agree, length-encode}
+use Rattle.planes.specs.Bytes.{decode, encode, headBytes, pictureIn, sizeOf}
+use Rattle.planes.specs.Picture.{Agree, Pic}
+use Rattle.paste.specs.Stored.{headed}
 use Rattle.derived.specs.declared.grid.GridDescriptor.{GridDescriptor}
 use Rattle.grid.proofs.CellLaws.{length-storePart}
 use Rattle.grid.proofs.MosaicLaws.{among-down, down-among, downFrom, pastes, pastes-at, pastes-form, tiles-pasted}
-use Rattle.grid.proofs.PaintLaws.{head-alpha, length-canvas}
 use Rattle.grid.proofs.PasteLaws.{Meets}
 use Rattle.grid.proofs.Suited.{suits-bytes, suits-canvas, tile-parts, tile-sound, tilePic-form}
 use Rattle.grid.specs.Cell.{storeTile, tileForm, tilePic}
-use Rattle.grid.specs.inner.Rows.{FitsCanvas}
-use Rattle.grid.specs.Mosaic.{canvasBytes, gridPic, mosaicAt, opaqueAt, plainAt, plainPic, tileIndex}
-use Rattle.paste.specs.Stored.{headed}
-use Rattle.grid.specs.inner.Stored.{storeTiles}
-use Rattle.grid.specs.inner.Ready.{TilesTaken}
+use Rattle.grid.specs.Mosaic.{gridPic, mosaicAt, opaqueAt, plainAt, plainPic, tileIndex}
 use Rattle.grid.specs.Run.{framesIn, gridOn, gridRun}
-use Rattle.image.specs.Tray.{noFrame}
 use Rattle.grid.specs.Tiles.{canvasForm, countOf, promotesOf, tilesOf}
 use Rattle.grid.specs.declared.tiles.Tiles.{Tiles}
+use Rattle.grid.specs.inner.Ready.{TilesTaken}
+use Rattle.grid.specs.inner.Rows.{FitsCanvas}
+use Rattle.grid.specs.inner.Stored.{storeTiles}
 
 -- ---- a tile that was taken suits the canvas
 
@@ -140,21 +139,26 @@ canvas-rows g t a p l =
 
 -- ---- alpha, where a tile has none
 
-plain-at : (c f : PixelFormat) (p : Part) → c .chroma ≡ f .chroma → c .depth ≡ f .depth → hasPart c p ≡ true → hasPart f p ≡ false → plainAt c p ≡ topOf f
-unfolding hasPart plainAt topOf isMono
-plain-at c f Luma e d h z = not-here z
+-- a part that a canvas has and a tile of its chroma has not is alpha
+lacks-alpha : (X : Part → Type 0) (c f : PixelFormat) (p : Part) → c .chroma ≡ f .chroma → hasPart c p ≡ true → hasPart f p ≡ false → X Alpha → X p
+unfolding hasPart isMono
+lacks-alpha X c f Luma e h z a = not-here z
   where
     not-here : {X : Type 0} → _≡_ {A = Bool} true false → X
     not-here q = apart (cc)
-plain-at c f Cb e d h z = not-here (sym (rw e at h) ∙ z)
+lacks-alpha X c f Cb e h z a = not-here (sym (rw e at h) ∙ z)
   where
     not-here : {X : Type 0} → _≡_ {A = Bool} true false → X
     not-here q = apart (cc)
-plain-at c f Cr e d h z = not-here (sym (rw e at h) ∙ z)
+lacks-alpha X c f Cr e h z a = not-here (sym (rw e at h) ∙ z)
   where
     not-here : {X : Type 0} → _≡_ {A = Bool} true false → X
     not-here q = apart (cc)
-plain-at c f Alpha e d h z = ap (λ (n : ℕ). 2 ^ n - 1) d
+lacks-alpha X c f Alpha e h z a = a
+
+top-same : (c f : PixelFormat) → c .depth ≡ f .depth → topOf c ≡ topOf f
+unfolding topOf
+top-same c f d = ap (λ (n : ℕ). 2 ^ n - 1) d
 
 shown-opaque : (T : Pic) (p : Part) (x y : ℕ) (here : Bool) (v : ℕ) → here ≡ true → (hasPart (T .form .format) p ≡ false → v ≡ topOf (T .form .format)) → pick (here && hasPart (T .form .format) p) (T .at p x y) v ≡ opaqueAt T p x y
 unfolding opaqueAt
@@ -170,10 +174,6 @@ plain-form c = refl
 gridOn-form : (tray : List ℕ) (t : Tiles) → gridOn tray t .form ≡ canvasForm (t .desc) (t .tile) (t .alpha)
 unfolding gridOn gridPic
 gridOn-form tray t = refl
-
-alpha-again : (g : GridDescriptor) (t : Form) (a : ℕ) → withAlpha (canvasForm g t a) a ≡ canvasForm g t a
-unfolding canvasForm withAlpha
-alpha-again g t a = refl
 
 encode-laid : (P : Pic) → encode P ≡ headed (headBytes (P .form)) P
 unfolding encode headed
@@ -237,63 +237,55 @@ module _ (tray : List ℕ) (t : Tiles) (ok : TilesTaken tray t) where
   unfolding tileIndex countOf
   index-in p x y lx ly = digits-lt (row-in p y ly) (column-in p x lx)
 
-  -- what stands where a tile has no such part: alpha, at top
-  plain-top : (i : ℕ) → i < countOf (t .desc) → (p : Part) → hasPart (canvas .format) p ≡ true → hasPart (T i .form .format) p ≡ false → plainAt (canvas .format) p ≡ topOf (T i .form .format)
-  plain-top i l p h z = plain-at (canvas .format) (T i .form .format) p (chroma-of i l) (depth-of i l) h z
-    where
-      chroma-of : (i : ℕ) → i < countOf (t .desc) → canvas .format .chroma ≡ T i .form .format .chroma
-      chroma-of i l = suits-of i (sizeOf canvas) l (omega arith) .chroma ∙ ap (λ (m : Form). m .format .chroma) (sym (T-form i))
+  chroma-of : (i : ℕ) → i < countOf (t .desc) → canvas .format .chroma ≡ T i .form .format .chroma
+  chroma-of i l = suits-of i (sizeOf canvas) l (omega arith) .chroma ∙ ap (λ (m : Form). m .format .chroma) (sym (T-form i))
 
-      depth-of : (i : ℕ) → i < countOf (t .desc) → canvas .format .depth ≡ T i .form .format .depth
-      depth-of i l = suits-of i (sizeOf canvas) l (omega arith) .depth ∙ sym (tile-depth b (frame i .form)) ∙ ap (λ (m : Form). m .format .depth) (sym (T-form i))
+  depth-of : (i : ℕ) → i < countOf (t .desc) → canvas .format .depth ≡ T i .form .format .depth
+  depth-of i l = suits-of i (sizeOf canvas) l (omega arith) .depth ∙ sym (tile-depth b (frame i .form)) ∙ ap (λ (m : Form). m .format .depth) (sym (T-form i))
+
+  -- over any canvas whose alpha is at top
+  module _ (P : Pic) (same : P .form ≡ canvas) (top : (x y : ℕ) → P .at Alpha x y ≡ topOf (canvas .format)) where
+    abbrev pasted : Pic
+    pasted = pastes T (t .desc .columns) (downFrom (countOf (t .desc))) P
+
+    pub pasted-form : pasted .form ≡ canvas
+    pasted-form = pastes-form T (t .desc .columns) (downFrom (countOf (t .desc))) P ∙ same
+
+    pub grid-covers : Agree pasted (gridOn tray t)
+    unfolding gridOn gridPic mosaicAt
+    grid-covers =
+        record {
+          form = pasted-form;
+          reads = λ p h x y lx ly. read p (ap (λ (m : Form). hasPart (m .format) p) (sym pasted-form) ∙ h) x y (rw pasted-form at lx) (rw pasted-form at ly);
+        }
+      where
+        read : (p : Part) → hasPart (canvas .format) p ≡ true → (x y : ℕ) → x < columnsOf canvas p → y < rowsOf canvas p
+            → pasted .at p x y
+            ≡ opaqueAt (T (tileIndex (t .desc .columns) (columnsOf (tileForm b (t .tile)) p) (rowsOf (tileForm b (t .tile)) p) x y)) p (x % columnsOf (tileForm b (t .tile)) p) (y % rowsOf (tileForm b (t .tile)) p)
+        read p h x y lx ly =
+            let ts = tile-sound b (t .tile) (ok .tile) in
+            let i = tileIndex (t .desc .columns) (columnsOf (tileForm b (t .tile)) p) (rowsOf (tileForm b (t .tile)) p) x y in
+            let li = index-in p x y lx ly in
+            pastes-at canvas T (t .desc .columns) p (columnsOf (tileForm b (t .tile)) p) (rowsOf (tileForm b (t .tile)) p) x y lx ly (columns-some (tileForm b (t .tile)) ts p) (rows-some (tileForm b (t .tile)) ts p) (column-in p x lx)
+            (downFrom (countOf (t .desc))) P same (λ j m. (columns-of j (down-among j _ m) p, rows-of j (down-among j _ m) p))
+            ∙ shown-opaque (T i) p (x % columnsOf (tileForm b (t .tile)) p) (y % rowsOf (tileForm b (t .tile)) p) _ (P .at p x y) (among-down i _ li)
+            (λ z. lacks-alpha (λ q. P .at q x y ≡ topOf (T i .form .format)) (canvas .format) (T i .form .format) p (chroma-of i li) h z (top x y ∙ top-same (canvas .format) (T i .form .format) (depth-of i li)))
+
+    -- THE TILES STORED IN TURN ARE THE COMPOSED PICTURE'S RECORD
+    pub composed : (d : List ℕ) → sizeOf canvas ≤ length d → storeTiles canvas T (t .desc .columns) (countOf (t .desc)) (puts d 0 (encode P)) ≡ puts d 0 (encode (gridOn tray t))
+    composed d l =
+        let n : length (encode P) ≡ sizeOf canvas = length-encode P ∙ ap sizeOf same in
+        let m : length (encode (gridOn tray t)) ≡ sizeOf canvas = length-encode (gridOn tray t) ∙ ap sizeOf (gridOn-form tray t) in
+        ap (storeTiles canvas T (t .desc .columns) (countOf (t .desc))) (puts-start d (encode P) (omega (arith, n)) ∙ ap (λ (q : List ℕ). q ++ drop (length (encode P)) d) (encode-laid P))
+        ∙ tiles-pasted T (t .desc .columns) canvas P (headBytes (P .form)) (drop (length (encode P)) d) (countOf (t .desc)) same (λ i k. meets-of i k) (ap (λ (q : Form). length (headBytes q)) same)
+        ∙ ap₂ (λ (a b : List ℕ). a ++ b) (as-encoded ∙ encode-agree _ _ grid-covers) (ap (λ (k : ℕ). drop k d) (n ∙ sym m)) ∙ sym (puts-start d (encode (gridOn tray t)) (omega (arith, m)))
+      where
+        as-encoded : headed (headBytes (P .form)) pasted ≡ encode pasted
+        as-encoded = ap (λ (m : Form). headed (headBytes m) pasted) (same ∙ sym pasted-form) ∙ sym (encode-laid pasted)
 
   pub grid-agree : Agree (pastes T (t .desc .columns) (downFrom (countOf (t .desc))) (plainPic canvas)) (gridOn tray t)
-  unfolding gridOn gridPic mosaicAt plainPic
-  grid-agree =
-      record {
-        form = pastes-form T (t .desc .columns) (downFrom (countOf (t .desc))) (plainPic canvas);
-        reads = λ p h x y lx ly. read p (here p h) x y (in-x p x lx) (in-y p y ly);
-      }
-    where
-      same : pastes T (t .desc .columns) (downFrom (countOf (t .desc))) (plainPic canvas) .form ≡ canvas
-      same = pastes-form T (t .desc .columns) (downFrom (countOf (t .desc))) (plainPic canvas)
-
-      here : (p : Part) → hasPart (pastes T (t .desc .columns) (downFrom (countOf (t .desc))) (plainPic canvas) .form .format) p ≡ true → hasPart (canvas .format) p ≡ true
-      here p h = ap (λ (m : Form). hasPart (m .format) p) (sym same) ∙ h
-
-      in-x : (p : Part) (x : ℕ) → x < columnsOf (pastes T (t .desc .columns) (downFrom (countOf (t .desc))) (plainPic canvas) .form) p → x < columnsOf canvas p
-      in-x p x l = rw same at l
-
-      in-y : (p : Part) (y : ℕ) → y < rowsOf (pastes T (t .desc .columns) (downFrom (countOf (t .desc))) (plainPic canvas) .form) p → y < rowsOf canvas p
-      in-y p y l = rw same at l
-
-      read : (p : Part) → hasPart (canvas .format) p ≡ true → (x y : ℕ) → x < columnsOf canvas p → y < rowsOf canvas p
-          → pastes T (t .desc .columns) (downFrom (countOf (t .desc))) (plainPic canvas) .at p x y
-          ≡ opaqueAt (T (tileIndex (t .desc .columns) (columnsOf (tileForm b (t .tile)) p) (rowsOf (tileForm b (t .tile)) p) x y)) p (x % columnsOf (tileForm b (t .tile)) p) (y % rowsOf (tileForm b (t .tile)) p)
-      read p h x y lx ly =
-          let ts = tile-sound b (t .tile) (ok .tile) in
-          let i = tileIndex (t .desc .columns) (columnsOf (tileForm b (t .tile)) p) (rowsOf (tileForm b (t .tile)) p) x y in
-          let li = index-in p x y lx ly in
-          pastes-at canvas T (t .desc .columns) p (columnsOf (tileForm b (t .tile)) p) (rowsOf (tileForm b (t .tile)) p) x y lx ly (columns-some (tileForm b (t .tile)) ts p) (rows-some (tileForm b (t .tile)) ts p) (column-in p x lx)
-          (downFrom (countOf (t .desc))) (plainPic canvas) refl (λ j m. (columns-of j (down-among j _ m) p, rows-of j (down-among j _ m) p))
-          ∙ shown-opaque (T i) p (x % columnsOf (tileForm b (t .tile)) p) (y % rowsOf (tileForm b (t .tile)) p) _ (plainAt (canvas .format) p) (among-down i _ li) (plain-top i li p h)
-
-  -- THE TILES STORED IN TURN ARE THE COMPOSED PICTURE'S RECORD
-  pub composed : (d : List ℕ) → sizeOf canvas ≤ length d → storeTiles canvas T (t .desc .columns) (countOf (t .desc)) (puts d 0 (canvasBytes canvas (t .alpha))) ≡ puts d 0 (encode (gridOn tray t))
-  unfolding canvasBytes
-  composed d l =
-      let one : t .alpha ≤ 1 = rw (canvas-alpha-is (t .desc) (t .tile) (t .alpha)) at (ok .canvas .alpha) in
-      let n : length (canvasBytes canvas (t .alpha)) ≡ sizeOf canvas = length-canvas canvas (t .alpha) one (ok .canvas .alpha) in
-      let m : length (encode (gridOn tray t)) ≡ sizeOf canvas = length-encode (gridOn tray t) ∙ ap sizeOf (gridOn-form tray t) in
-      ap (storeTiles canvas T (t .desc .columns) (countOf (t .desc))) (puts-start d (canvasBytes canvas (t .alpha)) (omega arith))
-      ∙ tiles-pasted T (t .desc .columns) canvas (plainPic canvas) (headBytes (withAlpha canvas (t .alpha))) (drop (length (canvasBytes canvas (t .alpha))) d) (countOf (t .desc)) (plain-form canvas) (λ i k. meets-of i k) (head-alpha canvas (t .alpha) one (ok .canvas .alpha))
-      ∙ ap₂ (λ (a b : List ℕ). a ++ b) (as-encoded ∙ encode-agree _ _ grid-agree) (ap (λ (k : ℕ). drop k d) (n ∙ sym m)) ∙ sym (puts-start d (encode (gridOn tray t)) (omega arith))
-    where
-      as-encoded : headed (headBytes (withAlpha canvas (t .alpha))) (pastes T (t .desc .columns) (downFrom (countOf (t .desc))) (plainPic canvas)) ≡ encode (pastes T (t .desc .columns) (downFrom (countOf (t .desc))) (plainPic canvas))
-      as-encoded =
-          ap (λ (m : Form). headed (headBytes m) (pastes T (t .desc .columns) (downFrom (countOf (t .desc))) (plainPic canvas)))
-          (alpha-again (t .desc) (t .tile) (t .alpha) ∙ sym (plain-form canvas) ∙ sym (pastes-form T (t .desc .columns) (downFrom (countOf (t .desc))) (plainPic canvas)))
-          ∙ sym (encode-laid (pastes T (t .desc .columns) (downFrom (countOf (t .desc))) (plainPic canvas)))
+  unfolding plainPic plainAt
+  grid-agree = grid-covers (plainPic canvas) refl (λ x y. refl)
 
   -- in the words of the loop that stores them
   pub suits-at : (i n : ℕ) (f : Frame) (c : Form) (q : Bool) → i < countOf (t .desc) → frame i ≡ f → c ≡ canvas → q ≡ b → sizeOf canvas ≤ n → FitsCanvas tray f c q n

@@ -9,7 +9,7 @@ ghost use Rattle.grid.specs.Tiles.{canvasForm};
 ghost use Rattle.grid.specs.inner.Ready.{TilesTaken};
 ghost use Rattle.grid.specs.Run.{gridOn, gridRun};
 use crate::cell::draw_tile;
-use crate::paint::paint_canvas;
+use crate::paint::outline_canvas;
 use crate::tiles::Tiles;
 use crate::tiles::TilesRead;
 use crate::tiles::canvas_form;
@@ -30,7 +30,7 @@ pub fn draw_grid(out: &mut [u8], tray: &[u8], t: Tiles)
     let columns = g.columns;
     let count = g.rows * columns;
     let to = planes::tight(canvas);
-    paint_canvas(out, canvas, t.alpha);
+    outline_canvas(out, canvas);
     let mut next = t.first;
     let mut i: u32 = 0;
     while i < count {

@@ -22,6 +22,14 @@ use Rattle.paste.specs.Stored.{storeRows}
 
 -- ---- in the middle of a list
 
+-- bytes stored where they stand
+pub puts-there : (d : List ℕ) (i n : ℕ) (vs : List ℕ) → i + n ≤ length d → vs ≡ take n (drop i d) → puts d i vs ≡ d
+puts-there d i n vs l e =
+    let k : length vs ≡ n = ap length e ∙ length-take-le n (drop i d) (omega (arith, length-drop i d)) in
+    puts-split d i vs (omega (arith, k))
+    ∙ ap₂ (λ (u w : List ℕ). take i d ++ (u ++ w)) e (ap (λ (m : ℕ). drop (i + m) d) k ∙ sym (drop-drop n i d))
+    ∙ ap (λ (q : List ℕ). take i d ++ q) (take-append-drop n (drop i d)) ∙ take-append-drop i d
+
 pub puts-inside : (a b c bs : List ℕ) (i : ℕ) → i + length bs ≤ length b → puts (a ++ (b ++ c)) (length a + i) bs ≡ a ++ (puts b i bs ++ c)
 puts-inside a b c bs i h =
     ap (λ (q : List ℕ). puts (a ++ (q ++ c)) (length a + i) bs) split

@@ -14,22 +14,21 @@ use Rattle.image.specs.Record.{frameOut}
 use Rattle.image.specs.Tray.{framesAt, noFrame, takenOf}
 use Rattle.image.specs.declared.format.Form.{Form}
 use Rattle.image.specs.declared.record.Frame.{Frame}
-use Rattle.planes.specs.Bytes.{decode, pictureIn}
+use Rattle.planes.specs.Bytes.{decode, encode, pictureIn}
 use Rattle.paste.proofs.HeadedLaws.{tight-form}
-use Rattle.grid.proofs.Composed.{canvas-alpha-is, composed, drop-head, length-storeTiles, suits-at, tiles-more}
+use Rattle.grid.proofs.Composed.{composed, drop-head, length-storeTiles, suits-at, tiles-more}
 use Rattle.grid.proofs.TilesLaws.{first-not-refused, first-read}
 use Rattle.grid.proofs.compose.draw_grid.Statement.{statement}
 use Rattle.grid.specs.Cell.{storeTile, tilePic}
-use Rattle.grid.specs.Mosaic.{canvasBytes}
 use Rattle.grid.specs.Run.{framesIn}
 use Rattle.grid.specs.Tiles.{countOf}
-use Rattle.grid.specs.inner.Stored.{storeTiles}
+use Rattle.grid.specs.inner.Stored.{storeTiles, underAt, underPic}
 use Rattle.grid.specs.inner.Taken.{FramesTaken}
 use Rattle.grid.proofs.compose.draw_grid.Tie as tie
 use Rattle.grid.proofs.compose.draw_grid.Reads as reads
 use Rattle.grid.proofs.compose.draw_grid.Lts as lts
 use Rattle.grid.proofs.cell.draw_tile.Reads as draw-tile-reads
-use Rattle.grid.proofs.paint.paint_canvas.Reads as paint-canvas-reads
+use Rattle.grid.proofs.paint.outline_canvas.Reads as outline-canvas-reads
 use Rattle.grid.proofs.tiles.canvas_form.Reads as canvas-form-reads
 use Rattle.grid.proofs.tiles.promotes.Reads as promotes-reads
 use Rattle.image.proofs.read_record.Reads as read-record-reads
@@ -46,6 +45,11 @@ some : (c : tie.In-loop Inv-loop μ-loop)
     0 < start .args .t .desc .rows * start .args .t .desc .columns - c .before .loop .i
 some c = omega (arith, c .loop-test .taken)
 
+-- the same tiles, in other words
+stored-as : (tray : List ℕ) (frs : List Frame) (columns : ℕ) {n n′ : ℕ} {m m′ : Form} {b b′ : Bool} {d d′ : List ℕ} → n ≡ n′ → m ≡ m′ → b ≡ b′ → d ≡ d′
+    → storeTiles m (λ j. tilePic b (pictureIn tray frs j)) columns n d ≡ storeTiles m′ (λ j. tilePic b′ (pictureIn tray frs j)) columns n′ d′
+stored-as tray frs columns en em eb ed = rw (en, em, eb, ed) refl
+
 -- the records were taken: none is refused
 dead : {X : Type 0} (c : tie.After-known-told Inv-loop μ-loop) → X
 unfolding FramesTaken
@@ -55,7 +59,7 @@ dead c = first-not-refused _ _ _ _ (some ((c .before .before .before .before))) 
 long : (c : tie.At-loop Inv-loop μ-loop)
     → let start = c .before .before .before .before .before .before .before .before .before .before .before .before in
     length (c .loop .out) ≡ length (now (start .args .out))
-long c = ap length (c .loop .inv .2) ∙ length-storeTiles _ _ _ _ _ ∙ ap length (c .before .before .before .paint-canvas .ensures) ∙ length-puts _ _ _
+long c = ap length (c .loop .inv .2) ∙ length-storeTiles _ _ _ _ _ ∙ ap length (c .before .before .before .outline-canvas .ensures .1) ∙ length-puts _ _ _
 
 -- the frames of the tray
 abbrev frames : tie.Start Inv-loop μ-loop → List Frame
@@ -99,13 +103,11 @@ tight-requires c κs =
     let start = c .before .before .before .before .before .before in
     rw (c .before .before .canvas-form .ensures) (start .pre .0 .canvas)
 
-paint-canvas-requires : tie.Need-paint-canvas-requires Inv-loop μ-loop
-paint-canvas-requires c κs =
-    let start = c .before .before .before .before .before .before .before .before in (
-      rw (c .before .before .before .before .canvas-form .ensures) (start .pre .0 .canvas),
-      rw (canvas-alpha-is (start .args .t .desc) (start .args .t .tile) (start .args .t .alpha)) at (start .pre .0 .canvas .alpha),
-      rw (c .before .before .before .before .canvas-form .ensures) (start .pre .1),
-    )
+outline-canvas-requires : tie.Need-outline-canvas-requires Inv-loop μ-loop
+outline-canvas-requires c κs =
+    let start = c .before .before .before .before .before .before .before .before in
+    let canvas-form = c .before .before .before .before .canvas-form in
+    (rw (canvas-form .ensures) (start .pre .0 .canvas), rw (canvas-form .ensures) (start .pre .1))
 
 loop-holds : tie.Need-loop-holds Inv-loop μ-loop
 unfolding framesIn countOf storeTiles
@@ -199,29 +201,20 @@ same-length-2 : tie.Need-same-length-2 Inv-loop μ-loop
 same-length-2 c = long ((c .before))
 
 returns-2 : tie.Need-returns-2 Inv-loop μ-loop
-unfolding framesIn countOf
+unfolding framesIn countOf underPic underAt
 returns-2 c =
-    let paint-canvas = c .before .before .before .before .paint-canvas in
+    let outline = c .before .before .before .before .outline-canvas in
     let promotes = c .before .before .before .before .before .before .before .before .promotes in
     let canvas-form = c .before .before .before .before .before .before .before .before .before .canvas-form in
     let start = c .before .before .before .before .before .before .before .before .before .before .before .before .before in
     let tight = c .before .before .before .before .before .before .tight in
-    let e : c .before .loop .i ≡ start .args .t .desc .rows * start .args .t .desc .columns =
-    omega (arith, c .before .loop .inv .0, c .loop-test .left) in
+    let t = start .args .t in
+    let n = t .desc .rows * t .desc .columns in
+    let e : c .before .loop .i ≡ n = omega (arith, c .before .loop .inv .0, c .loop-test .left) in
     c .before .loop .inv .2
-    ∙ ap (λ (k : ℕ). storeTiles (tight .result .form) (λ j. tilePic (promotes .result) (pictureIn (now (start .args .tray)) (frames start) j))
-    (start .args .t .desc .columns) k (paint-canvas .last .0))
-    e
-    ∙ ap (storeTiles (tight .result .form) (λ j. tilePic (promotes .result) (pictureIn (now (start .args .tray)) (frames start) j))
-    (start .args .t .desc .columns) (start .args .t .desc .rows * start .args .t .desc .columns))
-    (paint-canvas .ensures)
-    ∙ ap (λ (m : Form). storeTiles m (λ j. tilePic (promotes .result) (pictureIn (now (start .args .tray)) (frames start) j)) (start .args .t .desc .columns)
-    (start .args .t .desc .rows * start .args .t .desc .columns) (puts (now (start .args .out)) 0 (canvasBytes (canvas-form .result) (start .args .t .alpha))))
-    (tight-form _ _ (tight .ensures) .0)
-    ∙ ap₂ (λ (m : Form) (b : Bool). storeTiles m (λ j. tilePic b (pictureIn (now (start .args .tray)) (frames start) j)) (start .args .t .desc .columns)
-    (start .args .t .desc .rows * start .args .t .desc .columns) (puts (now (start .args .out)) 0 (canvasBytes m (start .args .t .alpha))))
-    (canvas-form .ensures) (promotes .ensures)
-    ∙ composed (now (start .args .tray)) (start .args .t) (start .pre .0) (now (start .args .out)) (start .pre .1)
+    ∙ stored-as (now (start .args .tray)) (frames start) (t .desc .columns) e (tight-form _ _ (tight .ensures) .0 ∙ canvas-form .ensures) (promotes .ensures)
+    (outline .ensures .1 ∙ ap (λ (m : Form). puts (now (start .args .out)) 0 (encode (underPic m (outline .ensures .0)))) (canvas-form .ensures))
+    ∙ composed (now (start .args .tray)) t (start .pre .0) (underPic _ (outline .ensures .0)) refl (λ x y. refl) (now (start .args .out)) (start .pre .1)
 
 pub draw-grid-spec : {M : Type 1} → statement M
 draw-grid-spec =
@@ -233,7 +226,7 @@ draw-grid-spec =
     promotes-requires
     mul-count
     tight-requires
-    paint-canvas-requires
+    outline-canvas-requires
     loop-holds
     read-record-requires
     enum-known-e
