@@ -5,3 +5,4 @@ pub mod Draws
 pub mod Runs
 pub mod Shown
 pub mod Carried
+pub mod Mirrors

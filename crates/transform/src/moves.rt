@@ -7,6 +7,7 @@ ghost use Rattle.laws.specs.Puts.{puts};
 ghost use Rattle.image.specs.Format.{cover};
 ghost use Rattle.image.specs.inner.Placed.{Sound};
 ghost use Rattle.planes.specs.Bytes.{decode, planeBytes, encode};
+ghost use Rattle.transform.specs.inner.Mirrored.{Mirrored};
 ghost use Rattle.transform.specs.inner.Move.{alongFrom, moved, walkBytes, walkOf, planeAxis, lineOf, rowLine, WalkRowFits, WalkInside, MoveFits};
 use image::Form;
 use image::Frame;
@@ -102,8 +103,8 @@ fn row_line(w: Walk, bytes: usize, stride: usize, y: usize) -> Line
     )
 }
 
-// Writes the rows of a plane that is walked, and returns the place past them.
-fn write_rows(
+// Writes the rows of a plane that is walked, sample by sample or as copies of rows, and returns the place past them.
+fn walk_rows(
     out: &mut [u8],
     at: usize,
     plane: &[u8],
@@ -124,6 +125,59 @@ fn write_rows(
         y += 1;
     }
     i
+}
+
+// The same where each row is one of the plane's, from its last sample back. They are read the way that they run.
+fn mirror_rows(
+    out: &mut [u8],
+    at: usize,
+    plane: &[u8],
+    bytes: usize,
+    stride: usize,
+    w: Walk,
+    columns: usize,
+    rows: usize,
+) -> usize
+    requires { ⌜ WalkInside (now plane) bytes stride w columns rows × (at + rows * (columns * bytes) ≤ length (now out)) × Mirrored w ⌝ }
+    ensures { λ r. ⌜ (r ≡ at + rows * (columns * bytes)) × (now (out .exit) ≡ puts (now (out .entry)) at (walkBytes (now (plane .entry)) bytes stride w columns rows)) ⌝ }
+{
+    let across = w.across;
+    let down = w.down;
+    let half = w.half_down;
+    let last = across.from * bytes;
+    let up = down.back;
+    let mut i = at;
+    let mut y: usize = 0;
+    while y < rows {
+        let j = reach(down, half, y) * stride + last;
+        i = turns::reverse_row(out, i, plane, bytes, j, columns, up);
+        y += 1;
+    }
+    i
+}
+
+// Writes the rows of a plane that is walked, in the way that suits the walk, and returns the place past them.
+fn write_rows(
+    out: &mut [u8],
+    at: usize,
+    plane: &[u8],
+    bytes: usize,
+    stride: usize,
+    w: Walk,
+    columns: usize,
+    rows: usize,
+) -> usize
+    requires { ⌜ WalkInside (now plane) bytes stride w columns rows × (at + rows * (columns * bytes) ≤ length (now out)) ⌝ }
+    ensures { λ r. ⌜ (r ≡ at + rows * (columns * bytes)) × (now (out .exit) ≡ puts (now (out .entry)) at (walkBytes (now (plane .entry)) bytes stride w columns rows)) ⌝ }
+{
+    let across = w.across;
+    if image::either(w.swapped, w.half_across) {
+        return walk_rows(out, at, plane, bytes, stride, w, columns, rows);
+    }
+    if across.back {
+        return mirror_rows(out, at, plane, bytes, stride, w, columns, rows);
+    }
+    walk_rows(out, at, plane, bytes, stride, w, columns, rows)
 }
 
 fn plane_axis(promoted: bool, half: bool, a: Axis) -> Axis

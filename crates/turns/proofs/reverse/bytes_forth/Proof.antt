@@ -25,59 +25,47 @@ one-less n k l = omega arith
 one-behind : (from m : ℕ) → from - (m + 1) ≡ from - m + 1 * 0 - 1 * 1
 one-behind from m = omega arith
 
--- src/reverse.rt:15:17
 add-first : tie.Need-add-first Inv-loop μ-loop
 add-first c = search needs
 
--- src/reverse.rt:15:17
 sub-first : tie.Need-sub-first Inv-loop μ-loop
 sub-first c = search needs
 
--- src/reverse.rt:16:15
 add-end : tie.Need-add-end Inv-loop μ-loop
 add-end c = search needs
 
--- src/reverse.rt:18:5
 loop-holds : tie.Need-loop-holds Inv-loop μ-loop
 loop-holds c = (omega arith, refl, sym (stepped-none _ _ _ _ _ _ _ _ refl))
 
--- src/reverse.rt:19:34
 add-out : tie.Need-add-out Inv-loop μ-loop
 add-out c = omega (arith, c .before .before .pre)
 
--- src/reverse.rt:19:28
 shared-slice-read-out : tie.Need-shared-slice-read-out Inv-loop μ-loop
 shared-slice-read-out c =
     let start = c .before .before .before in
     omega (arith, start .pre)
 
--- src/reverse.rt:19:13
 sub-out : tie.Need-sub-out Inv-loop μ-loop
 sub-out c =
     let start = c .before .before .before in
     omega (arith, start .pre)
 
--- src/reverse.rt:19:13
 sub-out-2 : tie.Need-sub-out-2 Inv-loop μ-loop
 sub-out-2 c =
     let start = c .before .before .before in
     omega (arith, start .pre)
 
--- src/reverse.rt:19:9
 slice-write-out : tie.Need-slice-write-out Inv-loop μ-loop
 slice-write-out c =
     let start = c .before .before .before in
     omega (arith, start .pre, c .before .before .loop .inv .1)
 
--- src/reverse.rt:20:9
 add-k : tie.Need-add-k Inv-loop μ-loop
 add-k c = search needs
 
--- src/reverse.rt:18:5
 loop-less : tie.Need-loop-less Inv-loop μ-loop
 loop-less c = search needs
 
--- src/reverse.rt:18:5
 loop-again : tie.Need-loop-again Inv-loop μ-loop
 unfolding Bytes
 loop-again c =
@@ -97,11 +85,9 @@ loop-again c =
           (ap (λ (x : ℕ). p .from - x) (one-less (p .n) (r .k) (c .before .loop-test .taken)) ∙ one-behind (p .from) (p .n - (r .k + 1))) (omega arith),
     )
 
--- src/reverse.rt:11:1
 same-length : tie.Need-same-length Inv-loop μ-loop
 same-length c = c .before .loop .inv .1
 
--- src/reverse.rt:11:1
 returns : tie.Need-returns Inv-loop μ-loop
 returns c = let p = c .before .before .args in
     let r = c .before .loop in

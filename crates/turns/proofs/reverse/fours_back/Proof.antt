@@ -21,55 +21,45 @@ Inv-loop out₀ at plane from m k₀ out k = (k ≤ m) × (length out ≡ length
 abbrev μ-loop : tie.MeasureT-loop
 μ-loop out₀ at plane from m k₀ out k = m - k
 
--- src/reverse.rt:54:5
 loop-holds : tie.Need-loop-holds Inv-loop μ-loop
 loop-holds c = (omega arith, refl, sym (stepped-none _ _ _ _ _ _ _ _ refl))
 
--- src/reverse.rt:55:32
 mul-reverse-four : tie.Need-mul-reverse-four Inv-loop μ-loop
 mul-reverse-four c =
     let start = c .before .before .before .before .before in
     omega (arith, start .pre)
 
--- src/reverse.rt:55:27
 add-reverse-four : tie.Need-add-reverse-four Inv-loop μ-loop
 add-reverse-four c =
     let start = c .before .before .before .before .before in
     omega (arith, start .pre)
 
--- src/reverse.rt:55:53
 mul-reverse-four-2 : tie.Need-mul-reverse-four-2 Inv-loop μ-loop
 mul-reverse-four-2 c =
     let start = c .before .before .before .before .before in
     omega (arith, start .pre)
 
--- src/reverse.rt:55:46
 sub-reverse-four : tie.Need-sub-reverse-four Inv-loop μ-loop
 sub-reverse-four c =
     let start = c .before .before .before .before .before in
     omega (arith, start .pre)
 
--- src/reverse.rt:55:46
 sub-reverse-four-2 : tie.Need-sub-reverse-four-2 Inv-loop μ-loop
 sub-reverse-four-2 c =
     let start = c .before .before .before .before .before in
     omega (arith, start .pre)
 
--- src/reverse.rt:55:9
 reverse-four-requires : tie.Need-reverse-four-requires Inv-loop μ-loop
 reverse-four-requires c κs =
     let start = c .before .before .before .before .before in
     (omega (arith, start .pre), omega (arith, start .pre, c .before .before .loop .inv .1))
 
--- src/reverse.rt:56:9
 add-k : tie.Need-add-k Inv-loop μ-loop
 add-k c = search needs
 
--- src/reverse.rt:54:5
 loop-less : tie.Need-loop-less Inv-loop μ-loop
 loop-less c = search needs
 
--- src/reverse.rt:54:5
 loop-again : tie.Need-loop-again Inv-loop μ-loop
 loop-again c =
     let start = c .before .before .before .before .before .before .before .before in
@@ -86,11 +76,9 @@ loop-again c =
           (omega arith) (omega arith) (omega arith),
     )
 
--- src/reverse.rt:49:1
 same-length : tie.Need-same-length Inv-loop μ-loop
 same-length c = c .before .loop .inv .1
 
--- src/reverse.rt:49:1
 returns : tie.Need-returns Inv-loop μ-loop
 returns c =
     let start = c .before .before .before .before in

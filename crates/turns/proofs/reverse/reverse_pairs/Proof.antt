@@ -16,33 +16,26 @@ use Rattle.turns.proofs.reverse.reverse_pairs.Lts as lts
 use Rattle.turns.proofs.reverse.reverse_fours.Reads as reverse-fours-reads
 use Rattle.turns.proofs.steps.write_steps.Reads as write-steps-reads
 
--- src/reverse.rt:97:20
 mul-rest : tie.Need-mul-rest
 mul-rest c = search needs
 
--- src/reverse.rt:97:16
 sub-rest : tie.Need-sub-rest
 sub-rest c = search needs
 
--- src/reverse.rt:98:5
 reverse-fours-requires : tie.Need-reverse-fours-requires
 reverse-fours-requires c κs = search needs
 
--- src/reverse.rt:100:21
 mul-result : tie.Need-mul-result
 mul-result c = search needs
 
--- src/reverse.rt:100:16
 add-result : tie.Need-add-result
 add-result c = search needs
 
--- src/reverse.rt:100:9
 same-length : tie.Need-same-length
 same-length c =
     let reverse-fours = c .before .before .before .reverse-fours in
     ap length (reverse-fours .ensures) ∙ length-puts _ _ _
 
--- src/reverse.rt:100:9
 returns : tie.Need-returns
 returns c =
     let start = c .before .before .before .before .before .before .before in
@@ -51,23 +44,18 @@ returns c =
     let e : 4 * (p .n / 4) ≡ p .n = omega (arith, c .if1 .taken) in
     (refl, reverse-fours .ensures ∙ ap (λ (x : ℕ). puts (now (p .out)) (p .at) (stepped (now (p .plane)) 2 (p .from) 0 2 x)) e)
 
--- src/reverse.rt:102:27
 mul-write-steps : tie.Need-mul-write-steps
 mul-write-steps c = search needs
 
--- src/reverse.rt:102:22
 add-write-steps : tie.Need-add-write-steps
 add-write-steps c = search needs
 
--- src/reverse.rt:102:51
 mul-write-steps-2 : tie.Need-mul-write-steps-2
 mul-write-steps-2 c = search needs
 
--- src/reverse.rt:102:44
 sub-write-steps : tie.Need-sub-write-steps
 sub-write-steps c = search needs
 
--- src/reverse.rt:102:5
 write-steps-requires : tie.Need-write-steps-requires
 write-steps-requires c κs =
     let start = c .before .before .before .before .before .before .before .before in
@@ -85,13 +73,11 @@ write-steps-requires c κs =
       omega (arith, h, l),
     )
 
--- src/reverse.rt:85:1
 same-length-2 : tie.Need-same-length-2
 same-length-2 c =
     let reverse-fours = c .before .before .before .before .before .before .before .reverse-fours in
     ap length (c .before .before .write-steps .ensures .1) ∙ length-puts _ _ _ ∙ ap length (reverse-fours .ensures) ∙ length-puts _ _ _
 
--- src/reverse.rt:85:1
 returns-2 : tie.Need-returns-2
 returns-2 c =
     let start = c .before .before .before .before .before .before .before .before .before .before .before in

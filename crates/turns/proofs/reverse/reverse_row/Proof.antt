@@ -15,55 +15,45 @@ two c =
     let start = c .before .before .before .before in
     omega (arith, start .pre .0 .positive, start .pre .0 .bounded, c .if2 .left)
 
--- src/reverse.rt:105:9
 returns : tie.Need-returns
 returns c = (rw (c .if1 .taken) (omega arith), sym (stepped-none _ _ _ _ _ _ _ _ (c .if1 .taken)))
 
--- src/reverse.rt:109:13
 write-steps-requires : tie.Need-write-steps-requires
 write-steps-requires c κs =
     let start = c .before .before .before .before .before .before in
     (rw (c .before .before .if2 .taken) at (start .pre .0), rw (c .before .before .if2 .taken) at (start .pre .1))
 
--- src/reverse.rt:109:13
 same-length : tie.Need-same-length
 same-length c = search needs
 
--- src/reverse.rt:109:13
 returns-2 : tie.Need-returns-2
 returns-2 c =
     let if2 = c .before .before .before .before .before .if2 in
     rw (if2 .taken) (c .before .before .write-steps .ensures)
 
--- src/reverse.rt:111:9
 bytes-forth-requires : tie.Need-bytes-forth-requires
 bytes-forth-requires c κs =
     let start = c .before .before .before .before .before .before in
     let if1 = c .before .before .before .if1 in
     let h = rw (c .before .before .if2 .taken) at (row-inside _ _ _ _ (start .pre .0) (if1 .left)) in (h .0, omega (arith, h .1), omega (arith, rw (c .before .before .if2 .taken) at (start .pre .1)))
 
--- src/reverse.rt:111:9
 same-length-2 : tie.Need-same-length-2
 same-length-2 c = search needs
 
--- src/reverse.rt:111:9
 returns-3 : tie.Need-returns-3
 returns-3 c =
     let if2 = c .before .before .before .before .before .if2 in
     rw (if2 .taken) (c .before .before .bytes-forth .ensures .0 ∙ omega arith, c .before .before .bytes-forth .ensures .1)
 
--- src/reverse.rt:113:5
 reverse-pairs-requires : tie.Need-reverse-pairs-requires
 reverse-pairs-requires c κs =
     let start = c .before .before .before .before .before in
     let e = two (c .before) in
     let h = rw e at (row-inside _ _ _ _ (start .pre .0) (c .before .before .if1 .left)) in (h .0, omega (arith, h .1), omega (arith, rw e at (start .pre .1)))
 
--- src/reverse.rt:92:1
 same-length-3 : tie.Need-same-length-3
 same-length-3 c = search needs
 
--- src/reverse.rt:92:1
 returns-4 : tie.Need-returns-4
 returns-4 c =
     let at-if2 = c .before .before .before .before in

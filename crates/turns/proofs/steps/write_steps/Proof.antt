@@ -23,84 +23,67 @@ abbrev μ-loop : tie.MeasureT-loop
 room : (c : tie.In-loop Inv-loop μ-loop) → c .before .before .args .at + c .before .loop .k * c .before .before .args .bytes + c .before .before .args .bytes ≤ length (c .before .loop .out)
 room c = omega (arith, c .before .before .pre .1, c .before .loop .inv .1, item-within (c .before .loop .k) (c .before .before .args .n) (c .before .before .args .bytes) (c .loop-test .taken))
 
--- src/steps.rt:23:16
 sub-last : tie.Need-sub-last Inv-loop μ-loop
 sub-last c = search needs
 
--- src/steps.rt:25:5
 loop-holds : tie.Need-loop-holds Inv-loop μ-loop
 loop-holds c = (omega arith, refl, sym (stepped-none _ _ _ _ _ _ _ _ refl))
 
--- src/steps.rt:26:24
 mul-j : tie.Need-mul-j Inv-loop μ-loop
 mul-j c = omega (arith, c .before .before .pre .0 .small (c .before .loop .k) (c .loop-test .taken))
 
--- src/steps.rt:26:17
 add-j : tie.Need-add-j Inv-loop μ-loop
 add-j c = omega (arith, c .before .before .pre .0 .small (c .before .loop .k) (c .loop-test .taken))
 
--- src/steps.rt:26:36
 mul-j-2 : tie.Need-mul-j-2 Inv-loop μ-loop
 mul-j-2 c = omega (arith, c .before .before .pre .0 .small (c .before .loop .k) (c .loop-test .taken), c .before .before .pre .0 .behind (c .before .loop .k) (c .loop-test .taken))
 
--- src/steps.rt:26:17
 sub-j : tie.Need-sub-j Inv-loop μ-loop
 sub-j c = omega (arith, c .before .before .pre .0 .behind (c .before .loop .k) (c .loop-test .taken))
 
--- src/steps.rt:27:22
 mul-i : tie.Need-mul-i Inv-loop μ-loop
 mul-i c = omega (arith, room c)
 
--- src/steps.rt:27:17
 add-i : tie.Need-add-i Inv-loop μ-loop
 add-i c = omega (arith, room c)
 
--- src/steps.rt:28:17
 shared-slice-read-a : tie.Need-shared-slice-read-a Inv-loop μ-loop
 shared-slice-read-a c =
     let start = c .before .before .before in
     omega (arith, start .pre .0 .inside (c .before .before .loop .k) (c .before .loop-test .taken), start .pre .0 .positive)
 
--- src/steps.rt:29:23
 add-b : tie.Need-add-b Inv-loop μ-loop
 add-b c =
     let start = c .before .before .before in
     omega (arith, start .pre .0 .inside (c .before .before .loop .k) (c .before .loop-test .taken), start .pre .0 .positive)
 
--- src/steps.rt:29:17
 shared-slice-read-b : tie.Need-shared-slice-read-b Inv-loop μ-loop
 shared-slice-read-b c =
     let start = c .before .before .before .before in
     let loop = c .before .before .before .loop in
     omega (arith, start .pre .0 .inside (loop .k) (c .before .before .loop-test .taken), start .pre .0 .positive)
 
--- src/steps.rt:30:9
 slice-write-out : tie.Need-slice-write-out Inv-loop μ-loop
 slice-write-out c =
     let start = c .before .before .before .before in
     omega (arith, room (c .before .before), start .pre .0 .positive)
 
--- src/steps.rt:31:13
 add-out : tie.Need-add-out Inv-loop μ-loop
 add-out c =
     let start = c .before .before .before .before in
     omega (arith, room (c .before .before), start .pre .0 .positive)
 
--- src/steps.rt:31:9
 slice-write-out-2 : tie.Need-slice-write-out-2 Inv-loop μ-loop
 slice-write-out-2 c =
     let start = c .before .before .before .before in
     simp length-set (omega (arith, room (c .before .before), start .pre .0 .positive))
 
--- src/steps.rt:32:9
 add-k : tie.Need-add-k Inv-loop μ-loop
 add-k c = search needs
 
--- src/steps.rt:25:5
 loop-less : tie.Need-loop-less Inv-loop μ-loop
 loop-less c = search needs
 
--- src/steps.rt:25:5
 loop-again : tie.Need-loop-again Inv-loop μ-loop
 unfolding Bytes
 loop-again c =
@@ -119,19 +102,15 @@ loop-again c =
           ∙ stepped-more _ (now (p .plane)) (p .at) b (p .from) (p .forth) (p .back) (r .k) 1 (f .positive) (f .bounded) (λ z. f .behind (r .k) t) refl refl refl,
     )
 
--- src/steps.rt:34:10
 mul-result : tie.Need-mul-result Inv-loop μ-loop
 mul-result c = omega (arith, c .before .before .pre .1)
 
--- src/steps.rt:34:5
 add-result : tie.Need-add-result Inv-loop μ-loop
 add-result c = omega (arith, c .before .before .pre .1)
 
--- src/steps.rt:10:1
 same-length : tie.Need-same-length Inv-loop μ-loop
 same-length c = c .before .loop .inv .1
 
--- src/steps.rt:10:1
 returns : tie.Need-returns Inv-loop μ-loop
 returns c = let p = c .before .before .args in
     let r = c .before .loop in
