@@ -3,17 +3,19 @@ ghost use mathlib.Core.Path.{_≡_};
 ghost use mathlib.Core.Bool.{true};
 ghost use Prim.Native.Nat.{_+_, _*_, _<_, _≤_, _^_};
 ghost use lib.ListN.{length};
+ghost use Rattle.laws.specs.Pick.{pick};
 ghost use Rattle.laws.specs.Puts.{puts};
 ghost use Rattle.image.specs.Format.{cover};
 ghost use Rattle.image.specs.inner.Placed.{Sound};
 ghost use Rattle.planes.specs.Bytes.{decode, planeBytes, encode};
-ghost use Rattle.transform.specs.inner.Mirrored.{Mirrored};
+ghost use Rattle.transform.specs.inner.Rows.{Mirrored, courseOf};
 ghost use Rattle.transform.specs.inner.Move.{alongFrom, moved, walkBytes, walkOf, planeAxis, lineOf, rowLine, WalkRowFits, WalkInside, MoveFits};
 use image::Form;
 use image::Frame;
 use image::Part;
 use image::PixelFormat;
 use planes::Line;
+use turns::Course;
 
 // Along one axis: from a place on, forward or back.
 pub struct Axis {
@@ -156,6 +158,32 @@ fn mirror_rows(
     i
 }
 
+// A step, or none.
+fn unless(none: bool, step: usize) -> usize
+    ensures { λ r. ⌜ r ≡ pick none 0 step ⌝ }
+{
+    if none {
+        return 0;
+    }
+    step
+}
+
+// Where the samples of a walk stand whose axes are swapped.
+fn turn_course(w: Walk, bytes: usize, stride: usize) -> Course
+    requires { ⌜ (w .across .from < 2 ^ 31) × (w .down .from < 2 ^ 31) × (bytes ≤ 2) × (stride < 2 ^ 32) ⌝ }
+    ensures { λ r. ⌜ r ≡ courseOf w bytes stride ⌝ }
+{
+    let across = w.across;
+    let down = w.down;
+    Course {
+        from: across.from * bytes + down.from * stride,
+        right: unless(across.back, bytes),
+        left: unless(!across.back, bytes),
+        down: unless(down.back, stride),
+        up: unless(!down.back, stride),
+    }
+}
+
 // Writes the rows of a plane that is walked, in the way that suits the walk, and returns the place past them.
 fn write_rows(
     out: &mut [u8],
@@ -170,10 +198,14 @@ fn write_rows(
     requires { ⌜ WalkInside (now plane) bytes stride w columns rows × (at + rows * (columns * bytes) ≤ length (now out)) ⌝ }
     ensures { λ r. ⌜ (r ≡ at + rows * (columns * bytes)) × (now (out .exit) ≡ puts (now (out .entry)) at (walkBytes (now (plane .entry)) bytes stride w columns rows)) ⌝ }
 {
-    let across = w.across;
-    if image::either(w.swapped, w.half_across) {
+    if image::either(w.half_across, image::both(w.swapped, w.half_down)) {
         return walk_rows(out, at, plane, bytes, stride, w, columns, rows);
     }
+    if w.swapped {
+        let c = turn_course(w, bytes, stride);
+        return turns::turn_rows(out, at, plane, bytes, c, columns, rows);
+    }
+    let across = w.across;
     if across.back {
         return mirror_rows(out, at, plane, bytes, stride, w, columns, rows);
     }

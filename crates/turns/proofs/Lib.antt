@@ -1,1 +1,2 @@
 pub mod SteppedLaws
+pub mod CourseLaws

@@ -17,7 +17,7 @@ use Rattle.turns.specs.inner.Stepped.{SteppedFits, stepTo, stepped}
 
 -- ---- one run stored before another
 
-puts-apart : (d : List ℕ) (i : ℕ) (vs : List ℕ) (j : ℕ) (us : List ℕ) → j + length us ≤ i → puts (puts d i vs) j us ≡ puts (puts d j us) i vs
+pub puts-apart : (d : List ℕ) (i : ℕ) (vs : List ℕ) (j : ℕ) (us : List ℕ) → j + length us ≤ i → puts (puts d i vs) j us ≡ puts (puts d j us) i vs
 unfolding puts
 puts-apart d i vs j [] h = refl
 puts-apart d i vs j (u ∷ us) h =
@@ -32,7 +32,7 @@ pub length-stepped : (s : List ℕ) (b from f g n : ℕ) → 1 ≤ b → b ≤ 2
 unfolding stepped
 length-stepped s b from f g n l h = length-samplesOf b _ n l h
 
-step-on : (from f g a k : ℕ) → a * g ≤ from + a * f → stepTo from f g (a + k) ≡ stepTo (stepTo from f g a) f g k
+pub step-on : (from f g a k : ℕ) → a * g ≤ from + a * f → stepTo from f g (a + k) ≡ stepTo (stepTo from f g a) f g k
 unfolding stepTo
 step-on from f g a k h = omega (arith, add-mul a k f, add-mul a k g)
 

@@ -1,5 +1,8 @@
-// Rows of a plane reversed, each by whole rows.
+// Rows of a plane reversed, and its columns written as rows.
 mod reverse;
 mod steps;
+mod turn;
 
 pub use crate::reverse::reverse_row;
+pub use crate::turn::Course;
+pub use crate::turn::turn_rows;
