@@ -6,3 +6,4 @@ pub mod Runs
 pub mod Shown
 pub mod Carried
 pub mod Mirrors
+pub mod Turned

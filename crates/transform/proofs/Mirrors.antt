@@ -18,7 +18,7 @@ use Rattle.turns.specs.inner.Stepped.{SteppedFits, stepTo, stepped}
 use Rattle.transform.proofs.Walks.{reach-small, row-fits}
 use Rattle.transform.specs.declared.moves.Axis.{Axis}
 use Rattle.transform.specs.declared.moves.Walk.{Walk}
-use Rattle.transform.specs.inner.Mirrored.{Mirrored}
+use Rattle.transform.specs.inner.Rows.{Mirrored}
 use Rattle.transform.specs.inner.Move.{WalkInside, alongFrom, walkAt, walkBytes, walkX, walkY}
 
 -- the row y of a mirrored walk, by the plane's row that it is and the place of that row's last sample

@@ -1,4 +1,4 @@
 -- What only proofs and the contracts of inner functions cite: no public promise does.
 pub mod Move
-pub mod Mirrored
+pub mod Rows
 pub mod Shows

@@ -159,13 +159,13 @@ fn mirror_rows(
 }
 
 // A step, or none.
-fn unless(none: bool, step: usize) -> usize
-    ensures { λ r. ⌜ r ≡ pick none 0 step ⌝ }
+fn step_where(taken: bool, step: usize) -> usize
+    ensures { λ r. ⌜ r ≡ pick taken step 0 ⌝ }
 {
-    if none {
-        return 0;
+    if taken {
+        return step;
     }
-    step
+    0
 }
 
 // Where the samples of a walk stand whose axes are swapped.
@@ -177,10 +177,10 @@ fn turn_course(w: Walk, bytes: usize, stride: usize) -> Course
     let down = w.down;
     Course {
         from: across.from * bytes + down.from * stride,
-        right: unless(across.back, bytes),
-        left: unless(!across.back, bytes),
-        down: unless(down.back, stride),
-        up: unless(!down.back, stride),
+        right: step_where(!across.back, bytes),
+        left: step_where(across.back, bytes),
+        down: step_where(!down.back, stride),
+        up: step_where(down.back, stride),
     }
 }
 

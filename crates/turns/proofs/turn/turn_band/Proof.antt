@@ -32,37 +32,30 @@ room c =
 wide : (c : tie.After-least Inv-loop μ-loop) → let start = c .before .before .before .before .before in (1 ≤ c .least .result) × (c .before .before .loop .k + c .least .result ≤ start .args .columns)
 wide c = (omega (arith, c .least .ensures, c .before .loop-test .taken), omega (arith, c .least .ensures, c .before .loop-test .taken))
 
--- src/turn.rt:91:17
 mul-pitch : tie.Need-mul-pitch Inv-loop μ-loop
 mul-pitch c = omega (arith, c .before .before .pre .1, item-within 0 (c .before .before .args .rows) (c .before .before .args .columns * c .before .before .args .bytes) (c .before .before .pre .2))
 
--- src/turn.rt:93:5
 loop-holds : tie.Need-loop-holds Inv-loop μ-loop
 loop-holds c = (omega arith, refl, sym (blocks-none _ _ _ _ _ (c .before .before .pre .0) _ _ _))
 
--- src/turn.rt:94:23
 sub-least : tie.Need-sub-least Inv-loop μ-loop
 sub-least c = search needs
 
--- src/turn.rt:94:13
 least-requires : tie.Need-least-requires Inv-loop μ-loop
 least-requires c κs = search needs
 
--- src/turn.rt:96:28
 mul-turn-sized : tie.Need-mul-turn-sized Inv-loop μ-loop
 mul-turn-sized c =
     let start = c .before .before .before .before .before .before in
     let loop = c .before .before .before .loop in
     omega (arith, start .pre .0 .small (loop .k) 0 (omega arith) (omega arith))
 
--- src/turn.rt:96:19
 add-turn-sized : tie.Need-add-turn-sized Inv-loop μ-loop
 add-turn-sized c =
     let start = c .before .before .before .before .before .before .before in
     let loop = c .before .before .before .before .loop in
     omega (arith, start .pre .0 .small (loop .k) 0 (omega arith) (omega arith))
 
--- src/turn.rt:96:41
 mul-turn-sized-2 : tie.Need-mul-turn-sized-2 Inv-loop μ-loop
 mul-turn-sized-2 c =
     let start = c .before .before .before .before .before .before .before .before in
@@ -70,7 +63,6 @@ mul-turn-sized-2 c =
     let loop-test = c .before .before .before .before .loop-test in
     omega (arith, start .pre .0 .small (loop .k) 0 (omega arith) (omega arith), from-behind _ _ _ _ _ (start .pre .0) (loop .k) 1 (omega arith) (omega (arith, loop-test .taken)) (start .pre .2))
 
--- src/turn.rt:96:19
 sub-turn-sized : tie.Need-sub-turn-sized Inv-loop μ-loop
 sub-turn-sized c =
     let start = c .before .before .before .before .before .before .before .before in
@@ -78,19 +70,16 @@ sub-turn-sized c =
     let loop-test = c .before .before .before .before .loop-test in
     omega (arith, from-behind _ _ _ _ _ (start .pre .0) (loop .k) 1 (omega arith) (omega (arith, loop-test .taken)) (start .pre .2))
 
--- src/turn.rt:102:30
 mul-turn-sized-3 : tie.Need-mul-turn-sized-3 Inv-loop μ-loop
 mul-turn-sized-3 c =
     let at-loop-test = c .before .before .before .before .before in
     omega (arith, room at-loop-test)
 
--- src/turn.rt:102:25
 add-turn-sized-2 : tie.Need-add-turn-sized-2 Inv-loop μ-loop
 add-turn-sized-2 c =
     let at-loop-test = c .before .before .before .before .before in
     omega (arith, room at-loop-test)
 
--- src/turn.rt:102:9
 turn-sized-requires : tie.Need-turn-sized-requires Inv-loop μ-loop
 unfolding stepTo
 turn-sized-requires c κs =
@@ -103,19 +92,16 @@ turn-sized-requires c κs =
       block-room _ _ _ _ _ (start .pre .0) (loop .k) (least .result) (w .0) (w .1) (start .args .at) _ (omega (arith, start .pre .1, loop .inv .1)),
     )
 
--- src/turn.rt:103:9
 add-k : tie.Need-add-k Inv-loop μ-loop
 add-k c =
     let at-least = c .before .before .before .before .before .before .before in
     omega (arith, wide at-least)
 
--- src/turn.rt:93:5
 loop-less : tie.Need-loop-less Inv-loop μ-loop
 loop-less c =
     let at-least = c .before .before .before .before .before .before .before in
     omega (arith, wide at-least)
 
--- src/turn.rt:93:5
 loop-again : tie.Need-loop-again Inv-loop μ-loop
 unfolding stepTo
 loop-again c =
@@ -133,23 +119,19 @@ loop-again c =
           ∙ blocks-more _ _ _ _ _ (start .pre .0) (r .k) (least .result) (w .0) (w .1) (now (p .out)) (p .at) _ refl,
     )
 
--- src/turn.rt:105:10
 mul-result : tie.Need-mul-result Inv-loop μ-loop
 mul-result c =
     let start = c .before .before .before .before in
     omega (arith, start .pre .1)
 
--- src/turn.rt:105:5
 add-result : tie.Need-add-result Inv-loop μ-loop
 add-result c =
     let start = c .before .before .before .before in
     omega (arith, start .pre .1)
 
--- src/turn.rt:79:1
 same-length : tie.Need-same-length Inv-loop μ-loop
 same-length c = c .before .loop .inv .1
 
--- src/turn.rt:79:1
 returns : tie.Need-returns Inv-loop μ-loop
 returns c =
     let start = c .before .before .before .before in

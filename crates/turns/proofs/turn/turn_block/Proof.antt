@@ -32,58 +32,47 @@ room c =
     let start = c .before .before .before .before in
     omega (arith, start .pre .1 (c .before .loop .y) (c .loop-test .taken), c .before .loop .inv .1)
 
--- src/turn.rt:50:5
 loop-holds : tie.Need-loop-holds Inv-loop μ-loop
 loop-holds c = (omega arith, refl, sym (rows-none _ _ _ _ _ refl))
 
--- src/turn.rt:51:24
 mul-j : tie.Need-mul-j Inv-loop μ-loop
 mul-j c =
     let start = c .before .before .before .before in
     omega (arith, start .pre .0 .small 0 (c .before .loop .y) (omega arith) (omega arith))
 
--- src/turn.rt:51:17
 add-j : tie.Need-add-j Inv-loop μ-loop
 add-j c =
     let start = c .before .before .before .before in
     omega (arith, start .pre .0 .small 0 (c .before .loop .y) (omega arith) (omega arith))
 
--- src/turn.rt:51:36
 mul-j-2 : tie.Need-mul-j-2 Inv-loop μ-loop
 mul-j-2 c =
     let start = c .before .before .before .before in
     omega (arith, start .pre .0 .small 0 (c .before .loop .y) (omega arith) (omega arith), start .pre .0 .across (c .before .loop .y) (c .loop-test .taken))
 
--- src/turn.rt:51:17
 sub-j : tie.Need-sub-j Inv-loop μ-loop
 sub-j c =
     let start = c .before .before .before .before in
     omega (arith, start .pre .0 .across (c .before .loop .y) (c .loop-test .taken))
 
--- src/turn.rt:52:31
 mul-write-steps : tie.Need-mul-write-steps Inv-loop μ-loop
 mul-write-steps c = omega (arith, room (c .before))
 
--- src/turn.rt:52:26
 add-write-steps : tie.Need-add-write-steps Inv-loop μ-loop
 add-write-steps c = omega (arith, room (c .before))
 
--- src/turn.rt:52:9
 write-steps-requires : tie.Need-write-steps-requires Inv-loop μ-loop
 unfolding rowFrom stepTo
 write-steps-requires c κs =
     let start = c .before .before .before .before .before in
     (row-fits _ _ _ _ _ (start .pre .0) (c .before .before .loop .y) (c .before .loop-test .taken), room (c .before))
 
--- src/turn.rt:53:9
 add-y : tie.Need-add-y Inv-loop μ-loop
 add-y c = search needs
 
--- src/turn.rt:50:5
 loop-less : tie.Need-loop-less Inv-loop μ-loop
 loop-less c = search needs
 
--- src/turn.rt:50:5
 loop-again : tie.Need-loop-again Inv-loop μ-loop
 unfolding courseRow rowFrom stepTo
 loop-again c =
@@ -98,11 +87,9 @@ loop-again c =
           ∙ rows-more (now (p .out)) (p .at) (p .pitch) (courseRow (now (p .plane)) (p .bytes) (p .c) (p .n)) (r .y),
     )
 
--- src/turn.rt:31:1
 same-length : tie.Need-same-length Inv-loop μ-loop
 same-length c = c .before .loop .inv .1
 
--- src/turn.rt:31:1
 returns : tie.Need-returns Inv-loop μ-loop
 returns c =
     let start = c .before .before .before .before in

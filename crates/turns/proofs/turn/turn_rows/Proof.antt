@@ -30,27 +30,22 @@ abbrev μ-loop : tie.MeasureT-loop
 high : (c : tie.After-least Inv-loop μ-loop) → let start = c .before .before .before .before .before in (1 ≤ c .least .result) × (c .before .before .loop .y + c .least .result ≤ start .args .rows)
 high c = (omega (arith, c .least .ensures, c .before .loop-test .taken), omega (arith, c .least .ensures, c .before .loop-test .taken))
 
--- src/turn.rt:123:5
 loop-holds : tie.Need-loop-holds Inv-loop μ-loop
 unfolding puts
 loop-holds c = (omega arith, omega arith, refl, sym (ap (puts _ _) (span-end _ 0 0 (omega arith))))
 
--- src/turn.rt:124:23
 sub-least : tie.Need-sub-least Inv-loop μ-loop
 sub-least c = search needs
 
--- src/turn.rt:124:13
 least-requires : tie.Need-least-requires Inv-loop μ-loop
 least-requires c κs = search needs
 
--- src/turn.rt:126:28
 mul-t13 : tie.Need-mul-t13 Inv-loop μ-loop
 mul-t13 c =
     let start = c .before .before .before .before .before .before in
     let loop = c .before .before .before .loop in
     omega (arith, start .pre .0 .small 0 (loop .y) (omega arith) (omega (arith, c .before .before .loop-test .taken)))
 
--- src/turn.rt:126:19
 add-t14 : tie.Need-add-t14 Inv-loop μ-loop
 add-t14 c =
     let start = c .before .before .before .before .before .before .before in
@@ -58,7 +53,6 @@ add-t14 c =
     let loop-test = c .before .before .before .loop-test in
     omega (arith, start .pre .0 .small 0 (loop .y) (omega arith) (omega (arith, loop-test .taken)))
 
--- src/turn.rt:126:42
 mul-t15 : tie.Need-mul-t15 Inv-loop μ-loop
 mul-t15 c =
     let start = c .before .before .before .before .before .before .before .before in
@@ -66,7 +60,6 @@ mul-t15 c =
     let loop-test = c .before .before .before .before .loop-test in
     omega (arith, start .pre .0 .small 0 (loop .y) (omega arith) (omega (arith, loop-test .taken)), start .pre .0 .across (loop .y) (loop-test .taken))
 
--- src/turn.rt:126:19
 sub-t16 : tie.Need-sub-t16 Inv-loop μ-loop
 sub-t16 c =
     let start = c .before .before .before .before .before .before .before .before in
@@ -74,7 +67,6 @@ sub-t16 c =
     let loop-test = c .before .before .before .before .loop-test in
     omega (arith, start .pre .0 .across (loop .y) (loop-test .taken))
 
--- src/turn.rt:132:9
 turn-band-requires : tie.Need-turn-band-requires Inv-loop μ-loop
 unfolding stepTo
 turn-band-requires c κs =
@@ -90,19 +82,16 @@ turn-band-requires c κs =
       w .0,
     )
 
--- src/turn.rt:133:9
 add-y : tie.Need-add-y Inv-loop μ-loop
 add-y c =
     let at-least = c .before .before .before .before .before .before .before in
     omega (arith, high at-least)
 
--- src/turn.rt:123:5
 loop-less : tie.Need-loop-less Inv-loop μ-loop
 loop-less c =
     let at-least = c .before .before .before .before .before .before .before in
     omega (arith, high at-least)
 
--- src/turn.rt:123:5
 loop-again : tie.Need-loop-again Inv-loop μ-loop
 unfolding stepTo
 loop-again c =
@@ -121,11 +110,9 @@ loop-again c =
           ∙ bands-more _ _ _ _ _ (start .pre .0) (r .y) (least .result) (w .0) (w .1) (now (p .out)) (p .at) (r .i) (r .inv .1),
     )
 
--- src/turn.rt:109:1
 same-length : tie.Need-same-length Inv-loop μ-loop
 same-length c = c .before .loop .inv .2
 
--- src/turn.rt:109:1
 returns : tie.Need-returns Inv-loop μ-loop
 returns c =
     let start = c .before .before .before .before in

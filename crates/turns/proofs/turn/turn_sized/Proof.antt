@@ -12,33 +12,27 @@ two c =
     let start = c .before .before .before in
     omega (arith, start .pre .0 .positive, start .pre .0 .bounded, c .if1 .left)
 
--- src/turn.rt:72:9
 turn-block-requires : tie.Need-turn-block-requires
 turn-block-requires c κs =
     let start = c .before .before .before .before in
     (rw (c .before .if1 .taken) at (start .pre .0), rw (c .before .if1 .taken) at (start .pre .1))
 
--- src/turn.rt:73:9
 same-length : tie.Need-same-length
 same-length c = search needs
 
--- src/turn.rt:73:9
 returns : tie.Need-returns
 returns c =
     let if1 = c .before .before .before .before .if1 in
     rw (if1 .taken) (c .before .before .turn-block .ensures)
 
--- src/turn.rt:75:5
 turn-block-requires-2 : tie.Need-turn-block-requires-2
 turn-block-requires-2 c κs =
     let start = c .before .before .before .before in
     (rw (two (c .before)) at (start .pre .0), rw (two (c .before)) at (start .pre .1))
 
--- src/turn.rt:58:1
 same-length-2 : tie.Need-same-length-2
 same-length-2 c = search needs
 
--- src/turn.rt:58:1
 returns-2 : tie.Need-returns-2
 returns-2 c =
     let at-if1 = c .before .before .before .before in
