@@ -129,7 +129,8 @@ fn walk_rows(
     i
 }
 
-// The same where each row is one of the plane's, from its last sample back. They are read the way that they run.
+// The same where each row is one of the plane's, from its last sample back. It is read from its end back where the rows run up, and from
+// its start on where they run down.
 fn mirror_rows(
     out: &mut [u8],
     at: usize,

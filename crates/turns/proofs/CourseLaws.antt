@@ -1,69 +1,23 @@
 -- Laws of turned planes: parts of their rows, and blocks of them stored one beside the other.
-use mathlib.Core.List.{List, [], _++_, append-nil}
-use mathlib.Core.Path.{_∙_, _≡_, ap, ap₂, refl, sym}
-use Prim.Native.Nat.{_*_, _+_, _<_, _^_, _≤_, suc, zero, ℕ}
+use mathlib.Core.List.{List, _++_}
+use mathlib.Core.Path.{_∙_, _≡_, ap, ap₂, sym}
+use Prim.Native.Nat.{_*_, _+_, _<_, _^_, _≤_, ℕ}
 use native.Mathlib.Nat.{add-mul}
 use native.Mathlib.Omega.{arith}
 use lib.ListN.{length}
 use Rattle.laws.proofs.Order.{item-within, mul-below}
 use Rattle.laws.proofs.Puts.{puts-append}
-use Rattle.laws.proofs.Span.{length-span-all, span-cong, span-end, span-shift, span-split, span-step}
+use Rattle.laws.proofs.Span.{length-span-all, span-cong, span-end, span-shift, span-split}
 use Rattle.laws.specs.Puts.{puts}
 use Rattle.laws.specs.Span.{span}
 use Rattle.planes.specs.Bytes.{samplesOf}
 use Rattle.paste.proofs.RowLaws.{rows-cong}
 use Rattle.paste.specs.Stored.{storeRows}
-use Rattle.turns.proofs.SteppedLaws.{length-stepped, puts-apart, step-on, stepped-split}
+use Rattle.turns.proofs.SteppedLaws.{length-stepped, step-on, stepped-split}
+use Rattle.turns.proofs.StoreLaws.{rows-empty, rows-joined, rows-whole}
 use Rattle.turns.specs.declared.turn.Course.{Course}
 use Rattle.turns.specs.inner.Course.{BlockFits, CourseFits, courseRow, rowFrom}
 use Rattle.turns.specs.inner.Stepped.{SteppedFits, stepTo, stepped}
-
--- ---- rows stored one below the other
-
--- bytes behind all rows may be stored before them or after
-rows-apart : (d : List ℕ) (at stride : ℕ) (g : ℕ → List ℕ) (n i : ℕ) (vs : List ℕ) → ((y : ℕ) → y < n → at + y * stride + length (g y) ≤ i)
-    → storeRows (puts d i vs) at stride g n ≡ puts (storeRows d at stride g n) i vs
-unfolding storeRows
-rows-apart d at stride g zero i vs h = refl
-rows-apart d at stride g (suc n) i vs h =
-    ap (λ (q : List ℕ). puts q (at + n * stride) (g n)) (rows-apart d at stride g n i vs (λ y l. h y (omega arith)))
-    ∙ puts-apart (storeRows d at stride g n) i vs (at + n * stride) (g n) (h n (omega arith))
-
--- rows beside rows of a bytes
-pub rows-joined : (d : List ℕ) (at stride a : ℕ) (f g : ℕ → List ℕ) (n : ℕ) → ((y : ℕ) → length (f y) ≡ a) → ((y : ℕ) → a + length (g y) ≤ stride)
-    → storeRows (storeRows d at stride f n) (at + a) stride g n ≡ storeRows d at stride (λ y. f y ++ g y) n
-unfolding storeRows
-rows-joined d at stride a f g zero h r = refl
-rows-joined d at stride a f g (suc n) h r =
-    let e : at + a + n * stride ≡ at + n * stride + length (f n) = omega (arith, h n) in
-    ap (λ (q : List ℕ). puts q (at + a + n * stride) (g n)) (rows-apart (storeRows d at stride f n) (at + a) stride g n (at + n * stride) (f n) before)
-    ∙ ap₂ (λ (q : List ℕ) (i : ℕ). puts q i (g n)) (ap (λ (q : List ℕ). puts q (at + n * stride) (f n)) (rows-joined d at stride a f g n h r)) e
-    ∙ sym (puts-append (storeRows d at stride (λ y. f y ++ g y) n) (at + n * stride) (f n) (g n))
-  where
-    before : (y : ℕ) → y < n → at + a + y * stride + length (g y) ≤ at + n * stride
-    before y l = omega (arith, r y, item-within y n stride l)
-
-pub rows-empty : (d : List ℕ) (at stride : ℕ) (f : ℕ → List ℕ) (n : ℕ) → ((y : ℕ) → f y ≡ []) → storeRows d at stride f n ≡ d
-unfolding storeRows puts
-rows-empty d at stride f zero h = refl
-rows-empty d at stride f (suc n) h = ap (puts (storeRows d at stride f n) (at + n * stride)) (h n) ∙ rows-empty d at stride f n h
-
-span-last : (f : ℕ → List ℕ) (n : ℕ) → span f 0 (suc n) ≡ span f 0 n ++ f n
-span-last f n =
-    span-split f 0 n (suc n) (omega arith) (omega arith)
-    ∙ ap (λ (q : List ℕ). span f 0 n ++ q)
-    (span-step f n (suc n) (omega arith) ∙ ap (λ (q : List ℕ). f n ++ q) (span-end f (n + 1) (suc n) (omega arith)) ∙ append-nil (f n))
-
--- whole rows are bytes one after the other
-pub rows-whole : (d : List ℕ) (at stride : ℕ) (f : ℕ → List ℕ) (n : ℕ) → ((y : ℕ) → length (f y) ≡ stride) → storeRows d at stride f n ≡ puts d at (span f 0 n)
-unfolding storeRows puts
-rows-whole d at stride f zero h = sym (ap (puts d at) (span-end f 0 0 (omega arith)))
-rows-whole d at stride f (suc n) h =
-    let e : at + n * stride ≡ at + length (span f 0 n) = ap (λ (k : ℕ). at + k) (sym (length-span-all f stride n h)) in
-    ap₂ (λ (q : List ℕ) (i : ℕ). puts q i (f n)) (rows-whole d at stride f n h) e
-    ∙ sym (puts-append d at (span f 0 n) (f n)) ∙ ap (puts d at) (sym (span-last f n))
-
--- ---- parts of a turned plane
 
 -- from a sample on, along rows or within them: the same sample either way
 cross : (from r l d u y k : ℕ) → y * l ≤ from + y * r → k * u ≤ from + k * d → stepTo (stepTo from d u k) r l y ≡ stepTo (stepTo from r l y) d u k

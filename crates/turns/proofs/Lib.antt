@@ -1,2 +1,3 @@
+pub mod StoreLaws
 pub mod SteppedLaws
 pub mod CourseLaws

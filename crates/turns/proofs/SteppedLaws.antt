@@ -5,28 +5,16 @@ use Prim.Native.Nat.{_%_, _*_, _+_, _-_, _<_, _≤_, suc, ℕ}
 use native.Mathlib.Nat.{add-mul, suc-mul}
 use native.Mathlib.Omega.{arith}
 use lib.ListN.{getD, length, set}
-use Rattle.laws.specs.Pick.{pick}
 use Rattle.laws.proofs.Order.{positive}
-use Rattle.laws.proofs.Puts.{puts-append, set-puts}
+use Rattle.laws.proofs.Puts.{puts-append}
 use Rattle.laws.proofs.Span.{span-cong, span-end, span-shift, span-split}
+use Rattle.laws.specs.Pick.{pick}
 use Rattle.laws.specs.Puts.{Bytes, puts}
 use Rattle.laws.specs.Span.{run, span}
 use Rattle.planes.proofs.ByteLaws.{length-samplesOf, sample-one, sample-stored}
 use Rattle.planes.specs.Bytes.{sampleAt, sampleBytes, samplesOf}
+use Rattle.turns.proofs.StoreLaws.{puts-before}
 use Rattle.turns.specs.inner.Stepped.{SteppedFits, stepTo, stepped}
-
--- ---- one run stored before another
-
-pub puts-apart : (d : List ℕ) (i : ℕ) (vs : List ℕ) (j : ℕ) (us : List ℕ) → j + length us ≤ i → puts (puts d i vs) j us ≡ puts (puts d j us) i vs
-unfolding puts
-puts-apart d i vs j [] h = refl
-puts-apart d i vs j (u ∷ us) h =
-    ap (λ (q : List ℕ). puts q (j + 1) us) (set-puts d i j u vs (omega arith)) ∙ puts-apart (set d j u) i vs (j + 1) us (omega arith)
-
-pub puts-before : (d : List ℕ) (i : ℕ) (vs : List ℕ) (j : ℕ) (us : List ℕ) → j + length us ≡ i → puts (puts d i vs) j us ≡ puts d j (us ++ vs)
-puts-before d i vs j us e = puts-apart d i vs j us (omega arith) ∙ ap (λ (k : ℕ). puts (puts d j us) k vs) (sym e) ∙ sym (puts-append d j us vs)
-
--- ---- samples so many bytes apart
 
 pub length-stepped : (s : List ℕ) (b from f g n : ℕ) → 1 ≤ b → b ≤ 2 → length (stepped s b from f g n) ≡ n * b
 unfolding stepped

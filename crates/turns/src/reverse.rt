@@ -1,5 +1,5 @@
-// A row of samples written from its last to its first. The plane is read from that row's end back or from its start on, which is as
-// fast as a copy where the rows run the same way.
+// A row of samples written from its last to its first. It is read from its end back or from its start on, as the caller says: so a
+// plane whose rows run up, or down, is read in one direction.
 ghost use mathlib.Core.Path.{_≡_};
 ghost use Prim.Native.Nat.{_+_, _*_, _≤_};
 ghost use lib.ListN.{length};

@@ -1,4 +1,5 @@
-// The columns of a plane written as rows, block by block: a block's samples stay in the processor's nearest memory while it is turned.
+// The columns of a plane written as rows, block by block, so that the lines of memory that a block is read from and written to stay
+// in the processor's cache.
 ghost use mathlib.Core.Path.{_≡_};
 ghost use Prim.Native.Nat.{_+_, _*_, _≤_, min};
 ghost use lib.ListN.{length};

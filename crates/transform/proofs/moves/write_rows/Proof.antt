@@ -56,7 +56,8 @@ turn-course-requires c κs =
 turn-rows-requires : tie.Need-turn-rows-requires
 turn-rows-requires c κs =
     let start = c .before .before .before .before .before .before .before .before in
-    let t = turned (c .before .before) in (rw (c .before .turn-course .ensures) (turned-fits _ _ _ _ _ _ (start .pre .0) (c .before .before .if2 .taken) (t .0) (t .1)), start .pre .1)
+    let t = turned (c .before .before) in
+    (rw (c .before .turn-course .ensures) (turned-fits _ _ _ _ _ _ (start .pre .0) (c .before .before .if2 .taken) (t .0) (t .1)), start .pre .1)
 
 same-length-2 : tie.Need-same-length-2
 same-length-2 c = search needs
@@ -68,7 +69,13 @@ returns-2 c =
     let if2 = c .before .before .before .before .before .if2 in
     let turn-course = c .before .before .before .before .turn-course in
     let t = turned at-if2 in
-    (c .before .before .turn-rows .ensures .0, c .before .before .turn-rows .ensures .1 ∙ ap (puts (now (start .args .out)) (start .args .at)) (ap (λ (q : Course). span (courseRow (now (start .args .plane)) (start .args .bytes) q (start .args .columns)) 0 (start .args .rows)) (turn-course .ensures) ∙ turned-bytes _ _ _ _ _ _ (start .pre .0) (if2 .taken) (t .0) (t .1)))
+    let p = start .args in (
+      c .before .before .turn-rows .ensures .0,
+      c .before .before .turn-rows .ensures .1
+          ∙ ap (puts (now (p .out)) (p .at))
+          (ap (λ (q : Course). span (courseRow (now (p .plane)) (p .bytes) q (p .columns)) 0 (p .rows)) (turn-course .ensures)
+          ∙ turned-bytes _ _ _ _ _ _ (start .pre .0) (if2 .taken) (t .0) (t .1)),
+    )
 
 mirror-rows-requires : tie.Need-mirror-rows-requires
 mirror-rows-requires c κs =
