@@ -2,16 +2,18 @@
 use mathlib.Core.Bool.{Bool, _&&_, _||_, false, true}
 use mathlib.Core.List.{List, [], _∷_}
 use mathlib.Core.Path.{_∙_, _≡_, ap, ap₂, refl, sym}
-use Prim.Native.Nat.{_*_, _+_, _-_, _<_, _≤_, suc, zero, ℕ}
+use Prim.Native.Nat.{_*_, _+_, _-_, _<_, _^_, _≤_, suc, zero, ℕ}
 use native.Mathlib.Nat.{not-suc-le-zero}
 use native.Mathlib.Omega.{arith}
-use lib.Dec.{ltb}
+use lib.Dec.{eqb, leb, ltb}
 use lib.ListN.{length}
-use borrow.Author.Tests.{le-ltb, lt-ltb}
-use Rattle.laws.proofs.Order.{by-equal, by-test, pick-false, pick-true, true-and}
+use borrow.Author.Tests.{eq-eqb, le-ltb, lt-leb, lt-ltb, ne-eqb}
+use Rattle.laws.proofs.Order.{by-equal, by-order, by-test, pick-false, pick-le, pick-true, true-and}
 use Rattle.laws.proofs.Out.{andThen-done, done-same, refuse-done}
 use Rattle.laws.specs.Any.{any, anyBelow}
 use Rattle.laws.specs.Out.{Out, done, refused}
+use Rattle.laws.specs.Pick.{pick}
+use Rattle.laws.specs.Puts.{Bytes}
 use Rattle.laws.specs.declared.Refusal.{Refusal}
 use Rattle.image.proofs.FormLaws.{bytes-few}
 use Rattle.image.proofs.RecordLaws.{head-sound, part-past, record-sound, sample-inside}
@@ -24,11 +26,12 @@ use Rattle.image.specs.declared.format.Part.the-variants.{Alpha, Cb, Cr, Luma}
 use Rattle.image.specs.declared.record.Frame.{Frame}
 use Rattle.image.specs.declared.record.Plane.{Plane}
 use Rattle.image.specs.inner.Frames.{framesFrom, onward}
+use Rattle.image.specs.inner.Placed.{InSlice}
+use Rattle.planes.proofs.ByteLaws.{sample-small}
 use Rattle.planes.specs.Bytes.{decode, sampleIn}
 use Rattle.inputs.specs.Inputs.{alphaAbove, firstForm}
 use Rattle.inputs.specs.declared.alpha_check.AlphaPlane.{AlphaPlane}
-use Rattle.inputs.specs.inner.Summary.{alphaPlane, alphaPlaneAt, noAlpha}
-use Rattle.image.specs.inner.Placed.{InSlice}
+use Rattle.inputs.specs.inner.Summary.{alphaPlane, alphaPlaneAt, noAlpha, searchedRows}
 
 -- ---- records in turn
 
@@ -237,6 +240,25 @@ pub found-some : (s : List ℕ) (at : ℕ) (fr : Frame) (b : ℕ) → recordAt s
     → alphaPlaneAt at (recordAt s at) ≡ record { plane = fr .alpha; bytes = b; columns = fr .form .width; rows = fr .form .height; end = fr .end }
 unfolding alphaPlaneAt
 found-some s at fr b e h k = ap (alphaPlaneAt at) e ∙ plane-some s fr h ∙ ap (λ (n : ℕ). record { plane = fr .alpha; bytes = n; columns = fr .form .width; rows = fr .form .height; end = fr .end }) (sym k)
+
+-- ---- rows that are searched
+
+pub searched-few : (rows bytes top : ℕ) → searchedRows rows bytes top ≤ rows
+unfolding searchedRows
+searched-few rows bytes top = pick-le _ _ _ rows (pick-le _ 0 rows rows (omega arith) (omega arith)) (pick-le _ 0 rows rows (omega arith) (omega arith))
+
+-- where they hold nothing above top, no row does
+pub searched-all : (d : List ℕ) (rows bytes top stride x y : ℕ) → Bytes d → 1 ≤ bytes → bytes ≤ 2 → y < rows → (y < searchedRows rows bytes top → sampleIn d bytes stride x y ≤ top) → sampleIn d bytes stride x y ≤ top
+unfolding searchedRows sampleIn
+searched-all d rows bytes top stride x y small l h g f =
+    let few = sample-small d bytes (y * stride + x * bytes) small l h in
+    by-equal bytes 1
+    (λ e. by-order top 255
+    (λ t. f (rw (pick-true _ (pick (leb 255 top) 0 rows) (pick (eqb top 65535) 0 rows) (eq-eqb bytes 1 e), pick-false _ 0 rows (lt-leb 255 top t)) g))
+    (λ t. let k : 256 ^ bytes ≡ 256 ^ 1 = ap (λ (n : ℕ). 256 ^ n) e in omega (arith, few, k)))
+    (λ e. by-equal top 65535
+    (λ t. let b : bytes ≡ 2 = omega arith in let k : 256 ^ bytes ≡ 256 ^ 2 = ap (λ (n : ℕ). 256 ^ n) b in omega (arith, few, k))
+    (λ t. f (rw (pick-false _ (pick (leb 255 top) 0 rows) (pick (eqb top 65535) 0 rows) (ne-eqb bytes 1 e), pick-false _ 0 rows (ne-eqb top 65535 t)) g)))
 
 -- ---- the search, by what a place's plane was found to be
 

@@ -4,7 +4,7 @@ ghost use Rattle.image.specs.Record.{recordAt};
 ghost use Rattle.laws.specs.Any.{any};
 ghost use Rattle.inputs.specs.Inputs.{alphaAbove};
 ghost use Rattle.image.specs.inner.Frames.{framesFrom};
-ghost use Rattle.inputs.specs.inner.Summary.{noAlpha, alphaPlaneAt};
+ghost use Rattle.inputs.specs.inner.Summary.{noAlpha, alphaPlaneAt, searchedRows};
 use image::FrameRead;
 use image::Part;
 use image::Plane;
@@ -57,6 +57,22 @@ fn alpha_at(tray: &[u8], at: usize) -> AlphaPlane
     }
 }
 
+// How many of a plane's rows are searched: none where samples of so many bytes cannot exceed top.
+fn searched_rows(rows: usize, bytes: usize, top: u16) -> usize
+    ensures { λ r. ⌜ r ≡ searchedRows rows bytes top ⌝ }
+{
+    if bytes == 1 {
+        if top >= 255 {
+            return 0;
+        }
+        return rows;
+    }
+    if top == 65535 {
+        return 0;
+    }
+    rows
+}
+
 // Whether an alpha sample of so many records in turn is above top, drawn or cut off. All loops are left on the first found.
 pub fn alpha_above(tray: &[u8], first: usize, count: u32, top: u16) -> bool
     ensures { λ r. ⌜ r ≡ any (alphaAbove (now (tray .entry)) top) (framesFrom count (now (tray .entry)) first) ⌝ }
@@ -69,7 +85,7 @@ pub fn alpha_above(tray: &[u8], first: usize, count: u32, top: u16) -> bool
         let p = q.plane;
         let stride = p.stride;
         let plane = planes::plane_data(tray, p);
-        let rows = q.rows;
+        let rows = searched_rows(q.rows, bytes, top);
         let columns = q.columns;
         for y in 0..rows {
             for x in 0..columns {

@@ -2,7 +2,7 @@
 use mathlib.Core.Bool.{_&&_, _||_, false, not}
 use mathlib.Core.List.{List, [], _∷_}
 use Prim.Native.Nat.{_+_, ℕ}
-use lib.Dec.{eqb, ltb}
+use lib.Dec.{eqb, leb, ltb}
 use Rattle.laws.specs.Out.{Out, andThen, done, refuse, refused}
 use Rattle.laws.specs.Pick.{pick}
 use Rattle.image.specs.Format.{bytesOf, hasAlpha, isMono, needs444, odd, topOf}
@@ -71,3 +71,7 @@ alphaPlane fr =
 unfoldable pub alphaPlaneAt : ℕ → Out Frame → AlphaPlane
 alphaPlaneAt at (refused e) = noAlpha at
 alphaPlaneAt at (done fr) = alphaPlane fr
+
+-- how many of a plane's rows are searched: none where samples of so many bytes cannot exceed top
+unfoldable pub searchedRows : ℕ → ℕ → ℕ → ℕ
+searchedRows rows bytes top = pick (eqb bytes 1) (pick (leb 255 top) 0 rows) (pick (eqb top 65535) 0 rows)
