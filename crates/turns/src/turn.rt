@@ -1,7 +1,7 @@
 // The columns of a plane written as rows, block by block, so that the lines of memory that a block is read from and written to stay
 // in the processor's cache.
 ghost use mathlib.Core.Path.{_≡_};
-ghost use Prim.Native.Nat.{_+_, _*_, _≤_, min};
+ghost use Prim.Native.Nat.{_+_, _*_, _≤_};
 ghost use lib.ListN.{length};
 ghost use Rattle.laws.specs.Puts.{puts};
 ghost use Rattle.laws.specs.Span.{span};
@@ -17,15 +17,6 @@ pub struct Course {
     pub left: usize,
     pub down: usize,
     pub up: usize,
-}
-
-fn least(a: usize, b: usize) -> usize
-    ensures { λ r. ⌜ r ≡ min a b ⌝ }
-{
-    if a < b {
-        return a;
-    }
-    b
 }
 
 // Writes n samples of so many rows, `pitch` bytes from row to row.
@@ -92,7 +83,7 @@ fn turn_band(
     let pitch = columns * bytes;
     let mut k: usize = 0;
     while k < columns {
-        let n = least(columns - k, 16);
+        let n = numbers::min(columns - k, 16);
         let block = Course {
             from: c.from + k * c.down - k * c.up,
             right: c.right,
@@ -122,7 +113,7 @@ pub fn turn_rows(
     let mut i = at;
     let mut y: usize = 0;
     while y < rows {
-        let n = least(rows - y, 64);
+        let n = numbers::min(rows - y, 64);
         let band = Course {
             from: c.from + y * c.right - y * c.left,
             right: c.right,

@@ -15,7 +15,7 @@ use Rattle.turns.specs.inner.Stepped.{stepTo}
 use Rattle.turns.proofs.turn.turn_band.Tie as tie
 use Rattle.turns.proofs.turn.turn_band.Reads as reads
 use Rattle.turns.proofs.turn.turn_band.Lts as lts
-use Rattle.turns.proofs.turn.least.Reads as least-reads
+use Rattle.numbers.proofs.min.Reads as min-reads
 use Rattle.turns.proofs.turn.turn_sized.Reads as turn-sized-reads
 
 abbrev Inv-loop : tie.InvT-loop
@@ -29,8 +29,8 @@ room c =
     let start = c .before .before .before .before in
     omega (arith, start .pre .1, item-within (c .before .loop .k) (start .args .columns) (start .args .bytes) (c .loop-test .taken), item-within 0 (start .args .rows) (start .args .columns * start .args .bytes) (start .pre .2))
 
-wide : (c : tie.After-least Inv-loop μ-loop) → let start = c .before .before .before .before .before in (1 ≤ c .least .result) × (c .before .before .loop .k + c .least .result ≤ start .args .columns)
-wide c = (omega (arith, c .least .ensures, c .before .loop-test .taken), omega (arith, c .least .ensures, c .before .loop-test .taken))
+wide : (c : tie.After-min Inv-loop μ-loop) → let start = c .before .before .before .before .before in (1 ≤ c .min .result) × (c .before .before .loop .k + c .min .result ≤ start .args .columns)
+wide c = (omega (arith, c .min .ensures, c .before .loop-test .taken), omega (arith, c .min .ensures, c .before .loop-test .taken))
 
 mul-pitch : tie.Need-mul-pitch Inv-loop μ-loop
 mul-pitch c = omega (arith, c .before .before .pre .1, item-within 0 (c .before .before .args .rows) (c .before .before .args .columns * c .before .before .args .bytes) (c .before .before .pre .2))
@@ -38,11 +38,11 @@ mul-pitch c = omega (arith, c .before .before .pre .1, item-within 0 (c .before 
 loop-holds : tie.Need-loop-holds Inv-loop μ-loop
 loop-holds c = (omega arith, refl, sym (blocks-none _ _ _ _ _ (c .before .before .pre .0) _ _ _))
 
-sub-least : tie.Need-sub-least Inv-loop μ-loop
-sub-least c = search needs
+sub-min : tie.Need-sub-min Inv-loop μ-loop
+sub-min c = search needs
 
-least-requires : tie.Need-least-requires Inv-loop μ-loop
-least-requires c κs = search needs
+min-requires : tie.Need-min-requires Inv-loop μ-loop
+min-requires c κs = search needs
 
 mul-turn-sized : tie.Need-mul-turn-sized Inv-loop μ-loop
 mul-turn-sized c =
@@ -85,38 +85,38 @@ unfolding stepTo
 turn-sized-requires c κs =
     let start = c .before .before .before .before .before .before .before .before .before in
     let loop = c .before .before .before .before .before .before .loop in
-    let at-least = c .before .before .before .before in
-    let least = c .before .before .before .before .least in
-    let w = wide at-least in (
-      block-fits _ _ _ _ _ (start .pre .0) (loop .k) (least .result) (w .0) (w .1),
-      block-room _ _ _ _ _ (start .pre .0) (loop .k) (least .result) (w .0) (w .1) (start .args .at) _ (omega (arith, start .pre .1, loop .inv .1)),
+    let at-min = c .before .before .before .before in
+    let min = c .before .before .before .before .min in
+    let w = wide at-min in (
+      block-fits _ _ _ _ _ (start .pre .0) (loop .k) (min .result) (w .0) (w .1),
+      block-room _ _ _ _ _ (start .pre .0) (loop .k) (min .result) (w .0) (w .1) (start .args .at) _ (omega (arith, start .pre .1, loop .inv .1)),
     )
 
 add-k : tie.Need-add-k Inv-loop μ-loop
 add-k c =
-    let at-least = c .before .before .before .before .before .before .before in
-    omega (arith, wide at-least)
+    let at-min = c .before .before .before .before .before .before .before in
+    omega (arith, wide at-min)
 
 loop-less : tie.Need-loop-less Inv-loop μ-loop
 loop-less c =
-    let at-least = c .before .before .before .before .before .before .before in
-    omega (arith, wide at-least)
+    let at-min = c .before .before .before .before .before .before .before in
+    omega (arith, wide at-min)
 
 loop-again : tie.Need-loop-again Inv-loop μ-loop
 unfolding stepTo
 loop-again c =
     let start = c .before .before .before .before .before .before .before .before .before .before .before .before in
     let loop = c .before .before .before .before .before .before .before .before .before .loop in
-    let at-least = c .before .before .before .before .before .before .before in
-    let least = c .before .before .before .before .before .before .before .least in
+    let at-min = c .before .before .before .before .before .before .before in
+    let min = c .before .before .before .before .before .before .before .min in
     let p = start .args in
     let r = loop in
-    let w = wide at-least in (
+    let w = wide at-min in (
       omega (arith, w),
       ap length (c .before .before .turn-sized .ensures) ∙ length-storeRows _ _ _ _ _ ∙ r .inv .1,
       c .before .before .turn-sized .ensures
-          ∙ ap (λ (q : List ℕ). storeRows q (p .at + r .k * p .bytes) (p .columns * p .bytes) (courseRow (now (p .plane)) (p .bytes) (blockAt (p .c) (r .k)) (least .result)) (p .rows)) (r .inv .2)
-          ∙ blocks-more _ _ _ _ _ (start .pre .0) (r .k) (least .result) (w .0) (w .1) (now (p .out)) (p .at) _ refl,
+          ∙ ap (λ (q : List ℕ). storeRows q (p .at + r .k * p .bytes) (p .columns * p .bytes) (courseRow (now (p .plane)) (p .bytes) (blockAt (p .c) (r .k)) (min .result)) (p .rows)) (r .inv .2)
+          ∙ blocks-more _ _ _ _ _ (start .pre .0) (r .k) (min .result) (w .0) (w .1) (now (p .out)) (p .at) _ refl,
     )
 
 mul-result : tie.Need-mul-result Inv-loop μ-loop
@@ -151,8 +151,8 @@ turn-band-spec =
     μ-loop
     mul-pitch
     loop-holds
-    sub-least
-    least-requires
+    sub-min
+    min-requires
     mul-turn-sized
     add-turn-sized
     mul-turn-sized-2

@@ -18,7 +18,7 @@ use Rattle.turns.specs.inner.Stepped.{stepTo}
 use Rattle.turns.proofs.turn.turn_rows.Tie as tie
 use Rattle.turns.proofs.turn.turn_rows.Reads as reads
 use Rattle.turns.proofs.turn.turn_rows.Lts as lts
-use Rattle.turns.proofs.turn.least.Reads as least-reads
+use Rattle.numbers.proofs.min.Reads as min-reads
 use Rattle.turns.proofs.turn.turn_band.Reads as turn-band-reads
 
 abbrev Inv-loop : tie.InvT-loop
@@ -27,18 +27,18 @@ Inv-loop out₀ at plane bytes c columns rows i₀ y₀ out i y = (y ≤ rows) �
 abbrev μ-loop : tie.MeasureT-loop
 μ-loop out₀ at plane bytes c columns rows i₀ y₀ out i y = rows - y
 
-high : (c : tie.After-least Inv-loop μ-loop) → let start = c .before .before .before .before .before in (1 ≤ c .least .result) × (c .before .before .loop .y + c .least .result ≤ start .args .rows)
-high c = (omega (arith, c .least .ensures, c .before .loop-test .taken), omega (arith, c .least .ensures, c .before .loop-test .taken))
+high : (c : tie.After-min Inv-loop μ-loop) → let start = c .before .before .before .before .before in (1 ≤ c .min .result) × (c .before .before .loop .y + c .min .result ≤ start .args .rows)
+high c = (omega (arith, c .min .ensures, c .before .loop-test .taken), omega (arith, c .min .ensures, c .before .loop-test .taken))
 
 loop-holds : tie.Need-loop-holds Inv-loop μ-loop
 unfolding puts
 loop-holds c = (omega arith, omega arith, refl, sym (ap (puts _ _) (span-end _ 0 0 (omega arith))))
 
-sub-least : tie.Need-sub-least Inv-loop μ-loop
-sub-least c = search needs
+sub-min : tie.Need-sub-min Inv-loop μ-loop
+sub-min c = search needs
 
-least-requires : tie.Need-least-requires Inv-loop μ-loop
-least-requires c κs = search needs
+min-requires : tie.Need-min-requires Inv-loop μ-loop
+min-requires c κs = search needs
 
 mul-t13 : tie.Need-mul-t13 Inv-loop μ-loop
 mul-t13 c =
@@ -72,42 +72,42 @@ unfolding stepTo
 turn-band-requires c κs =
     let start = c .before .before .before .before .before .before .before .before .before in
     let loop = c .before .before .before .before .before .before .loop in
-    let at-least = c .before .before .before .before in
-    let least = c .before .before .before .before .least in
-    let w = high at-least in
+    let at-min = c .before .before .before .before in
+    let min = c .before .before .before .before .min in
+    let w = high at-min in
     let p = start .args in
     let r = loop in (
-      band-fits _ _ _ _ _ (start .pre .0) (r .y) (least .result) (w .0) (w .1),
-      omega (arith, start .pre .1, r .inv .1, r .inv .2, add-mul (r .y) (least .result) (p .columns * p .bytes), mul-below (p .rows) (p .columns * p .bytes) (r .y + least .result) (p .columns * p .bytes) (w .1) (omega arith)),
+      band-fits _ _ _ _ _ (start .pre .0) (r .y) (min .result) (w .0) (w .1),
+      omega (arith, start .pre .1, r .inv .1, r .inv .2, add-mul (r .y) (min .result) (p .columns * p .bytes), mul-below (p .rows) (p .columns * p .bytes) (r .y + min .result) (p .columns * p .bytes) (w .1) (omega arith)),
       w .0,
     )
 
 add-y : tie.Need-add-y Inv-loop μ-loop
 add-y c =
-    let at-least = c .before .before .before .before .before .before .before in
-    omega (arith, high at-least)
+    let at-min = c .before .before .before .before .before .before .before in
+    omega (arith, high at-min)
 
 loop-less : tie.Need-loop-less Inv-loop μ-loop
 loop-less c =
-    let at-least = c .before .before .before .before .before .before .before in
-    omega (arith, high at-least)
+    let at-min = c .before .before .before .before .before .before .before in
+    omega (arith, high at-min)
 
 loop-again : tie.Need-loop-again Inv-loop μ-loop
 unfolding stepTo
 loop-again c =
     let start = c .before .before .before .before .before .before .before .before .before .before .before .before in
     let loop = c .before .before .before .before .before .before .before .before .before .loop in
-    let at-least = c .before .before .before .before .before .before .before in
-    let least = c .before .before .before .before .before .before .before .least in
+    let at-min = c .before .before .before .before .before .before .before in
+    let min = c .before .before .before .before .before .before .before .min in
     let p = start .args in
     let r = loop in
-    let w = high at-least in (
+    let w = high at-min in (
       omega (arith, w),
-      omega (arith, c .before .before .turn-band .ensures .0, r .inv .1, add-mul (r .y) (least .result) (p .columns * p .bytes)),
+      omega (arith, c .before .before .turn-band .ensures .0, r .inv .1, add-mul (r .y) (min .result) (p .columns * p .bytes)),
       ap length (c .before .before .turn-band .ensures .1) ∙ length-puts _ _ _ ∙ r .inv .2,
       c .before .before .turn-band .ensures .1
-          ∙ ap (λ (q : List ℕ). puts q (r .i) (span (courseRow (now (p .plane)) (p .bytes) (bandAt (p .c) (r .y)) (p .columns)) 0 (least .result))) (r .inv .3)
-          ∙ bands-more _ _ _ _ _ (start .pre .0) (r .y) (least .result) (w .0) (w .1) (now (p .out)) (p .at) (r .i) (r .inv .1),
+          ∙ ap (λ (q : List ℕ). puts q (r .i) (span (courseRow (now (p .plane)) (p .bytes) (bandAt (p .c) (r .y)) (p .columns)) 0 (min .result))) (r .inv .3)
+          ∙ bands-more _ _ _ _ _ (start .pre .0) (r .y) (min .result) (w .0) (w .1) (now (p .out)) (p .at) (r .i) (r .inv .1),
     )
 
 same-length : tie.Need-same-length Inv-loop μ-loop
@@ -130,8 +130,8 @@ turn-rows-spec =
     Inv-loop
     μ-loop
     loop-holds
-    sub-least
-    least-requires
+    sub-min
+    min-requires
     mul-t13
     add-t14
     mul-t15
