@@ -19,7 +19,7 @@ extern "C" {
 
 /* The version of these calls: major * 10000 + minor * 100 + patch, as the crate's in rust/Cargo.toml is. It grows when a
  * call is added or changed. */
-#define COMPOSE_API_VERSION 100
+#define COMPOSE_API_VERSION 200
 
 /* Every call answers a number of 64 bits. Below 2^63 it is a length, a count, or 0 where there is none; from there on
  * it is 2^63 + the number of a refusal, and then nothing was written. */
@@ -168,6 +168,26 @@ uint64_t compose_overlay_scene(const uint8_t *body, size_t body_len, const uint8
                                const uint8_t *premultiplied, size_t premultiplied_len, uint8_t colour, uint16_t matrix,
                                uint8_t full_range, uint8_t *output, size_t output_len, uint8_t *spare,
                                size_t spare_len);
+
+/* One record, which an empty chain writes tight. Refusals: the record's; the chain's; the entries' in turn; 17. */
+uint64_t compose_transforms(const uint8_t *record, size_t record_len, const uint8_t *chain, size_t chain_len,
+                            uint8_t essential_only, uint8_t *output, size_t output_len, uint8_t *spare,
+                            size_t spare_len);
+
+/* Room, so that nobody guesses. */
+
+/* The length of the tight record of a form: what an operation writes that ends with that form, and does not hand its record
+ * or a plane back as it is. Refusals: 5, 6, 3, 4. */
+uint64_t compose_record_size(uint32_t width, uint32_t height, uint32_t chroma, uint32_t depth, uint32_t alpha);
+
+/* The least length of output and of the spare for which compose_grid_scene does not answer 17. Refusals: its others. */
+uint64_t compose_grid_scene_room(const uint8_t *body, size_t body_len, const uint8_t *tray, size_t tray_len,
+                                 const uint8_t *chain, size_t chain_len, uint8_t essential_only);
+
+/* The same for compose_overlay_scene, whatever its colour. */
+uint64_t compose_overlay_scene_room(const uint8_t *body, size_t body_len, const uint8_t *tray, size_t tray_len,
+                                    const uint8_t *chain, size_t chain_len, uint8_t essential_only,
+                                    const uint8_t *premultiplied, size_t premultiplied_len);
 
 /* Which input and which spot of it a final place shows, without drawing the picture. Column and row count from 0; an
  * essential_only of 0 applies every entry of the chain. Each answers 0 and writes 10 words, leaving what is past them: 1

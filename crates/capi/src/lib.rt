@@ -7,6 +7,7 @@ mod fills;
 mod operation;
 mod properties;
 mod read;
+mod rooms;
 mod scaling;
 mod scenes;
 mod spots;

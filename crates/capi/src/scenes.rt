@@ -1,9 +1,10 @@
-// A grid or an overlay composed, then a chain of transforms. Each answers the length of the record at the start of output; past it
+// A grid, an overlay or one record, then a chain of transforms. Each answers the length of the record at the start of output; past it
 // output is zero, and the spare is all zero.
 ghost use mathlib.Core.Path.{_≡_};
 ghost use lib.ListN.{length};
 ghost use Rattle.laws.specs.Out.{answerOf};
 ghost use Rattle.scene.specs.Scene.{gridScene, overlayScene, outputOf, spareOf};
+ghost use Rattle.scene.specs.Transforms.{transformsRun};
 ghost use Rattle.words.specs.Code.{answerCode};
 ghost use Rattle.words.specs.Fill.{colourOf};
 ghost use Rattle.words.specs.Spots.{flagOf};
@@ -54,4 +55,20 @@ pub extern "C" fn compose_overlay_scene(
         output,
         spare,
     ))
+}
+
+// A chain on one record. Refusals: the record's; the chain's form; the entries' in turn; 17.
+#[no_mangle]
+pub extern "C" fn compose_transforms(
+    record: &[u8],
+    chain: &[u8],
+    essential_only: u8,
+    output: &mut [u8],
+    spare: &mut [u8],
+) -> u64
+    ensures { λ r. ⌜ (r ≡ answerCode (answerOf (transformsRun (now («record» .entry)) (now (chain .entry)) (flagOf «essential_only») (length (now (output .entry))) (length (now (spare .entry))))))
+        × (now (output .exit) ≡ outputOf (transformsRun (now («record» .entry)) (now (chain .entry)) (flagOf «essential_only») (length (now (output .entry))) (length (now (spare .entry)))) (now (output .entry)))
+        × (now (spare .exit) ≡ spareOf (transformsRun (now («record» .entry)) (now (chain .entry)) (flagOf «essential_only») (length (now (output .entry))) (length (now (spare .entry)))) (now (spare .entry))) ⌝ }
+{
+    words::answer_code(scene::apply_transforms(record, chain, essential_only != 0, output, spare))
 }

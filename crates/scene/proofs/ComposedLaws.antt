@@ -40,13 +40,13 @@ use Rattle.grid.specs.Run.{framesIn, gridOn}
 use Rattle.grid.specs.Tiles.{canvasForm, countOf, tilesAt, tilesOf}
 use Rattle.grid.specs.declared.tiles.Tiles.{Tiles}
 use Rattle.grid.specs.inner.Ready.{TilesTaken}
+use Rattle.inputs.specs.Inputs.{Inputs, composedForm, firstFormat, inputsAt}
+use Rattle.inputs.specs.Layers.{overlayForm}
+use Rattle.inputs.specs.inner.Plan.{planAt, planOf}
 use Rattle.overlay.proofs.RunLaws.{plan-taken, took}
 use Rattle.overlay.proofs.Sentences.{fill-low}
-use Rattle.inputs.specs.Layers.{overlayForm}
-use Rattle.overlay.specs.Overlay.{overlayPic, placeAt, unpremultiply, finalSample}
-use Rattle.inputs.specs.Inputs.{Inputs, composedForm, firstFormat, inputsAt}
+use Rattle.overlay.specs.Overlay.{finalSample, overlayPic, placeAt, unpremultiply}
 use Rattle.overlay.specs.Run.{composed}
-use Rattle.inputs.specs.inner.Plan.{planAt, planOf}
 
 -- ---- what fits the bytes of a sample of a depth
 
@@ -107,6 +107,12 @@ tile-fits true P p x y h k =
     pick-both (Fits (P .form .format .depth)) (hasPart (promote P .form .format) p) _ _
     (pick-both (Fits (P .form .format .depth)) (hasPart (P .form .format) p) _ _ (k _ _) (middle-fits _ h)) (top-fits _ h)
 tile-fits false P p x y h k = pick-both (Fits (P .form .format .depth)) (hasPart (P .form .format) p) _ _ (k x y) (top-fits _ h)
+
+-- ---- one record
+
+pub record-in-range : (s : List ℕ) (fr : Frame) → Bytes s → FormSound (fr .form) → InRange (decode s fr)
+unfolding decode
+record-in-range s fr b ok = record { sound = ok; small = λ p h x y i j. fit-bytes (fr .form .format) _ (decode-fits s fr b p x y) }
 
 -- ---- the grid
 

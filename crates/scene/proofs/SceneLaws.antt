@@ -11,51 +11,56 @@ use lib.Seq.{take-at}
 use borrow.Author.Tests.{le-ltb, ltb-false}
 use Rattle.laws.proofs.Out.{Same, alike, andThen-done, both, done-same, not-done, refuse-done, refuse-no, refused-back, same-left, then-done, then-refuse, then-refused}
 use Rattle.laws.proofs.Puts.{length-puts, puts-start}
+use Rattle.laws.specs.Any.{any}
 use Rattle.laws.specs.Out.{Out, andThen, answerOf, done, reason, refuse, refused}
-use Rattle.laws.specs.Puts.{puts, Bytes}
+use Rattle.laws.specs.Puts.{Bytes, puts}
 use Rattle.laws.specs.declared.Answer.{Answer}
 use Rattle.laws.specs.declared.Answer.the-variants.{Refused}
 use Rattle.laws.specs.declared.Refusal.{Refusal}
 use Rattle.numbers.specs.Number.{onNumber, readNumber}
 use Rattle.numbers.specs.declared.NumberRead.{NumberRead}
-use Rattle.planes.proofs.RoundTrip.{InRange, length-encode}
-use Rattle.planes.specs.Bytes.{encode, sizeOf}
+use Rattle.image.proofs.RecordLaws.{whole-sound}
 use Rattle.image.specs.Format.{topOf}
-use Rattle.planes.specs.Picture.{Pic}
+use Rattle.image.specs.Record.{recordOf}
 use Rattle.image.specs.declared.format.Form.{Form}
 use Rattle.image.specs.declared.record.Frame.{Frame}
+use Rattle.image.specs.inner.Frames.{framesFrom}
+use Rattle.image.specs.inner.Placed.{Sound}
+use Rattle.planes.proofs.RoundTrip.{InRange, length-encode}
+use Rattle.planes.specs.Bytes.{decode, encode, sizeOf}
+use Rattle.planes.specs.Picture.{Pic}
 use Rattle.fill.specs.declared.Colour.{Colour}
 use Rattle.props.proofs.ChainLaws.{judged-chain, judged-refused}
 use Rattle.props.specs.Chain.{chainAt, foldChain}
-use Rattle.props.specs.inner.Judged.{Judged, judgedAt}
 use Rattle.props.specs.declared.chain.Chain.{Chain}
 use Rattle.props.specs.declared.entry.PropertyEntry.{PropertyEntry}
+use Rattle.props.specs.inner.Judged.{Judged, judgedAt}
 use Rattle.grid.proofs.GridLaws.{tiles-taken}
 use Rattle.grid.specs.Mosaic.{gridPic}
-use Rattle.grid.specs.inner.Ready.{TilesTaken}
 use Rattle.grid.specs.Run.{gridOn}
 use Rattle.grid.specs.Tiles.{canvasForm, tilesAt, tilesOf}
 use Rattle.grid.specs.declared.tiles.Tiles.{Tiles}
+use Rattle.grid.specs.inner.Ready.{TilesTaken}
 use Rattle.inputs.proofs.FrameLaws.{frames-from}
-use Rattle.overlay.proofs.RunLaws.{Took, frames-are, plan-sound, planPic, took}
-use Rattle.overlay.specs.inner.Block.{PlanSound}
-use Rattle.image.specs.inner.Frames.{framesFrom}
-use Rattle.inputs.specs.Layers.{overlayForm, layersOf}
-use Rattle.overlay.specs.Overlay.{overlayPic}
-use Rattle.laws.specs.Any.{any}
-use Rattle.inputs.specs.inner.Plan.{planAt, planOf}
 use Rattle.inputs.specs.Inputs.{Inputs, alphaAbove, composedForm, firstFormat, inputsAt}
-use Rattle.overlay.specs.Run.{composed, fillFor}
+use Rattle.inputs.specs.Layers.{layersOf, overlayForm}
 use Rattle.inputs.specs.declared.read.Plan.{Plan}
+use Rattle.inputs.specs.inner.Plan.{planAt, planOf}
+use Rattle.overlay.proofs.RunLaws.{Took, frames-are, plan-sound, planPic, took}
+use Rattle.overlay.specs.Overlay.{overlayPic}
+use Rattle.overlay.specs.Run.{composed, fillFor}
+use Rattle.overlay.specs.inner.Block.{PlanSound}
 use Rattle.scene.proofs.ApplyLaws.{Carried, chain-carried}
-use Rattle.scene.proofs.ComposedLaws.{grid-in-range, overlay-in-range}
-use Rattle.scene.proofs.ChainPlanLaws.{Leads, plan-drawn, lies-even}
-use Rattle.scene.specs.inner.Apply.{Finished, Ready, bytesIn, chainBytes, lies, lying, recordAfter}
-use Rattle.scene.specs.Chain.{Drawn, firstDrawn, chainDrawn}
-use Rattle.scene.specs.inner.ChainPlan.{chainPlanOf, currentFor, currentOf}
+use Rattle.scene.proofs.ChainPlanLaws.{Leads, lies-even, plan-drawn}
+use Rattle.scene.proofs.ComposedLaws.{grid-in-range, overlay-in-range, record-in-range}
+use Rattle.scene.specs.Chain.{Drawn, chainDrawn, firstDrawn}
+use Rattle.scene.specs.Room.{longestOf}
 use Rattle.scene.specs.Scene.{gridDrawn, gridScene, outputOf, overlayDrawn, overlayScene, roomFor, spareOf}
+use Rattle.scene.specs.Transforms.{recordDrawn, transformsRun}
 use Rattle.scene.specs.declared.apply.Current.{Current}
 use Rattle.scene.specs.declared.chain_plan.ChainPlan.{ChainPlan}
+use Rattle.scene.specs.inner.Apply.{Finished, Ready, bytesIn, chainBytes, lies, lying, recordAfter}
+use Rattle.scene.specs.inner.ChainPlan.{chainPlanOf, currentFor, currentOf}
 
 -- ---- what is answered and written
 
@@ -218,6 +223,7 @@ pub record GridKnown (body tray chain : List ℕ) (flag : Bool) (h : Chain) (t :
   pub judged : Judged chain h
   pub taken : TilesTaken tray t
   pub inRange : InRange (gridOn tray t)
+  pub drawn : gridDrawn body tray chain flag ≡ chainDrawn (judged .entries) flag (gridOn tray t)
   pub is : (output spare : ℕ) → gridScene body tray chain flag output spare ≡ sceneOn (judged .entries) flag (gridOn tray t) output spare
 
 pub grid-form : (tray : List ℕ) (t : Tiles) (m : Form) → m ≡ canvasForm (t .desc) (t .tile) (t .alpha) → m ≡ gridOn tray t .form
@@ -229,9 +235,13 @@ unfolding gridOn gridPic
 grid-size tray t = sym (length-encode (gridOn tray t))
 
 module _ (body tray chain : List ℕ) (flag : Bool) where
+  pub grid-drawn-malformed : readNumber tray 0 ≡ NumberRead.Malformed → gridDrawn body tray chain flag ≡ refused (reason 5)
+  unfolding gridDrawn onNumber
+  grid-drawn-malformed e = rw e
+
   pub grid-malformed : readNumber tray 0 ≡ NumberRead.Malformed → (output spare : ℕ) → gridScene body tray chain flag output spare ≡ refused (reason 5)
-  unfolding gridScene gridDrawn onNumber
-  grid-malformed e output spare = let q : gridDrawn body tray chain flag ≡ refused (reason 5) = rw e in then-refused (roomFor output spare) q
+  unfolding gridScene
+  grid-malformed e output spare = then-refused (roomFor output spare) (grid-drawn-malformed e)
 
   module _ (n at : ℕ) (counted : readNumber tray 0 ≡ NumberRead.Number n at) where
     pub grid-counted : gridDrawn body tray chain flag ≡ andThen (chainAt chain 0) (λ es. andThen (tilesAt body tray n at) (λ t. chainDrawn es flag (gridOn tray t)))
@@ -242,23 +252,32 @@ module _ (body tray chain : List ℕ) (flag : Bool) where
     unfolding tilesOf onNumber
     tiles-at = sym (ap (λ z. onNumber z (tilesAt body tray)) counted)
 
+    pub grid-drawn-chain : (r : Refusal) → judgedAt chain 0 ≡ refused r → gridDrawn body tray chain flag ≡ refused r
+    grid-drawn-chain r e = grid-counted ∙ then-refused _ (judged-refused chain 0 r e)
+
     pub grid-chain : (r : Refusal) → judgedAt chain 0 ≡ refused r → (output spare : ℕ) → gridScene body tray chain flag output spare ≡ refused r
     unfolding gridScene
-    grid-chain r e output spare = then-refused _ (grid-counted ∙ then-refused _ (judged-refused chain 0 r e))
+    grid-chain r e output spare = then-refused _ (grid-drawn-chain r e)
 
     module _ (h : Chain) (e : judgedAt chain 0 ≡ done h) where
+      pub grid-drawn-tiles : (r : Refusal) → tilesOf body tray ≡ refused r → gridDrawn body tray chain flag ≡ refused r
+      grid-drawn-tiles r q = grid-counted ∙ then-done _ (judged-chain chain 0 h e .1) ∙ then-refused _ (tiles-at ∙ q)
+
       pub grid-tiles : (r : Refusal) → tilesOf body tray ≡ refused r → (output spare : ℕ) → gridScene body tray chain flag output spare ≡ refused r
       unfolding gridScene
-      grid-tiles r q output spare = then-refused _ (grid-counted ∙ then-done _ (judged-chain chain 0 h e .1) ∙ then-refused _ (tiles-at ∙ q))
+      grid-tiles r q output spare = then-refused _ (grid-drawn-tiles r q)
 
       pub grid-read : Bytes body → Bytes tray → (t : Tiles) → tilesOf body tray ≡ done t → GridKnown body tray chain flag h t
       unfolding gridScene sceneOn
-      grid-read b d t q = record {
-        judged = judged-chain chain 0 h e .0;
-        taken = tiles-taken body tray t b q;
-        inRange = grid-in-range body tray n at t b d counted (tiles-at ∙ q);
-        is = λ output spare. ap (λ z. andThen z (roomFor output spare)) (grid-counted ∙ then-done _ (judged-chain chain 0 h e .1) ∙ then-done _ (tiles-at ∙ q));
-      }
+      grid-read b d t q =
+          let drawn = grid-counted ∙ then-done _ (judged-chain chain 0 h e .1) ∙ then-done _ (tiles-at ∙ q) in
+          record {
+            judged = judged-chain chain 0 h e .0;
+            taken = tiles-taken body tray t b q;
+            inRange = grid-in-range body tray n at t b d counted (tiles-at ∙ q);
+            drawn = drawn;
+            is = λ output spare. ap (λ z. andThen z (roomFor output spare)) drawn;
+          }
 
 -- ---- the overlay's scene
 
@@ -267,6 +286,8 @@ pub record OverlayKnown (body tray chain : List ℕ) (flag : Bool) (list : List 
   pub judged : Judged chain h
   pub sound : PlanSound body list plan
   pub inRange : InRange (planPic body tray list colour plan)
+  pub drawn : overlayDrawn body tray chain flag list colour
+      ≡ refuse (any (alphaAbove tray (topOf (plan .form .format))) (framesFrom n tray at)) 16 (chainDrawn (judged .entries) flag (planPic body tray list colour plan))
   pub is : (output spare : ℕ) → overlayScene body tray chain flag list colour output spare
       ≡ refuse (any (alphaAbove tray (topOf (plan .form .format))) (framesFrom n tray at)) 16 (sceneOn (judged .entries) flag (planPic body tray list colour plan) output spare)
 
@@ -275,9 +296,13 @@ unfolding overlayPic
 plan-form body tray list colour plan = refl
 
 module _ (body tray chain : List ℕ) (flag : Bool) (list : List ℕ) (colour : Colour) where
+  pub overlay-drawn-malformed : readNumber tray 0 ≡ NumberRead.Malformed → overlayDrawn body tray chain flag list colour ≡ refused (reason 5)
+  unfolding overlayDrawn onNumber
+  overlay-drawn-malformed e = rw e
+
   pub overlay-malformed : readNumber tray 0 ≡ NumberRead.Malformed → (output spare : ℕ) → overlayScene body tray chain flag list colour output spare ≡ refused (reason 5)
-  unfolding overlayScene overlayDrawn onNumber
-  overlay-malformed e output spare = let q : overlayDrawn body tray chain flag list colour ≡ refused (reason 5) = rw e in then-refused (roomFor output spare) q
+  unfolding overlayScene
+  overlay-malformed e output spare = then-refused (roomFor output spare) (overlay-drawn-malformed e)
 
   module _ (n at : ℕ) (counted : readNumber tray 0 ≡ NumberRead.Number n at) where
     overlay-counted : overlayDrawn body tray chain flag list colour
@@ -286,15 +311,22 @@ module _ (body tray chain : List ℕ) (flag : Bool) (list : List ℕ) (colour : 
     unfolding overlayDrawn onNumber
     overlay-counted = rw counted
 
+    pub overlay-drawn-chain : (r : Refusal) → judgedAt chain 0 ≡ refused r → overlayDrawn body tray chain flag list colour ≡ refused r
+    overlay-drawn-chain r e = overlay-counted ∙ then-refused _ (judged-refused chain 0 r e)
+
     pub overlay-chain : (r : Refusal) → judgedAt chain 0 ≡ refused r → (output spare : ℕ) → overlayScene body tray chain flag list colour output spare ≡ refused r
     unfolding overlayScene
-    overlay-chain r e output spare = then-refused _ (overlay-counted ∙ then-refused _ (judged-refused chain 0 r e))
+    overlay-chain r e output spare = then-refused _ (overlay-drawn-chain r e)
 
     module _ (h : Chain) (e : judgedAt chain 0 ≡ done h) where
+      pub overlay-drawn-inputs : (r : Refusal) → planAt body tray list n at ≡ refused r → overlayDrawn body tray chain flag list colour ≡ refused r
+      unfolding planAt
+      overlay-drawn-inputs r q =
+          overlay-counted ∙ then-done _ (judged-chain chain 0 h e .1) ∙ then-refused _ (refused-back (inputsAt body tray list n at) (planOf body tray list at) r q)
+
       pub overlay-inputs : (r : Refusal) → planAt body tray list n at ≡ refused r → (output spare : ℕ) → overlayScene body tray chain flag list colour output spare ≡ refused r
-      unfolding overlayScene planAt
-      overlay-inputs r q output spare =
-          then-refused _ (overlay-counted ∙ then-done _ (judged-chain chain 0 h e .1) ∙ then-refused _ (refused-back (inputsAt body tray list n at) (planOf body tray list at) r q))
+      unfolding overlayScene
+      overlay-inputs r q output spare = then-refused _ (overlay-drawn-inputs r q)
 
       -- the picture by the plan
       pic-is : (q : Inputs) → Took body tray list n at q → composed body tray list colour q ≡ planPic body tray list colour (planOf body tray list at q)
@@ -312,14 +344,15 @@ module _ (body tray chain : List ℕ) (flag : Bool) (list : List ℕ) (colour : 
       known-of q i b =
           let k = took body tray list n at q i in
           let j = judged-chain chain 0 h e in
+          let drawn : overlayDrawn body tray chain flag list colour
+          ≡ refuse (any (alphaAbove tray (topOf (planOf body tray list at q .form .format))) (framesFrom n tray at)) 16 (chainDrawn (j .0 .entries) flag (planPic body tray list colour (planOf body tray list at q))) =
+          overlay-counted ∙ then-done _ (j .1) ∙ then-done _ i ∙ rw (top-is q, pic-is q k, frames-from n tray at (q .frames) (k .frames)) in
           record {
             judged = j .0;
             sound = plan-sound body tray list n at q k;
             inRange = rw (← pic-is q k) (overlay-in-range body tray list colour n at q b counted i);
-            is = λ output spare.
-                ap (λ z. andThen z (roomFor output spare)) (overlay-counted ∙ then-done _ (j .1) ∙ then-done _ i)
-                ∙ then-refuse _ 16 (chainDrawn (j .0 .entries) flag (composed body tray list colour q)) (roomFor output spare)
-                ∙ rw (top-is q, pic-is q k, frames-from n tray at (q .frames) (k .frames));
+            drawn = drawn;
+            is = λ output spare. ap (λ z. andThen z (roomFor output spare)) drawn ∙ then-refuse _ 16 _ (roomFor output spare);
           }
 
       pub overlay-read : Bytes body → (plan : Plan) → planAt body tray list n at ≡ done plan → OverlayKnown body tray chain flag list colour n at h plan
@@ -328,3 +361,50 @@ module _ (body tray chain : List ℕ) (flag : Bool) (list : List ℕ) (colour : 
         where
           known-as : (p p′ : Plan) → p ≡ p′ → OverlayKnown body tray chain flag list colour n at h p → OverlayKnown body tray chain flag list colour n at h p′
           known-as p p′ i k = rw i at k
+
+-- ---- room
+
+-- the longest record by forms is that by pictures
+pub room-on : (es : List PropertyEntry) (flag : Bool) (P : Pic) → InRange P → (m : Form) → m ≡ P .form → andThen (chainPlanOf es flag m) (λ c. done (c .longest)) ≡ longestOf (chainDrawn es flag P)
+unfolding longestOf andThen
+room-on es flag P k m same = go (chainPlanOf es flag m) (chainDrawn es flag P) (rw same (plan-drawn es flag P k))
+  where
+    go : (o : Out ChainPlan) (u : Out Drawn) → Same Leads o u → andThen o (λ c. done (c .longest)) ≡ andThen u (λ d. done (d .longest))
+    go _ _ alike = refl
+    go _ _ (both {a = c} {b = d} l) = ap done (l .longest)
+
+pub room-refused-as : (o : Out Drawn) (r : Refusal) → o ≡ refused r → refused r ≡ longestOf o
+unfolding longestOf
+room-refused-as o r e = sym (then-refused _ e)
+
+-- ---- a chain on one record
+
+-- a record and a chain that were read
+pub record RecordKnown (s chain : List ℕ) (flag : Bool) (h : Chain) (fr : Frame) : Type 0 where
+  pub judged : Judged chain h
+  pub sound : Sound s fr
+  pub inRange : InRange (decode s fr)
+  pub is : (output spare : ℕ) → transformsRun s chain flag output spare ≡ sceneOn (judged .entries) flag (decode s fr) output spare
+
+pub record-form : (s : List ℕ) (fr : Frame) → fr .form ≡ decode s fr .form
+unfolding decode
+record-form s fr = refl
+
+module _ (s chain : List ℕ) (flag : Bool) where
+  pub record-refused : (r : Refusal) → recordOf s ≡ refused r → (output spare : ℕ) → transformsRun s chain flag output spare ≡ refused r
+  unfolding transformsRun recordDrawn
+  record-refused r e output spare = then-refused _ (then-refused _ e)
+
+  module _ (fr : Frame) (taken : recordOf s ≡ done fr) where
+    pub record-chain : (r : Refusal) → judgedAt chain 0 ≡ refused r → (output spare : ℕ) → transformsRun s chain flag output spare ≡ refused r
+    unfolding transformsRun recordDrawn
+    record-chain r e output spare = then-refused _ (then-done _ taken ∙ then-refused _ (judged-refused chain 0 r e))
+
+    pub record-read : Bytes s → (h : Chain) → judgedAt chain 0 ≡ done h → RecordKnown s chain flag h fr
+    unfolding transformsRun recordDrawn sceneOn
+    record-read b h e = record {
+      judged = judged-chain chain 0 h e .0;
+      sound = whole-sound s fr taken .0;
+      inRange = record-in-range s fr b (whole-sound s fr taken .0 .form);
+      is = λ output spare. ap (λ z. andThen z (roomFor output spare)) (then-done _ taken ∙ then-done _ (judged-chain chain 0 h e .1));
+    }

@@ -3,6 +3,8 @@
 mod apply;
 mod chain_plan;
 mod plan;
+mod room;
+mod transforms;
 
 ghost use mathlib.Core.Path.{_≡_};
 ghost use lib.ListN.{length};
@@ -11,6 +13,10 @@ ghost use Rattle.scene.specs.Scene.{gridScene, overlayScene, outputOf, s
 use crate::apply::finish_scene;
 use crate::plan::CurrentRead;
 use crate::plan::plan_scene;
+pub use crate::room::RoomRead;
+pub use crate::room::grid_room;
+pub use crate::room::overlay_room;
+pub use crate::transforms::apply_transforms;
 use fill::Colour;
 use grid::TilesRead;
 use inputs::PlanRead;

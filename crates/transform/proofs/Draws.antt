@@ -4,13 +4,13 @@ use mathlib.Core.Path.{_≡_, ap, ap₂, refl}
 use Prim.Native.Nat.{_+_, _-_, _≤_, ℕ}
 use native.Mathlib.Omega.{arith}
 use Rattle.laws.specs.Pick.{pick}
-use Rattle.planes.proofs.PictureLaws.{last-axis}
-use Rattle.image.specs.Format.{columnsOf, cover, halfX, halfY, rowsOf, as444, needs444, odd, sized}
-use Rattle.planes.specs.Picture.{Agree, Pic, ensure, promote}
+use Rattle.image.specs.Format.{as444, columnsOf, cover, halfX, halfY, needs444, odd, rowsOf, sized}
 use Rattle.image.specs.declared.format.Part.{Part}
+use Rattle.planes.proofs.PictureLaws.{last-axis}
+use Rattle.planes.specs.Picture.{Agree, Pic, ensure, promote}
 use Rattle.props.specs.declared.clap.CropRect.{CropRect}
-use Rattle.transform.specs.inner.Move.{alongFrom, cropMove, cropWith, endAxis, formWith, halfMove, halfWith, mirrorMove, moved, quarterMove, quarterWith}
 use Rattle.transform.specs.Turn.{crop, cut, fromBottom, fromRight, lopsided, mirror, q1, q2, q3, turn, turned}
+use Rattle.transform.specs.inner.Move.{alongFrom, cropMove, cropWith, endAxis, formWith, halfMove, halfWith, mirrorMove, moved, quarterMove, quarterWith, stillMove}
 
 crop-with : (t : Bool) (P : Pic) (r : CropRect) → Agree (moved (cropWith t (P .form) r) P) (cut (pick t (promote P) P) r)
 unfolding moved cropWith cut formWith pick promote alongFrom sized
@@ -41,6 +41,10 @@ module _ (P : Pic) (wide : 1 ≤ P .form .width) (tall : 1 ≤ P .form .height) 
   unfolding moved mirrorMove endAxis mirror pick alongFrom
   mirror-draws true = record { form = refl; reads = λ p h x y a b. ap₂ (P .at p) (right-is P wide tall p x) (near-is _ y) }
   mirror-draws false = record { form = refl; reads = λ p h x y a b. ap₂ (P .at p) (near-is _ x) (bottom-is P wide tall p y) }
+
+  pub still-draws : Agree (moved (stillMove (P .form)) P) P
+  unfolding moved stillMove endAxis pick alongFrom
+  still-draws = record { form = refl; reads = λ p h x y a b. ap₂ (P .at p) (near-is _ x) (near-is _ y) }
 
   half-with : (t : Bool) → Agree (moved (halfWith t (P .form)) P) (turned (pick t (promote P) P) q2)
   unfolding moved halfWith endAxis turned formWith pick promote as444 alongFrom sized

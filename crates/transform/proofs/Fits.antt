@@ -9,20 +9,20 @@ use borrow.Author.Tests.{eqb-true}
 use Rattle.laws.proofs.Order.{apart, by-test, mul-below, or-left, pick-true}
 use Rattle.laws.specs.Pick.{pick}
 use Rattle.image.proofs.FormLaws.{height-le, side-le, width-le}
-use Rattle.planes.proofs.PictureLaws.{evenly-if, evenly-part, needs-X, needs-Y, needs-colour, odd-false, parts-444}
-use Rattle.image.specs.Format.{bytesOf, columnsOf, cover, halfX, halfY, halved, halvesX, halvesY, hasPart, isMono, rowsOf, sideOf, as444, needs444, sized}
-use Rattle.planes.specs.inner.Even.{Evenly}
+use Rattle.image.specs.Format.{as444, bytesOf, columnsOf, cover, halfX, halfY, halved, halvesX, halvesY, hasPart, isMono, needs444, rowsOf, sideOf, sized}
 use Rattle.image.specs.Sound.{FormSound}
 use Rattle.image.specs.declared.format.Form.{Form}
 use Rattle.image.specs.declared.format.Part.{Part}
 use Rattle.image.specs.declared.format.Part.the-variants.{Alpha, Cb, Cr, Luma}
 use Rattle.image.specs.declared.format.PixelFormat.{PixelFormat}
+use Rattle.planes.proofs.PictureLaws.{evenly-if, evenly-part, needs-X, needs-Y, needs-colour, odd-false, parts-444}
+use Rattle.planes.specs.inner.Even.{Evenly}
 use Rattle.props.specs.Sound.{Inside}
 use Rattle.props.specs.declared.clap.CropRect.{CropRect}
-use Rattle.transform.specs.inner.Move.{StepsFit, MoveFits, alongFrom, cropMove, cropWith, endAxis, formWith, halfMove, halfWith, mirrorMove, planeAxis, quarterMove, quarterWith, walkOf, walkX, walkY}
 use Rattle.transform.specs.Turn.{lopsided}
 use Rattle.transform.specs.declared.moves.Axis.{Axis}
 use Rattle.transform.specs.declared.moves.Move.{Move}
+use Rattle.transform.specs.inner.Move.{MoveFits, StepsFit, alongFrom, cropMove, cropWith, endAxis, formWith, halfMove, halfWith, mirrorMove, planeAxis, quarterMove, quarterWith, stillMove, walkOf, walkX, walkY}
 
 -- ---- along one axis: t promoted, h halved; len places of the new picture are sideOf (pick t false h) len samples
 
@@ -157,6 +157,16 @@ mirror-fits m t ok = moves-fit m (mirrorMove m t) ok refl (λ p. refl) (axes t)
     axes false = record {
       across = λ p. end-few _ (halfX (m .format) p) false (m .width) (width-le m ok) (ok .wide);
       down = λ p. end-few _ (halfY (m .format) p) true (m .height) (height-le m ok) (ok .tall);
+    }
+
+pub still-fits : (m : Form) → FormSound m → MoveFits m (stillMove m)
+unfolding stillMove columnsOf rowsOf pick
+still-fits m ok = moves-fit m (stillMove m) ok refl (λ p. refl) axes
+  where
+    axes : AxesMove m (stillMove m)
+    axes = record {
+      across = λ p. end-few _ (halfX (m .format) p) false (m .width) (width-le m ok) (ok .wide);
+      down = λ p. end-few _ (halfY (m .format) p) false (m .height) (height-le m ok) (ok .tall);
     }
 
 pub half-fits : (m : Form) → FormSound m → MoveFits m (halfMove m)

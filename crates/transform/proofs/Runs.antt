@@ -10,25 +10,25 @@ use Rattle.laws.proofs.Out.{refuse-no, refuse-yes, then-done, then-refused}
 use Rattle.laws.specs.Out.{done, fitted, reason, refused}
 use Rattle.laws.specs.declared.Refusal.{Refusal}
 use Rattle.image.proofs.RecordLaws.{whole-sound}
-use Rattle.planes.proofs.RoundTrip.{drawn-as}
-use Rattle.planes.specs.Bytes.{decode, encode}
 use Rattle.image.specs.Format.{odd}
 use Rattle.image.specs.Record.{recordOf}
 use Rattle.image.specs.Sound.{FormSound}
 use Rattle.image.specs.declared.format.Form.{Form}
 use Rattle.image.specs.declared.record.Frame.{Frame}
+use Rattle.planes.proofs.RoundTrip.{drawn-as, encode-agree}
+use Rattle.planes.specs.Bytes.{decode, encode}
 use Rattle.props.proofs.ApertureLaws.{resolve-inside}
 use Rattle.props.specs.Aperture.{resolveOf}
 use Rattle.props.specs.Sound.{Inside}
+use Rattle.props.specs.declared.clap.Clap.{Clap}
 use Rattle.props.specs.declared.clap.CropRect.{CropRect}
 use Rattle.props.specs.declared.entry.Imir.{Imir}
 use Rattle.props.specs.declared.entry.Irot.{Irot}
-use Rattle.props.specs.declared.clap.Clap.{Clap}
-use Rattle.transform.proofs.Draws.{crop-draws, half-draws, left-draws, mirror-draws, right-draws}
+use Rattle.transform.proofs.Draws.{crop-draws, half-draws, left-draws, mirror-draws, right-draws, still-draws}
 use Rattle.transform.proofs.Fits.{crop-fits}
-use Rattle.transform.specs.inner.Move.{MoveFits, cropMove, halfMove, mirrorMove, moved, quarterMove}
 use Rattle.transform.specs.Run.{clapRun, cropOf, cropRun, imirRun, irotRun, turnBytes}
 use Rattle.transform.specs.Turn.{Quarter, q0, q1, q2, q3, quarterOf}
+use Rattle.transform.specs.inner.Move.{MoveFits, cropMove, halfMove, mirrorMove, moved, quarterMove, stillMove}
 
 -- ---- crop
 
@@ -74,6 +74,12 @@ module _ (s : List ℕ) (fr : Frame) (taken : recordOf s ≡ done fr) (c : Clap)
   pub clap-drawn : (r : CropRect) → resolveOf c (fr .form .width) (fr .form .height) ≡ done r → clapRun s c room ≡ fitted room (encode (moved (cropMove (fr .form) r) (decode s fr)))
   unfolding clapRun decode
   clap-drawn r h = then-done _ taken ∙ then-done _ h ∙ drawn-as room _ _ (crop-draws (decode s fr) r)
+
+-- ---- as it is
+
+pub still-bytes : (s : List ℕ) (fr : Frame) → FormSound (fr .form) → encode (moved (stillMove (fr .form)) (decode s fr)) ≡ encode (decode s fr)
+unfolding decode
+still-bytes s fr ok = encode-agree _ _ (still-draws (decode s fr) (ok .wide) (ok .tall))
 
 -- ---- turns and mirrors
 

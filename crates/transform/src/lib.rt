@@ -5,10 +5,11 @@ ghost use mathlib.Core.Path.{_≡_};
 ghost use Prim.Native.Nat.{_≤_};
 ghost use lib.ListN.{length};
 ghost use Rattle.laws.specs.Out.{answerOf, written, fitted};
+ghost use Rattle.laws.specs.Puts.{puts};
 ghost use Rattle.image.specs.Sound.{FormSound};
 ghost use Rattle.image.specs.inner.Placed.{Sound};
 ghost use Rattle.planes.specs.Bytes.{decode, encode};
-ghost use Rattle.transform.specs.inner.Move.{moved, MoveFits, formWith, endAxis, cropMove, quarterMove, halfMove, mirrorMove, turnForm};
+ghost use Rattle.transform.specs.inner.Move.{moved, MoveFits, formWith, endAxis, cropMove, quarterMove, halfMove, mirrorMove, stillMove, turnForm};
 ghost use Rattle.transform.specs.Turn.{quarterOf};
 ghost use Rattle.transform.specs.Run.{cropRun, clapRun, irotRun, imirRun};
 use crate::moves::Axis;
@@ -118,6 +119,27 @@ fn mirror_move(m: Form, sideways: bool) -> Move
         across: end_axis(sideways, m.width),
         down: end_axis(!sideways, m.height),
     }
+}
+
+fn still_move(m: Form) -> Move
+    requires { ⌜ FormSound m ⌝ }
+    ensures { λ v. ⌜ v ≡ stillMove m ⌝ }
+{
+    Move {
+        form: m,
+        promoted: false,
+        swapped: false,
+        across: end_axis(false, m.width),
+        down: end_axis(false, m.height),
+    }
+}
+
+// A record's picture as it is, in a tight record at the start. Answers its length.
+pub fn tighten(record: &[u8], fr: Frame, out: &mut [u8]) -> usize
+    requires { ⌜ Sound (now «record») fr × (length (encode (decode (now «record») fr)) ≤ length (now out)) ⌝ }
+    ensures { λ r. ⌜ (r ≡ length (encode (decode (now («record» .entry)) fr))) × (now (out .exit) ≡ puts (now (out .entry)) 0 (encode (decode (now («record» .entry)) fr))) ⌝ }
+{
+    moves::write_moved(out, record, fr, still_move(fr.form))
 }
 
 // The form of a crop.

@@ -163,6 +163,16 @@ turnForm m q1 = quarterMove m true false .form
 turnForm m q2 = halfMove m .form
 turnForm m q3 = quarterMove m false true .form
 
+-- a picture as it is
+unfoldable pub stillMove : Form → Move
+stillMove m = record {
+  form = m;
+  promoted = false;
+  swapped = false;
+  across = endAxis false (m .width);
+  down = endAxis false (m .height);
+}
+
 unfoldable pub mirrorMove : Form → Bool → Move
 mirrorMove m sideways = record {
   form = m;
