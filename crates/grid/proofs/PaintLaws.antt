@@ -98,10 +98,12 @@ plane-there d e at m p h l q small =
     let n : planeSize m p ≡ length (planeHead m p) + rowsOf m p * rowSize m p = pick-true _ _ _ h in
     let long : length e ≡ length d = ap length q ∙ length-puts d at (planeHead m p) in
     let f = thereAt e (bytesOf (m .format)) (at + length (planeHead m p)) (columnsOf m p) in
-    let r = rows-there e m p (at + length (planeHead m p)) small (omega (arith, n, long)) in
-    (f, sym (ap (puts d at) (plane-some (anyPic m f) p h) ∙ puts-append d at (planeHead m p) _
-    ∙ ap (λ (b : List ℕ). puts b (at + length (planeHead m p)) (rowsBytes (anyPic m f) p)) (sym q)
-    ∙ puts-there e (at + length (planeHead m p)) (rowsOf m p * rowSize m p) (rowsBytes (anyPic m f) p) (omega (arith, n, long)) r))
+    let r = rows-there e m p (at + length (planeHead m p)) small (omega (arith, n, long)) in (
+      f,
+      sym (ap (puts d at) (plane-some (anyPic m f) p h) ∙ puts-append d at (planeHead m p) _
+          ∙ ap (λ (b : List ℕ). puts b (at + length (planeHead m p)) (rowsBytes (anyPic m f) p)) (sym q)
+          ∙ puts-there e (at + length (planeHead m p)) (rowsOf m p * rowSize m p) (rowsBytes (anyPic m f) p) (omega (arith, n, long)) r),
+    )
 
 pub plane-lacks : (d : List ℕ) (at : ℕ) (m : Form) (p : Part) → hasPart (m .format) p ≡ false
     → (at ≡ at + planeSize m p) × ((f : ℕ → ℕ → ℕ) × (d ≡ puts d at (planeBytes (anyPic m f) p)))

@@ -144,9 +144,18 @@ fn judge_tiles(tray: &[u8], g: GridDescriptor, at: usize, count: u32) -> TilesRe
                 return TilesRead::Refused(Refusal::MALFORMED);
             }
             if fault == 0 {
-                return TilesRead::Read(Tiles { desc: g, tile, alpha, first: at });
+                return TilesRead::Read(Tiles {
+                    desc: g,
+                    tile,
+                    alpha,
+                    first: at,
+                });
             }
-            TilesRead::Refused(Refusal { number: fault, sort: 0, index: 0 })
+            TilesRead::Refused(Refusal {
+                number: fault,
+                sort: 0,
+                index: 0,
+            })
         }
     }
 }

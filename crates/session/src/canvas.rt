@@ -138,7 +138,14 @@ impl Canvas {
         }
         let promoted = grid::promotes(g, t);
         tell_alpha(buffer, form, t);
-        draw_blank(buffer, planes::tight(form), t, promoted, index % columns, index / columns);
+        draw_blank(
+            buffer,
+            planes::tight(form),
+            t,
+            promoted,
+            index % columns,
+            index / columns,
+        );
         let canvas = self.drawn(index, t, self.alpha);
         Called {
             canvas,

@@ -8,27 +8,21 @@ use Rattle.fill.proofs.fill_alpha.Reads as reads
 use Rattle.fill.proofs.fill_alpha.Lts as lts
 use Rattle.image.proofs.format.PixelFormat.top_at.Reads as top-at-reads
 
--- src/lib.rt:81:15
 top-at-requires : tie.Need-top-at-requires
 top-at-requires c κs = search needs
 
--- src/lib.rt:81:15
 cast-top : tie.Need-cast-top
 cast-top c = search needs
 
--- src/lib.rt:82:7
 mul-result : tie.Need-mul-result
 mul-result c = omega (arith, product-small (c .before .args .alpha) (c .top-at .result) (search needs) (search needs))
 
--- src/lib.rt:82:7
 add-result : tie.Need-add-result
 add-result c = omega (arith, product-small (c .before .args .alpha) (c .top-at .result) (search needs) (search needs))
 
--- src/lib.rt:82:5
 cast-result : tie.Need-cast-result
 cast-result c = omega (arith, product-small (c .before .args .alpha) (c .top-at .result) (search needs) (search needs))
 
--- src/lib.rt:77:1
 returns : tie.Need-returns
 unfolding fillAlphaOf
 returns c = simp (c .top-at .ensures)

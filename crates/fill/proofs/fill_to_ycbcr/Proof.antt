@@ -21,39 +21,31 @@ use Rattle.image.proofs.format.PixelFormat.is_depth.Reads as is-depth-reads
 depth-is : (c : tie.After-is-depth) (b : Bool) → not (c .is-depth .result) ≡ b → not (isDepth (c .before .args .depth)) ≡ b
 depth-is c b e = ap not (sym (c .is-depth .ensures)) ∙ e
 
--- src/lib.rt:60:9
 is-depth-requires : tie.Need-is-depth-requires
 is-depth-requires c κs = search needs
 
--- src/lib.rt:61:9
 returns : tie.Need-returns
 unfolding fillOf refuse
 returns c = simp (depth-is (c .before) _ (c .if1 .taken))
 
--- src/lib.rt:63:9
 nclx-requires : tie.Need-nclx-requires
 nclx-requires c κs = search needs
 
--- src/lib.rt:66:9
 part-requires : tie.Need-part-requires
 part-requires c κs = search needs
 
--- src/lib.rt:67:9
 part-requires-2 : tie.Need-part-requires-2
 part-requires-2 c κs = search needs
 
--- src/lib.rt:68:9
 part-requires-3 : tie.Need-part-requires-3
 part-requires-3 c κs = search needs
 
--- src/lib.rt:70:32
 identity-requires : tie.Need-identity-requires
 identity-requires c κs =
     let at-is-depth = c .before .before .before .before .before .before in
     let if1 = c .before .before .before .before .before .if1 in
     depth-sound _ (depth-is at-is-depth _ (if1 .left)) .1
 
--- src/lib.rt:70:9
 returns-2 : tie.Need-returns-2
 unfolding fillOf refuse ycbcrOf pick
 returns-2 c =
@@ -64,18 +56,15 @@ returns-2 c =
     let part2 = c .before .before .before .part2 in
     simp (depth-is at-is-depth _ (if1 .left), c .identity .ensures, c .before .before .part3 .ensures, part2 .ensures, part .ensures, sym (nclx .ensures), eq-eqb _ _ (c .before .if2 .taken))
 
--- src/lib.rt:72:9
 of-requires : tie.Need-of-requires
 of-requires c κs = search needs
 
--- src/lib.rt:73:21
 weighted-requires : tie.Need-weighted-requires
 weighted-requires c κs =
     let at-is-depth = c .before .before .before .before .before .before .before in
     let if1 = c .before .before .before .before .before .before .if1 in
     depth-sound _ (depth-is at-is-depth _ (if1 .left))
 
--- src/lib.rt:57:1
 returns-3 : tie.Need-returns-3
 unfolding fillOf refuse ycbcrOf pick
 returns-3 c =

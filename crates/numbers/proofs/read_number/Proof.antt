@@ -7,27 +7,21 @@ use Rattle.numbers.proofs.read_number.Reads as reads
 use Rattle.numbers.proofs.read_number.Lts as lts
 use Rattle.numbers.proofs.read_groups.Reads as read-groups-reads
 
--- src/lib.rt:58:17
 shared-slice-read-b : tie.Need-shared-slice-read-b
 shared-slice-read-b c = search needs
 
--- src/lib.rt:61:24
 cast-t9 : tie.Need-cast-t9
 cast-t9 c = search needs
 
--- src/lib.rt:62:23
 add-t10 : tie.Need-add-t10
 add-t10 c = search needs
 
--- src/lib.rt:60:13
 returns : tie.Need-returns
 returns c = sym (read-one _ _ (c .before .before .if1 .taken) (c .if2 .taken))
 
--- src/lib.rt:66:5
 read-groups-requires : tie.Need-read-groups-requires
 read-groups-requires c κs = search needs
 
--- src/lib.rt:54:1
 returns-2 : tie.Need-returns-2
 returns-2 c = search needs
 

@@ -10,19 +10,15 @@ use Rattle.derived.proofs.canvas.read_canvas.Lts as lts
 use Rattle.image.proofs.size.Size.judge.Reads as judge-reads
 use Rattle.numbers.proofs.Cursor.field.Reads as field-reads
 
--- src/canvas.rt:70:9
 field-requires : tie.Need-field-requires
 field-requires c κs = search needs
 
--- src/canvas.rt:68:16
 enum-known-width : tie.Need-enum-known-width
 enum-known-width c = search needs
 
--- laws: src/lib.rt:3:29
 enum-told : tie.Need-enum-told
 enum-told c = search needs
 
--- src/canvas.rt:72:9
 returns : tie.Need-returns
 unfolding canvasAt onField andThen
 returns c =
@@ -31,19 +27,15 @@ returns c =
       c .enum-told .given .1,
     )
 
--- src/canvas.rt:77:9
 field-requires-2 : tie.Need-field-requires-2
 field-requires-2 c κs = search needs
 
--- src/canvas.rt:75:16
 enum-known-height : tie.Need-enum-known-height
 enum-known-height c = search needs
 
--- laws: src/lib.rt:3:29
 enum-told-2 : tie.Need-enum-told-2
 enum-told-2 c = search needs
 
--- src/canvas.rt:79:9
 returns-2 : tie.Need-returns-2
 unfolding canvasAt onField andThen
 returns-2 c =
@@ -54,19 +46,15 @@ returns-2 c =
       c .enum-told2 .given .1,
     )
 
--- src/canvas.rt:81:11
 judge-requires : tie.Need-judge-requires
 judge-requires c κs = search needs
 
--- src/canvas.rt:82:29
 enum-known-e : tie.Need-enum-known-e
 enum-known-e c = search needs
 
--- src/canvas.rt:83:26
 enum-known-z : tie.Need-enum-known-z
 enum-known-z c = search needs
 
--- src/canvas.rt:63:1
 returns-3 : tie.Need-returns-3
 unfolding canvasAt onField andThen
 returns-3 c =
@@ -79,7 +67,6 @@ returns-3 c =
       c .before .e .given .1,
     )
 
--- src/canvas.rt:63:1
 returns-4 : tie.Need-returns-4
 unfolding canvasAt onField andThen
 returns-4 c =

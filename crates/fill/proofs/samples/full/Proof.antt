@@ -7,19 +7,15 @@ use Rattle.fill.proofs.samples.full.Lts as lts
 use Rattle.fill.proofs.samples.whole.Reads as whole-reads
 use Rattle.image.proofs.format.PixelFormat.top_at.Reads as top-at-reads
 
--- src/samples.rt:40:9
 top-at-requires : tie.Need-top-at-requires
 top-at-requires c κs = search needs
 
--- src/samples.rt:41:15
 int-to-float-whole : tie.Need-int-to-float-whole
 int-to-float-whole c = search needs
 
--- src/samples.rt:41:5
 whole-requires : tie.Need-whole-requires
 whole-requires c κs = search needs
 
--- src/samples.rt:36:1
 returns : tie.Need-returns
 unfolding fullOf
 returns c = simp (c .whole .ensures, c .before .before .top-at .ensures)

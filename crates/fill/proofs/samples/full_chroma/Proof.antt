@@ -8,27 +8,21 @@ use Rattle.fill.proofs.samples.whole.Reads as whole-reads
 use Rattle.image.proofs.format.PixelFormat.middle_at.Reads as middle-at-reads
 use Rattle.image.proofs.format.PixelFormat.top_at.Reads as top-at-reads
 
--- src/samples.rt:49:9
 top-at-requires : tie.Need-top-at-requires
 top-at-requires c κs = search needs
 
--- src/samples.rt:50:18
 middle-at-requires : tie.Need-middle-at-requires
 middle-at-requires c κs = search needs
 
--- src/samples.rt:50:18
 int-to-float-middle : tie.Need-int-to-float-middle
 int-to-float-middle c = search needs
 
--- src/samples.rt:51:15
 int-to-float-whole : tie.Need-int-to-float-whole
 int-to-float-whole c = search needs
 
--- src/samples.rt:51:5
 whole-requires : tie.Need-whole-requires
 whole-requires c κs = search needs
 
--- src/samples.rt:45:1
 returns : tie.Need-returns
 unfolding fullChromaOf
 returns c =

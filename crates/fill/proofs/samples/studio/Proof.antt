@@ -8,27 +8,21 @@ use Rattle.fill.proofs.samples.power.Reads as power-reads
 use Rattle.fill.proofs.samples.whole.Reads as whole-reads
 use Rattle.image.proofs.format.PixelFormat.top_at.Reads as top-at-reads
 
--- src/samples.rt:59:9
 top-at-requires : tie.Need-top-at-requires
 top-at-requires c κs = search needs
 
--- src/samples.rt:60:22
 sub-power : tie.Need-sub-power
 sub-power c = search needs
 
--- src/samples.rt:60:16
 power-requires : tie.Need-power-requires
 power-requires c κs = search needs
 
--- src/samples.rt:60:16
 int-to-float-step : tie.Need-int-to-float-step
 int-to-float-step c = search needs
 
--- src/samples.rt:61:5
 whole-requires : tie.Need-whole-requires
 whole-requires c κs = search needs
 
--- src/samples.rt:55:1
 returns : tie.Need-returns
 unfolding studioOf
 returns c =

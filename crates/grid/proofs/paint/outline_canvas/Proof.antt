@@ -56,21 +56,41 @@ paint-plane-requires c κs =
     let write-head = c .before .before .before .before .before .before .before .before .before .before .before .before .before .before .before .before .write-head in
     let outline-plane = c .before .before .before .before .before .before .before .before .before .before .before .before .outline-plane in
     let outline-plane2 = c .before .before .before .before .before .before .before .before .outline-plane2 in
-    let outline-plane3 = c .before .before .before .before .outline-plane3 in
-    (start .pre .0, omega (arith, start .pre .1, write-head .ensures .0, ap length (write-head .ensures .1) ∙ length-puts _ _ _, outline-plane .ensures .0, ap length (outline-plane .ensures .1 .1) ∙ length-puts _ _ _, outline-plane2 .ensures .0, ap length (outline-plane2 .ensures .1 .1) ∙ length-puts _ _ _, outline-plane3 .ensures .0, ap length (outline-plane3 .ensures .1 .1) ∙ length-puts _ _ _))
+    let outline-plane3 = c .before .before .before .before .outline-plane3 in (
+      start .pre .0,
+      omega (
+        arith,
+        start .pre .1,
+        write-head .ensures .0,
+        ap length (write-head .ensures .1) ∙ length-puts _ _ _,
+        outline-plane .ensures .0,
+        ap length (outline-plane .ensures .1 .1) ∙ length-puts _ _ _,
+        outline-plane2 .ensures .0,
+        ap length (outline-plane2 .ensures .1 .1) ∙ length-puts _ _ _,
+        outline-plane3 .ensures .0,
+        ap length (outline-plane3 .ensures .1 .1) ∙ length-puts _ _ _,
+      ),
+    )
 
 same-length : tie.Need-same-length
 same-length c = search needs
 
 returns : tie.Need-returns
 returns c =
-    let start = c .before .before .before .before .before .before .before .before .before .before .before .before .before .before .before .before .before .before .before .before .before .before .before in
-    let write-head = c .before .before .before .before .before .before .before .before .before .before .before .before .before .before .before .before .before .before .before .write-head in
-    let outline-plane = c .before .before .before .before .before .before .before .before .before .before .before .before .before .before .before .outline-plane in
-    let outline-plane2 = c .before .before .before .before .before .before .before .before .before .before .before .outline-plane2 in
     let outline-plane3 = c .before .before .before .before .before .before .before .outline-plane3 in
-    let top = c .before .before .before .top in
-    (coloursOf (outline-plane .ensures .1 .0) (outline-plane2 .ensures .1 .0) (outline-plane3 .ensures .1 .0), under-written (start .args .canvas) _ _ _ _ _ _ _ _ _ _ _ _ _ _ (start .pre .1) (write-head .ensures .0) (write-head .ensures .1) (outline-plane .ensures .0) (outline-plane .ensures .1 .1) (outline-plane2 .ensures .0) (outline-plane2 .ensures .1 .1) (outline-plane3 .ensures .0) (outline-plane3 .ensures .1 .1) (c .before .before .paint-plane .ensures .0) (c .before .before .paint-plane .ensures .1 ∙ ap (λ (v : ℕ). puts (outline-plane3 .last .0) (outline-plane3 .result) (planeBytes (evenPic (start .args .canvas) v) Alpha)) (top .ensures)))
+    let after-outline-plane2 = c .before .before .before .before .before .before .before .before .before .before .before in
+    let outline-plane2 = after-outline-plane2 .outline-plane2 in
+    let outline-plane = after-outline-plane2 .before .before .before .before .outline-plane in
+    let write-head = after-outline-plane2 .before .before .before .before .before .before .before .before .write-head in
+    let start = after-outline-plane2 .before .before .before .before .before .before .before .before .before .before .before .before in (
+      coloursOf (outline-plane .ensures .1 .0) (outline-plane2 .ensures .1 .0) (outline-plane3 .ensures .1 .0),
+      under-written (start .args .canvas) _ _ _ _ _ _ _ _ _ _ _ _ _ _ (start .pre .1) (write-head .ensures .0) (write-head .ensures .1)
+          (outline-plane .ensures .0) (outline-plane .ensures .1 .1) (outline-plane2 .ensures .0) (outline-plane2 .ensures .1 .1)
+          (outline-plane3 .ensures .0) (outline-plane3 .ensures .1 .1) (c .before .before .paint-plane .ensures .0)
+          (c .before .before .paint-plane .ensures .1
+          ∙ ap (λ (v : ℕ). puts (outline-plane3 .last .0) (outline-plane3 .result) (planeBytes (evenPic (start .args .canvas) v) Alpha))
+          (c .before .before .before .top .ensures)),
+    )
 
 pub outline-canvas-spec : {M : Type 1} → statement M
 outline-canvas-spec =

@@ -78,13 +78,21 @@ loop-less c = search needs
 
 loop-again : tie.Need-loop-again Inv-loop μ-loop
 loop-again c =
-    let start = c .before .before .before .before .before .before .before .before .before .before .before .before .before .before .before .before .before in
-    let first = c .before .before .before .before .before .before .before .before .before .before .before .before .before .first in
-    let loop = c .before .before .before .before .before .before .before .before .before .loop in
-    let loop-test = c .before .before .before .before .before .before .before .before .loop-test in
-    let read-record2 = c .before .before .before .before .before .before .before .read-record2 in
     let f = c .before .before .before .before .before .f in
-    (omega (arith, loop .inv .0), loop .inv .1 ∙ judge-next _ _ _ _ _ _ _ _ _ (loop-test .taken) (sym (read-record2 .ensures) ∙ ap frameOut (f .given .1)) ∙ ap₂ (λ (n a : ℕ). andThen (framesAt (loop .left - 1) (now (start .args .tray)) (f .given .0 .0 .end)) (judged (start .args .g) (start .args .at) (first .given .0 .0 .form) n a)) (sym (c .before .first-fault .ensures ∙ ap (λ (u : ℕ). pick (eqb (loop .fault) 0) u (loop .fault)) (c .before .before .unlike .ensures))) (sym (c .with-tile .ensures)))
+    let read-record2 = c .before .before .before .before .before .before .before .read-record2 in
+    let loop-test = c .before .before .before .before .before .before .before .before .loop-test in
+    let at-loop = c .before .before .before .before .before .before .before .before .before in
+    let loop = at-loop .loop in
+    let first = at-loop .before .before .before .before .first in
+    let start = at-loop .before .before .before .before .before .before .before .before in (
+      omega (arith, loop .inv .0),
+      loop .inv .1
+          ∙ judge-next _ _ _ _ _ _ _ _ _ (loop-test .taken) (sym (read-record2 .ensures) ∙ ap frameOut (f .given .1))
+          ∙ ap₂ (λ (n a : ℕ). andThen (framesAt (loop .left - 1) (now (start .args .tray)) (f .given .0 .0 .end))
+          (judged (start .args .g) (start .args .at) (first .given .0 .0 .form) n a))
+          (sym (c .before .first-fault .ensures ∙ ap (λ (u : ℕ). pick (eqb (loop .fault) 0) u (loop .fault)) (c .before .before .unlike .ensures)))
+          (sym (c .with-tile .ensures)),
+    )
 
 returns-2 : tie.Need-returns-2 Inv-loop μ-loop
 returns-2 c = sym (c .before .before .loop .inv .1 ∙ frames-over _ _ _ _ (c .before .loop-test .left) (c .if1 .taken))

@@ -12,26 +12,21 @@ use Rattle.image.proofs.record.judge_head.Reads as reads
 use Rattle.image.proofs.record.judge_head.Lts as lts
 use Rattle.image.proofs.format.Form.judge.Reads as judge-reads
 
--- src/record.rt:65:11
 judge-requires : tie.Need-judge-requires
 judge-requires c κs = search needs
 
--- src/record.rt:66:27
 enum-known-e : tie.Need-enum-known-e
 enum-known-e c = search needs
 
--- src/record.rt:67:24
 enum-known-judged : tie.Need-enum-known-judged
 enum-known-judged c = search needs
 
--- src/record.rt:62:1
 returns : tie.Need-returns
 unfolding headOf
 returns c =
     let judge = c .before .before .before .judge in
     sym (then-refused _ (sym (judge .ensures) ∙ ap formOut (c .before .e .given .1)))
 
--- src/record.rt:62:1
 returns-2 : tie.Need-returns-2
 unfolding headOf
 returns-2 c =

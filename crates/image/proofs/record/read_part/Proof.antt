@@ -7,15 +7,12 @@ use Rattle.image.proofs.record.read_part.Reads as reads
 use Rattle.image.proofs.record.read_part.Lts as lts
 use Rattle.image.proofs.record.read_plane.Reads as read-plane-reads
 
--- src/record.rt:168:9
 read-plane-requires : tie.Need-read-plane-requires
 read-plane-requires c κs = search needs
 
--- src/record.rt:168:9
 returns : tie.Need-returns
 returns c = c .read-plane .ensures ∙ sym (pick-true _ _ _ (c .before .if1 .taken))
 
--- src/record.rt:163:1
 returns-2 : tie.Need-returns-2
 returns-2 c = sym (pick-false _ _ _ (c .if1 .left))
 

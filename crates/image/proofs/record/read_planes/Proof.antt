@@ -32,7 +32,7 @@ luma-in c =
     let start = c .before .before .before .before .before .before .before .before .before .before in
     part-past _ _ _ _ _ (luma-at c) (start .pre .1)
 
-cb-at : (c : tie.After-cb) → 
+cb-at : (c : tie.After-cb) →
     let start = c .before .before .before .before .before .before .before .before .before .before .before .before .before .before .before in
     let luma = c .before .before .before .before .before .luma in
     partAt (now (start .args .s)) (past (luma .given .0 .0)) (start .args .form) Cb ≡ done (c .cb .given .0 .0)
@@ -50,7 +50,7 @@ cb-in c =
     let at-luma = c .before .before .before .before .before in
     part-past _ _ _ _ _ (cb-at c) (luma-in at-luma)
 
-cr-at : (c : tie.After-cr) → 
+cr-at : (c : tie.After-cr) →
     let start = c .before .before .before .before .before .before .before .before .before .before .before .before .before .before .before .before .before .before .before .before in
     let cb = c .before .before .before .before .before .cb in
     partAt (now (start .args .s)) (past (cb .given .0 .0)) (start .args .form) Cr ≡ done (c .cr .given .0 .0)
@@ -68,7 +68,7 @@ cr-in c =
     let at-cb = c .before .before .before .before .before in
     part-past _ _ _ _ _ (cr-at c) (cb-in at-cb)
 
-alpha-at : (c : tie.After-alpha) → 
+alpha-at : (c : tie.After-alpha) →
     let start = c .before .before .before .before .before .before .before .before .before .before .before .before .before .before .before .before .before .before .before .before .before .before .before .before .before .before in
     let cr = c .before .before .before .before .before .before .cr in
     partAt (now (start .args .s)) (past (cr .given .0 .0)) (start .args .form) Alpha ≡ done (c .alpha .given .0 .0)
@@ -85,54 +85,42 @@ alpha-in c =
     let at-cr = c .before .before .before .before .before .before in
     part-past _ _ _ _ _ (alpha-at c) (cr-in at-cr)
 
--- src/record.rt:183:16
 cast-rows : tie.Need-cast-rows
 cast-rows c = search needs
 
--- src/record.rt:184:15
 row-size-requires : tie.Need-row-size-requires
 row-size-requires c κs = search needs
 
--- src/record.rt:184:15
 cast-row : tie.Need-cast-row
 cast-row c = search needs
 
--- src/record.rt:185:9
 has-requires : tie.Need-has-requires
 has-requires c κs = search needs
 
--- src/record.rt:186:9
 rows-requires : tie.Need-rows-requires
 rows-requires c κs = search needs
 
--- src/record.rt:187:22
 row-size-requires-2 : tie.Need-row-size-requires-2
 row-size-requires-2 c κs = search needs
 
--- src/record.rt:187:22
 cast-chroma-row : tie.Need-cast-chroma-row
 cast-chroma-row c = search needs
 
--- src/record.rt:188:11
 read-part-requires : tie.Need-read-part-requires
 read-part-requires c κs =
     let start = c .before .before .before .before .before .before .before in
     let row-size = c .before .before .before .row-size in
     let r = form-rows (start .args .form) (start .pre .0) Luma in (rw (whole-rows (start .args .form) .0) (r .0), rw (whole-rows (start .args .form) .0) (r .1), rw (row-size .ensures) (r .2))
 
--- src/record.rt:189:28
 enum-known-e : tie.Need-enum-known-e
 enum-known-e c = search needs
 
--- src/record.rt:190:25
 enum-known-luma : tie.Need-enum-known-luma
 enum-known-luma c = search needs
 
--- src/record.rt:192:13
 add-read-part : tie.Need-add-read-part
 add-read-part c = omega (arith, luma-in (c .before .before))
 
--- src/record.rt:190:40
 read-part-requires-2 : tie.Need-read-part-requires-2
 unfolding rowsOf
 read-part-requires-2 c κs =
@@ -141,21 +129,17 @@ read-part-requires-2 c κs =
     let row-size2 = c .before .before .before .before .before .row-size2 in
     rw (rows .ensures, row-size2 .ensures) (form-rows (start .args .form) (start .pre .0) Cb)
 
--- src/record.rt:197:32
 enum-known-e-2 : tie.Need-enum-known-e-2
 enum-known-e-2 c = search needs
 
--- src/record.rt:198:29
 enum-known-cb : tie.Need-enum-known-cb
 enum-known-cb c = search needs
 
--- src/record.rt:200:17
 add-read-part-2 : tie.Need-add-read-part-2
 add-read-part-2 c =
     let start = c .before .before .before .before .before .before .before .before .before .before .before .before .before .before .before .before .before in
     omega (arith, cb-in (c .before .before), start .good)
 
--- src/record.rt:198:42
 read-part-requires-3 : tie.Need-read-part-requires-3
 unfolding rowsOf
 read-part-requires-3 c κs =
@@ -164,46 +148,37 @@ read-part-requires-3 c κs =
     let row-size2 = c .before .before .before .before .before .before .before .before .before .before .row-size2 in
     rw (rows .ensures, row-size2 .ensures) (form-rows (start .args .form) (start .pre .0) Cb)
 
--- src/record.rt:205:36
 enum-known-e-3 : tie.Need-enum-known-e-3
 enum-known-e-3 c = search needs
 
--- src/record.rt:206:33
 enum-known-cr : tie.Need-enum-known-cr
 enum-known-cr c = search needs
 
--- src/record.rt:208:21
 add-read-part-3 : tie.Need-add-read-part-3
 add-read-part-3 c =
     let start = c .before .before .before .before .before .before .before .before .before .before .before .before .before .before .before .before .before .before .before .before .before .before in
     omega (arith, cr-in (c .before .before), start .good)
 
--- src/record.rt:209:21
 has-requires-2 : tie.Need-has-requires-2
 has-requires-2 c κs = search needs
 
--- src/record.rt:206:46
 read-part-requires-4 : tie.Need-read-part-requires-4
 read-part-requires-4 c κs =
     let start = c .before .before .before .before .before .before .before .before .before .before .before .before .before .before .before .before .before .before .before .before .before .before .before in
     let row-size = c .before .before .before .before .before .before .before .before .before .before .before .before .before .before .before .before .before .before .before .row-size in
     let r = form-rows (start .args .form) (start .pre .0) Luma in (rw (whole-rows (start .args .form) .0) (r .0), rw (whole-rows (start .args .form) .0) (r .1), rw (row-size .ensures) (r .2))
 
--- src/record.rt:213:40
 enum-known-e-4 : tie.Need-enum-known-e-4
 enum-known-e-4 c = search needs
 
--- src/record.rt:214:37
 enum-known-alpha : tie.Need-enum-known-alpha
 enum-known-alpha c = search needs
 
--- src/record.rt:220:30
 add-t33 : tie.Need-add-t33
 add-t33 c =
     let start = c .before .before .before .before .before .before .before .before .before .before .before .before .before .before .before .before .before .before .before .before .before .before .before .before .before .before .before .before in
     omega (arith, alpha-in (c .before .before), start .good)
 
--- src/record.rt:178:1
 returns : tie.Need-returns
 unfolding planesAt past
 returns c =
@@ -212,7 +187,6 @@ returns c =
     let read-part = c .before .before .before .read-part in
     sym (then-refused _ (sym (part-as (now (start .args .s)) (start .args .at) (start .args .form) Luma true (start .args .form .height) _ (has-luma (start .args .form .format)) (whole-rows (start .args .form) .0) (row-size .ensures)) ∙ sym (read-part .ensures) ∙ ap planeOut (c .before .e .given .1)))
 
--- src/record.rt:178:1
 returns-2 : tie.Need-returns-2
 unfolding planesAt past rowsOf
 returns-2 c =
@@ -224,7 +198,6 @@ returns-2 c =
     let read-part2 = c .before .before .before .read-part2 in
     sym (then-done _ (luma-at at-luma) ∙ then-refused _ (sym (part-as (now (start .args .s)) _ (start .args .form) Cb _ _ _ (has .ensures) (rows .ensures) (row-size2 .ensures)) ∙ sym (read-part2 .ensures) ∙ ap planeOut (c .before .e2 .given .1)))
 
--- src/record.rt:178:1
 returns-3 : tie.Need-returns-3
 unfolding planesAt past rowsOf
 returns-3 c =
@@ -237,7 +210,6 @@ returns-3 c =
     let read-part3 = c .before .before .before .read-part3 in
     sym (then-done _ (luma-at at-luma) ∙ then-done _ (cb-at at-cb) ∙ then-refused _ (sym (part-as (now (start .args .s)) _ (start .args .form) Cr _ _ _ (has .ensures ∙ chroma-rows (start .args .form) .0) (rows .ensures ∙ chroma-rows (start .args .form) .1) (row-size2 .ensures ∙ chroma-rows (start .args .form) .2)) ∙ sym (read-part3 .ensures) ∙ ap planeOut (c .before .e3 .given .1)))
 
--- src/record.rt:178:1
 returns-4 : tie.Need-returns-4
 unfolding planesAt past
 returns-4 c =
@@ -250,7 +222,6 @@ returns-4 c =
     let read-part4 = c .before .before .before .read-part4 in
     sym (then-done _ (luma-at at-luma) ∙ then-done _ (cb-at at-cb) ∙ then-done _ (cr-at at-cr) ∙ then-refused _ (sym (part-as (now (start .args .s)) _ (start .args .form) Alpha _ _ _ (has2 .ensures) (whole-rows (start .args .form) .1) (row-size .ensures ∙ whole-rows (start .args .form) .2)) ∙ sym (read-part4 .ensures) ∙ ap planeOut (c .before .e4 .given .1)))
 
--- src/record.rt:178:1
 returns-5 : tie.Need-returns-5
 unfolding planesAt past
 returns-5 c =

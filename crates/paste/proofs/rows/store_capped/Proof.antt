@@ -21,49 +21,40 @@ Inv-loop out₀ at stride across down plane s top k₀ out k = (k ≤ down) × (
 abbrev μ-loop : tie.MeasureT-loop
 μ-loop out₀ at stride across down plane s top k₀ out k = down - k
 
--- src/rows.rt:105:5
 loop-holds : tie.Need-loop-holds Inv-loop μ-loop
 unfolding storeRows
 loop-holds c = (omega arith, refl)
 
--- src/rows.rt:106:36
 mul-store-capped-row : tie.Need-mul-store-capped-row Inv-loop μ-loop
 mul-store-capped-row c =
     let start = c .before .before .before .before .before in
     let w = start .pre .writes (c .before .before .loop .k) (c .before .loop-test .taken) in omega arith
 
--- src/rows.rt:106:31
 add-store-capped-row : tie.Need-add-store-capped-row Inv-loop μ-loop
 add-store-capped-row c =
     let start = c .before .before .before .before .before in
     let w = start .pre .writes (c .before .before .loop .k) (c .before .loop-test .taken) in omega arith
 
--- src/rows.rt:106:9
 store-capped-row-requires : tie.Need-store-capped-row-requires Inv-loop μ-loop
 store-capped-row-requires c κs =
     let start = c .before .before .before .before .before in
     let w = start .pre .writes (c .before .before .loop .k) (c .before .loop-test .taken) in let l = ap length (c .before .before .loop .inv .1) ∙ length-storeRows _ _ _ _ _ in (start .pre .positive, start .pre .bounded, start .pre .wide, omega (arith, start .pre .tall), omega arith, λ i h. start .pre .reads i (c .before .before .loop .k) h (c .before .loop-test .taken))
 
--- src/rows.rt:107:9
 add-k : tie.Need-add-k Inv-loop μ-loop
 add-k c = search needs
 
--- src/rows.rt:105:5
 loop-less : tie.Need-loop-less Inv-loop μ-loop
 loop-less c = search needs
 
--- src/rows.rt:105:5
 loop-again : tie.Need-loop-again Inv-loop μ-loop
 loop-again c =
     let start = c .before .before .before .before .before .before .before .before in
     let loop = c .before .before .before .before .before .loop in
     (omega arith, c .before .before .store-capped-row .ensures ∙ ap (λ (d : List ℕ). puts d (start .args .at + loop .k * start .args .stride) (cappedRow (now (start .args .plane)) (start .args .s) (start .args .top) (start .args .across) (loop .k))) (loop .inv .1) ∙ rows-more (now (start .args .out)) (start .args .at) (start .args .stride) _ (loop .k))
 
--- src/rows.rt:91:1
 same-length : tie.Need-same-length Inv-loop μ-loop
 same-length c = ap length (c .before .loop .inv .1) ∙ length-storeRows _ _ _ _ _
 
--- src/rows.rt:91:1
 returns : tie.Need-returns Inv-loop μ-loop
 returns c =
     let start = c .before .before .before .before in

@@ -26,7 +26,7 @@ Inv-loop out₀ at across plane s top k bytes stride row i₀ to₀ out i to = (
 abbrev μ-loop : tie.MeasureT-loop
 μ-loop out₀ at across plane s top k bytes stride row i₀ to₀ out i to = across - i
 
-sample-is : (c : tie.After-sample Inv-loop μ-loop) → 
+sample-is : (c : tie.After-sample Inv-loop μ-loop) →
     let start = c .before .before .before .before .before .before .before .before .before in
     let loop = c .before .before .before .before .loop in
     c .sample .result ≡ sourceAt (now (start .args .plane)) (start .args .s) (loop .i) (start .args .k)
@@ -35,44 +35,43 @@ sample-is c =
     let covering = c .before .before .before .before .before .covering in
     c .sample .ensures ∙ simp (covering .ensures, c .before .covering2 .ensures)
 
-next : (c : tie.After-capped Inv-loop μ-loop) → 
+next : (c : tie.After-capped Inv-loop μ-loop)
+    → let loop = c .before .before .before .before .before .before .loop in
     let start = c .before .before .before .before .before .before .before .before .before .before .before in
-    let loop = c .before .before .before .before .before .before .loop in
-    Writing (now (start .args .out)) (start .args .at) (cappedRow (now (start .args .plane)) (start .args .s) (start .args .top) (start .args .across) (start .args .k)) (loop .out) (loop .to) (sampleBytes (start .args .s .bytes) (c .capped .result) ++ span (λ j. sampleBytes (start .args .s .bytes) (min (sourceAt (now (start .args .plane)) (start .args .s) j (start .args .k)) (start .args .top))) (loop .i + 1) (start .args .across))
+    Writing (now (start .args .out)) (start .args .at)
+    (cappedRow (now (start .args .plane)) (start .args .s) (start .args .top) (start .args .across) (start .args .k)) (loop .out) (loop .to)
+    (sampleBytes (start .args .s .bytes) (c .capped .result)
+    ++ span
+    (λ j. sampleBytes (start .args .s .bytes) (min (sourceAt (now (start .args .plane)) (start .args .s) j (start .args .k)) (start .args .top)))
+    (loop .i + 1) (start .args .across))
 next c =
     let start = c .before .before .before .before .before .before .before .before .before .before .before in
     let loop = c .before .before .before .before .before .before .loop in
     let loop-test = c .before .before .before .before .before .loop-test in
     writing-as (loop .inv .1) (capped-next (now (start .args .plane)) (start .args .s) (start .args .top) (start .args .across) (loop .i) (start .args .k) (c .capped .result) (loop-test .taken) (c .capped .ensures ∙ ap (λ (v : ℕ). min v (start .args .top)) (sample-is (c .before .before))))
 
--- src/rows.rt:79:45
 add-covering : tie.Need-add-covering Inv-loop μ-loop
 add-covering c =
     let start = c .before .before .before in
     omega (arith, start .pre .3)
 
--- src/rows.rt:79:9
 covering-requires : tie.Need-covering-requires Inv-loop μ-loop
 covering-requires c κs = search needs
 
--- src/rows.rt:82:5
 loop-holds : tie.Need-loop-holds Inv-loop μ-loop
 unfolding cappedRow samplesOf
 loop-holds c =
     let start = c .before .before .before .before in
     (omega arith, writing-start _ _ _ (rw (length-samplesOf (start .args .s .bytes) _ (start .args .across) (start .pre .0) (start .pre .1)) (start .pre .4)))
 
--- src/rows.rt:83:54
 add-covering-2 : tie.Need-add-covering-2 Inv-loop μ-loop
 add-covering-2 c =
     let start = c .before .before .before .before .before .before .before in
     omega (arith, start .pre .2)
 
--- src/rows.rt:83:13
 covering-requires-2 : tie.Need-covering-requires-2 Inv-loop μ-loop
 covering-requires-2 c κs = search needs
 
--- src/rows.rt:84:13
 sample-requires : tie.Need-sample-requires Inv-loop μ-loop
 sample-requires c κs =
     let start = c .before .before .before .before .before .before .before .before in
@@ -80,25 +79,20 @@ sample-requires c κs =
     let loop = c .before .before .before .loop in
     (start .pre .0, start .pre .1, rw (covering .ensures, c .covering2 .ensures) (start .pre .5 (loop .i) (c .before .before .loop-test .taken)))
 
--- src/rows.rt:85:49
 capped-requires : tie.Need-capped-requires Inv-loop μ-loop
 capped-requires c κs = search needs
 
--- src/rows.rt:85:9
 put-sample-requires : tie.Need-put-sample-requires Inv-loop μ-loop
 put-sample-requires c κs =
     let start = c .before .before .before .before .before .before .before .before .before .before .before in
     (start .pre .0, start .pre .1, rw (← length-sampleBytes (start .args .s .bytes) (c .capped .result) (start .pre .0) (start .pre .1)) (writing-fits (sampleBytes (start .args .s .bytes) (c .capped .result)) _ (next c)))
 
--- src/rows.rt:86:9
 add-i : tie.Need-add-i Inv-loop μ-loop
 add-i c = search needs
 
--- src/rows.rt:82:5
 loop-less : tie.Need-loop-less Inv-loop μ-loop
 loop-less c = search needs
 
--- src/rows.rt:82:5
 loop-again : tie.Need-loop-again Inv-loop μ-loop
 loop-again c =
     let start = c .before .before .before .before .before .before .before .before .before .before .before .before .before .before in
@@ -107,11 +101,9 @@ loop-again c =
     let capped = c .before .before .before .capped in
     (omega arith, writing-run (sampleBytes (start .args .s .bytes) (capped .result)) (next at-capped) (c .before .before .put-sample .ensures .0 ∙ ap (λ (n : ℕ). loop .to + n) (sym (length-sampleBytes (start .args .s .bytes) (capped .result) (start .pre .0) (start .pre .1)))) (c .before .before .put-sample .ensures .1))
 
--- src/rows.rt:64:1
 same-length : tie.Need-same-length Inv-loop μ-loop
 same-length c = c .before .loop .inv .1 .long
 
--- src/rows.rt:64:1
 returns : tie.Need-returns Inv-loop μ-loop
 returns c =
     let start = c .before .before .before .before .before .before in

@@ -21,49 +21,40 @@ Inv-loop out₀ at stride across down bytes v k₀ out k = (k ≤ down) × (out 
 abbrev μ-loop : tie.MeasureT-loop
 μ-loop out₀ at stride across down bytes v k₀ out k = down - k
 
--- src/rows.rt:125:5
 loop-holds : tie.Need-loop-holds Inv-loop μ-loop
 unfolding storeRows
 loop-holds c = (omega arith, refl)
 
--- src/rows.rt:126:36
 mul-fill-row : tie.Need-mul-fill-row Inv-loop μ-loop
 mul-fill-row c =
     let start = c .before .before .before .before in
     let w = start .pre .2 (c .before .before .loop .k) (c .before .loop-test .taken) in omega arith
 
--- src/rows.rt:126:31
 add-fill-row : tie.Need-add-fill-row Inv-loop μ-loop
 add-fill-row c =
     let start = c .before .before .before .before in
     let w = start .pre .2 (c .before .before .loop .k) (c .before .loop-test .taken) in omega arith
 
--- src/rows.rt:126:9
 fill-row-requires : tie.Need-fill-row-requires Inv-loop μ-loop
 fill-row-requires c κs =
     let start = c .before .before .before .before in
     let w = start .pre .2 (c .before .before .loop .k) (c .before .loop-test .taken) in let l = ap length (c .before .before .loop .inv .1) ∙ length-storeRows _ _ _ _ _ in (start .pre .0, start .pre .1, omega arith)
 
--- src/rows.rt:127:9
 add-k : tie.Need-add-k Inv-loop μ-loop
 add-k c = search needs
 
--- src/rows.rt:125:5
 loop-less : tie.Need-loop-less Inv-loop μ-loop
 loop-less c = search needs
 
--- src/rows.rt:125:5
 loop-again : tie.Need-loop-again Inv-loop μ-loop
 loop-again c =
     let start = c .before .before .before .before .before .before .before in
     let loop = c .before .before .before .before .before .loop in
     (omega arith, c .before .before .fill-row .ensures .1 ∙ ap (λ (d : List ℕ). puts d (start .args .at + loop .k * start .args .stride) (samplesOf (start .args .bytes) (λ i. start .args .v) (start .args .across))) (loop .inv .1) ∙ rows-more (now (start .args .out)) (start .args .at) (start .args .stride) _ (loop .k))
 
--- src/rows.rt:112:1
 same-length : tie.Need-same-length Inv-loop μ-loop
 same-length c = ap length (c .before .loop .inv .1) ∙ length-storeRows _ _ _ _ _
 
--- src/rows.rt:112:1
 returns : tie.Need-returns Inv-loop μ-loop
 returns c =
     let start = c .before .before .before in

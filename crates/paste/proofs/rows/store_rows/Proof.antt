@@ -26,7 +26,7 @@ Inv-loop out₀ at stride across down plane s half bytes x k₀ out k = (k ≤ d
 abbrev μ-loop : tie.MeasureT-loop
 μ-loop out₀ at stride across down plane s half bytes x k₀ out k = down - k
 
-line : (c : tie.After-covering Inv-loop μ-loop) → 
+line : (c : tie.After-covering Inv-loop μ-loop) →
     let start = c .before .before .before .before .before .before .before in
     let shift = c .before .before .before .before .shift in
     let loop = c .before .before .before .loop in
@@ -35,26 +35,21 @@ line c =
     let shift = c .before .before .before .before .shift in
     simp (c .covering .ensures, shift .ensures)
 
--- src/rows.rt:35:9
 shift-requires : tie.Need-shift-requires Inv-loop μ-loop
 shift-requires c κs = search needs
 
--- src/rows.rt:39:5
 loop-holds : tie.Need-loop-holds Inv-loop μ-loop
 unfolding storeRows
 loop-holds c = (omega arith, refl)
 
--- src/rows.rt:41:51
 add-covering : tie.Need-add-covering Inv-loop μ-loop
 add-covering c =
     let start = c .before .before .before .before .before .before in
     omega (arith, start .pre .tall)
 
--- src/rows.rt:41:21
 covering-requires : tie.Need-covering-requires Inv-loop μ-loop
 covering-requires c κs = search needs
 
--- src/rows.rt:41:21
 mul-write-line : tie.Need-mul-write-line Inv-loop μ-loop
 mul-write-line c =
     let start = c .before .before .before .before .before .before .before .before in
@@ -62,7 +57,6 @@ mul-write-line c =
     let loop-test = c .before .before .before .loop-test in
     let f = start .pre .reads 0 (loop .k) (start .pre .any) (loop-test .taken) in let e = ap (λ (n : ℕ). n * start .args .s .stride) (c .before .covering .ensures) in omega arith
 
--- src/rows.rt:48:38
 mul-write-line-2 : tie.Need-mul-write-line-2 Inv-loop μ-loop
 mul-write-line-2 c =
     let start = c .before .before .before .before .before .before .before .before .before in
@@ -70,7 +64,6 @@ mul-write-line-2 c =
     let loop-test = c .before .before .before .before .loop-test in
     let w = start .pre .writes (loop .k) (loop-test .taken) in omega arith
 
--- src/rows.rt:48:33
 add-write-line : tie.Need-add-write-line Inv-loop μ-loop
 add-write-line c =
     let start = c .before .before .before .before .before .before .before .before .before in
@@ -78,7 +71,6 @@ add-write-line c =
     let loop-test = c .before .before .before .before .loop-test in
     let w = start .pre .writes (loop .k) (loop-test .taken) in omega arith
 
--- src/rows.rt:48:9
 write-line-requires : tie.Need-write-line-requires Inv-loop μ-loop
 write-line-requires c κs =
     let start = c .before .before .before .before .before .before .before .before .before in
@@ -86,27 +78,30 @@ write-line-requires c κs =
     let loop-test = c .before .before .before .before .loop-test in
     let w = start .pre .writes (loop .k) (loop-test .taken) in let l = ap length (loop .inv .1) ∙ length-storeRows _ _ _ _ _ in (rw (line (c .before .before)) (line-fits _ _ _ _ _ _ _ _ (start .pre) (loop-test .taken)), omega arith)
 
--- src/rows.rt:49:9
 add-k : tie.Need-add-k Inv-loop μ-loop
 add-k c = search needs
 
--- src/rows.rt:39:5
 loop-less : tie.Need-loop-less Inv-loop μ-loop
 loop-less c = search needs
 
--- src/rows.rt:39:5
 loop-again : tie.Need-loop-again Inv-loop μ-loop
 loop-again c =
-    let start = c .before .before .before .before .before .before .before .before .before .before .before .before in
-    let loop = c .before .before .before .before .before .before .before .before .loop in
-    let at-covering = c .before .before .before .before .before in
-    (omega arith, c .before .before .write-line .ensures .1 ∙ ap (λ (l : Line). puts (loop .out) (start .args .at + loop .k * start .args .stride) (lineBytes (now (start .args .plane)) (start .args .s .bytes) l (start .args .across))) (line at-covering) ∙ ap₂ (λ (d b : List ℕ). puts d (start .args .at + loop .k * start .args .stride) b) (loop .inv .1) (line-row (now (start .args .plane)) (start .args .s) (start .args .across) (loop .k)) ∙ rows-more (now (start .args .out)) (start .args .at) (start .args .stride) _ (loop .k))
+    let after-covering = c .before .before .before .before .before in
+    let loop = after-covering .before .before .before .loop in
+    let start = after-covering .before .before .before .before .before .before .before in (
+      omega arith,
+      c .before .before .write-line .ensures .1
+          ∙ ap (λ (l : Line). puts (loop .out) (start .args .at + loop .k * start .args .stride)
+          (lineBytes (now (start .args .plane)) (start .args .s .bytes) l (start .args .across)))
+          (line after-covering)
+          ∙ ap₂ (λ (d b : List ℕ). puts d (start .args .at + loop .k * start .args .stride) b) (loop .inv .1)
+          (line-row (now (start .args .plane)) (start .args .s) (start .args .across) (loop .k))
+          ∙ rows-more (now (start .args .out)) (start .args .at) (start .args .stride) _ (loop .k),
+    )
 
--- src/rows.rt:23:1
 same-length : tie.Need-same-length Inv-loop μ-loop
 same-length c = ap length (c .before .loop .inv .1) ∙ length-storeRows _ _ _ _ _
 
--- src/rows.rt:23:1
 returns : tie.Need-returns Inv-loop μ-loop
 returns c =
     let start = c .before .before .before .before .before in

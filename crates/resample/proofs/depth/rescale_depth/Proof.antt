@@ -25,37 +25,29 @@ taken c = sym (c .before .before .parse-record .ensures) ∙ ap frameOut (c .f .
 depth-is : (c : tie.After-is-depth) (b : Bool) → let start = c .before .before .before .before .before .before .before in not (c .is-depth .result) ≡ b → not (isDepth (start .args .depth)) ≡ b
 depth-is c b e = ap not (sym (c .is-depth .ensures)) ∙ e
 
--- src/depth.rt:45:11
 parse-record-requires : tie.Need-parse-record-requires
 parse-record-requires c κs = search needs
 
--- src/depth.rt:46:28
 enum-known-e : tie.Need-enum-known-e
 enum-known-e c = search needs
 
--- src/depth.rt:47:25
 enum-known-f : tie.Need-enum-known-f
 enum-known-f c = search needs
 
--- src/depth.rt:48:17
 is-depth-requires : tie.Need-is-depth-requires
 is-depth-requires c κs = search needs
 
--- src/depth.rt:49:17
 returns : tie.Need-returns
 returns c =
     let at-f = c .before .before .before in
     refused-answers _ _ _ (depth-outside _ _ (taken at-f) _ _ (depth-is (c .before) _ (c .if1 .taken)))
 
--- src/depth.rt:54:17
 hand-back-requires : tie.Need-hand-back-requires
 hand-back-requires c κs = search needs
 
--- src/depth.rt:54:17
 same-length : tie.Need-same-length
 same-length c = search needs
 
--- src/depth.rt:54:17
 returns-2 : tie.Need-returns-2
 returns-2 c =
     let at-f = c .before .before .before .before .before .before .before .before .before .before .before in
@@ -64,7 +56,6 @@ returns-2 c =
     let if2 = c .before .before .before .before .if2 in
     answers-as _ _ _ _ _ (depth-same _ _ (taken at-f) _ _ (depth-is at-is-depth _ (if1 .left)) (if2 .taken)) (c .before .before .hand-back .ensures)
 
--- src/depth.rt:69:13
 draw-requires : tie.Need-draw-requires
 unfolding toDepth
 draw-requires c κs =
@@ -75,18 +66,15 @@ draw-requires c κs =
     let if1 = c .before .before .before .before .before .if1 in
     let k = whole-sound _ _ (taken at-f) .0 in let d = depth-sound _ (depth-is at-is-depth _ (if1 .left)) in (k, depth-fits (f .given .0 .0 .form) (start .args .depth) (k .form) (d .0) (d .1))
 
--- src/depth.rt:41:1
 returns-3 : tie.Need-returns-3
 unfolding depthRun
 returns-3 c =
     let parse-record = c .before .before .before .parse-record in
     refused-answers _ _ _ (then-refused _ (sym (parse-record .ensures) ∙ ap frameOut (c .before .e .given .1)))
 
--- src/depth.rt:41:1
 same-length-2 : tie.Need-same-length-2
 same-length-2 c = search needs
 
--- src/depth.rt:41:1
 returns-4 : tie.Need-returns-4
 unfolding toDepth
 returns-4 c =

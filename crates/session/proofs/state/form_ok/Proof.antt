@@ -8,19 +8,15 @@ use Rattle.session.proofs.state.form_ok.Reads as reads
 use Rattle.session.proofs.state.form_ok.Lts as lts
 use Rattle.image.proofs.format.Form.judge.Reads as judge-reads
 
--- src/state.rt:66:11
 judge-requires : tie.Need-judge-requires
 judge-requires c κs = search needs
 
--- src/state.rt:67:30
 enum-told : tie.Need-enum-told
 enum-told c = search needs
 
--- src/state.rt:68:33
 enum-told-2 : tie.Need-enum-told-2
 enum-told-2 c = search needs
 
--- src/state.rt:62:1
 returns : tie.Need-returns
 unfolding formOk isDone
 returns c = simp (
@@ -28,7 +24,6 @@ returns c = simp (
   c .enum-told .given .1,
 )
 
--- src/state.rt:62:1
 returns-2 : tie.Need-returns-2
 unfolding formOk isDone
 returns-2 c = simp (

@@ -8,7 +8,6 @@ use Rattle.session.proofs.state.grid_ok.Reads as reads
 use Rattle.session.proofs.state.grid_ok.Lts as lts
 use Rattle.session.proofs.state.size_ok.Reads as size-ok-reads
 
--- src/state.rt:47:9
 returns : tie.Need-returns
 unfolding gridOk
 returns c = simp (
@@ -16,7 +15,6 @@ returns c = simp (
   lt-ltb _ _ (c .if1 .taken),
 )
 
--- src/state.rt:50:9
 returns-2 : tie.Need-returns-2
 unfolding gridOk
 returns-2 c = simp (
@@ -26,7 +24,6 @@ returns-2 c = simp (
   lt-ltb _ _ (c .if2 .taken),
 )
 
--- src/state.rt:53:9
 returns-3 : tie.Need-returns-3
 unfolding gridOk
 returns-3 c =
@@ -40,7 +37,6 @@ returns-3 c =
       lt-ltb _ _ (c .if3 .taken),
     )
 
--- src/state.rt:56:9
 returns-4 : tie.Need-returns-4
 unfolding gridOk
 returns-4 c =
@@ -57,11 +53,9 @@ returns-4 c =
       lt-ltb _ _ (c .if4 .taken),
     )
 
--- src/state.rt:58:5
 size-ok-requires : tie.Need-size-ok-requires
 size-ok-requires c κs = search needs
 
--- src/state.rt:43:1
 returns-5 : tie.Need-returns-5
 unfolding gridOk
 returns-5 c =

@@ -7,19 +7,15 @@ use Rattle.session.proofs.state.size_ok.Reads as reads
 use Rattle.session.proofs.state.size_ok.Lts as lts
 use Rattle.image.proofs.size.Size.judge.Reads as judge-reads
 
--- src/state.rt:36:11
 judge-requires : tie.Need-judge-requires
 judge-requires c κs = search needs
 
--- src/state.rt:37:32
 enum-told : tie.Need-enum-told
 enum-told c = search needs
 
--- src/state.rt:38:35
 enum-told-2 : tie.Need-enum-told-2
 enum-told-2 c = search needs
 
--- src/state.rt:33:1
 returns : tie.Need-returns
 unfolding isDone
 returns c = simp (
@@ -27,7 +23,6 @@ returns c = simp (
   c .enum-told .given .1,
 )
 
--- src/state.rt:33:1
 returns-2 : tie.Need-returns-2
 unfolding isDone
 returns-2 c = simp (

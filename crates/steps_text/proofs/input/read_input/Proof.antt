@@ -28,19 +28,15 @@ chain-of c =
     let read-number2 = c .before .before .before .before .read-number2 in
     steps-sides _ _ _ _ _ (sym (read-number .ensures) ∙ width .given .1) (sym (read-number2 .ensures) ∙ c .before .before .height .given .1)
 
--- src/input.rt:27:9
 read-number-requires : tie.Need-read-number-requires
 read-number-requires c κs = search needs
 
--- src/input.rt:25:16
 enum-known-width : tie.Need-enum-known-width
 enum-known-width c = search needs
 
--- laws: src/lib.rt:7:33
 enum-told : tie.Need-enum-told
 enum-told c = search needs
 
--- src/input.rt:29:9
 returns : tie.Need-returns
 unfolding ReadAs stepsOf onNumber
 returns c = simp (
@@ -48,19 +44,15 @@ returns c = simp (
   c .enum-told .given .1,
 )
 
--- src/input.rt:34:9
 read-number-requires-2 : tie.Need-read-number-requires-2
 read-number-requires-2 c κs = search needs
 
--- src/input.rt:32:16
 enum-known-height : tie.Need-enum-known-height
 enum-known-height c = search needs
 
--- laws: src/lib.rt:7:33
 enum-told-2 : tie.Need-enum-told-2
 enum-told-2 c = search needs
 
--- src/input.rt:36:9
 returns-2 : tie.Need-returns-2
 unfolding ReadAs stepsOf onNumber
 returns-2 c =
@@ -73,31 +65,24 @@ returns-2 c =
       c .enum-told2 .given .1,
     )
 
--- src/input.rt:38:11
 check-chain-requires : tie.Need-check-chain-requires
 check-chain-requires c κs = search needs
 
--- src/input.rt:39:28
 enum-known-e : tie.Need-enum-known-e
 enum-known-e c = search needs
 
--- src/input.rt:40:25
 enum-known-chain : tie.Need-enum-known-chain
 enum-known-chain c = search needs
 
--- src/input.rt:40:41
 judge-requires : tie.Need-judge-requires
 judge-requires c κs = search needs
 
--- src/input.rt:41:33
 enum-known-e-2 : tie.Need-enum-known-e-2
 enum-known-e-2 c = search needs
 
--- src/input.rt:42:30
 enum-known-size : tie.Need-enum-known-size
 enum-known-size c = search needs
 
--- src/input.rt:21:1
 returns-3 : tie.Need-returns-3
 unfolding ReadAs
 returns-3 c =
@@ -105,7 +90,6 @@ returns-3 c =
     let check-chain = c .before .before .before .check-chain in
     chain-of at-check-chain ∙ then-refused _ (judged-refused _ _ _ (sym (check-chain .ensures) ∙ ap chainOut (c .before .e .given .1)))
 
--- src/input.rt:21:1
 returns-4 : tie.Need-returns-4
 unfolding ReadAs
 returns-4 c =
@@ -115,7 +99,6 @@ returns-4 c =
     let judge = c .before .before .before .judge in
     let k = judged-chain _ _ _ (sym (check-chain .ensures) ∙ ap chainOut (chain .given .1)) in chain-of at-check-chain ∙ then-done _ (k .1) ∙ then-refused _ (sym (judge .ensures) ∙ ap sizeOut (c .before .e2 .given .1))
 
--- src/input.rt:21:1
 returns-5 : tie.Need-returns-5
 unfolding ReadAs
 returns-5 c =

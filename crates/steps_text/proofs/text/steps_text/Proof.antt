@@ -58,7 +58,11 @@ same-length : tie.Need-same-length
 same-length c = search needs
 
 returns-3 : tie.Need-returns-3
-returns-3 c = let t = text-refused _ _ (read-refused (c .before .before .before .before .before .before .before)) in text-answers _ _ _ (refusalText (c .before .before .before .before .before .before .before .e .given .0 .0)) _ t (omega (arith, c .before .before .before .before .if1 .left, c .before .before .before .before .before .refusal-length .ensures)) (omega (arith, c .before .before .put-refusal .ensures .0)) (c .before .before .put-refusal .ensures .1)
+returns-3 c =
+    let t = text-refused _ _ (read-refused (c .before .before .before .before .before .before .before)) in
+    text-answers _ _ _ (refusalText (c .before .before .before .before .before .before .before .e .given .0 .0)) _ t
+    (omega (arith, c .before .before .before .before .if1 .left, c .before .before .before .before .before .refusal-length .ensures))
+    (omega (arith, c .before .before .put-refusal .ensures .0)) (c .before .before .put-refusal .ensures .1)
 
 same-length-2 : tie.Need-same-length-2
 same-length-2 c = search needs

@@ -5,13 +5,11 @@ use Rattle.image.proofs.format.Form.has_size.Tie as tie
 use Rattle.image.proofs.format.Form.has_size.Reads as reads
 use Rattle.image.proofs.format.Form.has_size.Lts as lts
 
--- src/format.rt:283:13
 returns : tie.Need-returns
 unfolding hasSize
 returns c = simp (
     eq-eqb _ _ (c .before .if1 .taken))
 
--- src/format.rt:279:5
 returns-2 : tie.Need-returns-2
 unfolding hasSize
 returns-2 c = simp (

@@ -9,31 +9,24 @@ use Rattle.image.proofs.format.Form.judge.Lts as lts
 use Rattle.image.proofs.format.PixelFormat.new.Reads as new-reads
 use Rattle.image.proofs.size.Size.judge.Reads as judge-reads
 
--- src/format.rt:221:15
 new-requires : tie.Need-new-requires
 new-requires c κs = search needs
 
--- src/format.rt:222:33
 enum-known-e : tie.Need-enum-known-e
 enum-known-e c = search needs
 
--- src/format.rt:223:30
 enum-known-format : tie.Need-enum-known-format
 enum-known-format c = search needs
 
--- src/format.rt:223:47
 judge-requires : tie.Need-judge-requires
 judge-requires c κs = search needs
 
--- src/format.rt:224:37
 enum-known-e-2 : tie.Need-enum-known-e-2
 enum-known-e-2 c = search needs
 
--- src/format.rt:225:34
 enum-known-z : tie.Need-enum-known-z
 enum-known-z c = search needs
 
--- src/format.rt:218:5
 returns : tie.Need-returns
 unfolding formOf andThen
 returns c =
@@ -42,7 +35,6 @@ returns c =
       c .before .e .given .1,
     )
 
--- src/format.rt:218:5
 returns-2 : tie.Need-returns-2
 unfolding formOf andThen
 returns-2 c =
@@ -53,7 +45,6 @@ returns-2 c =
       c .before .e2 .given .1,
     )
 
--- src/format.rt:218:5
 returns-3 : tie.Need-returns-3
 unfolding formOf andThen
 returns-3 c =

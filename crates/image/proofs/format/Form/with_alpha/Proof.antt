@@ -5,7 +5,6 @@ use Rattle.image.proofs.format.Form.with_alpha.Tie as tie
 use Rattle.image.proofs.format.Form.with_alpha.Reads as reads
 use Rattle.image.proofs.format.Form.with_alpha.Lts as lts
 
--- src/format.rt:263:5
 returns : tie.Need-returns
 unfolding withAlpha
 returns c = refl

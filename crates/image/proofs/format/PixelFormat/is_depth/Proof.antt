@@ -5,12 +5,10 @@ use Rattle.image.proofs.format.PixelFormat.is_depth.Tie as tie
 use Rattle.image.proofs.format.PixelFormat.is_depth.Reads as reads
 use Rattle.image.proofs.format.PixelFormat.is_depth.Lts as lts
 
--- src/format.rt:78:13
 returns : tie.Need-returns
 unfolding isDepth
 returns c = simp (lt-leb _ _ (c .if1 .taken))
 
--- src/format.rt:74:5
 returns-2 : tie.Need-returns-2
 unfolding isDepth
 returns-2 c = simp (le-leb _ _ (c .if1 .left))

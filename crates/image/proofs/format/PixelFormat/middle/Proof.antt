@@ -6,11 +6,9 @@ use Rattle.image.proofs.format.PixelFormat.middle.Reads as reads
 use Rattle.image.proofs.format.PixelFormat.middle.Lts as lts
 use Rattle.image.proofs.format.PixelFormat.middle_at.Reads as middle-at-reads
 
--- src/format.rt:110:9
 middle-at-requires : tie.Need-middle-at-requires
 middle-at-requires c κs = search needs
 
--- src/format.rt:106:5
 returns : tie.Need-returns
 unfolding middleOf
 returns c = c .middle-at .ensures

@@ -10,7 +10,6 @@ use Rattle.image.proofs.format.PixelFormat.new.Reads as reads
 use Rattle.image.proofs.format.PixelFormat.new.Lts as lts
 use Rattle.image.proofs.format.PixelFormat.is_depth.Reads as is-depth-reads
 
--- src/format.rt:58:13
 returns : tie.Need-returns
 unfolding formatOf refuse
 returns c =
@@ -19,7 +18,6 @@ returns c =
       lt-ltb _ _ (c .if1 .taken),
     )
 
--- src/format.rt:61:13
 returns-2 : tie.Need-returns-2
 unfolding formatOf refuse
 returns-2 c =
@@ -30,16 +28,13 @@ returns-2 c =
       lt-ltb _ _ (c .if2 .taken),
     )
 
--- src/format.rt:63:13
 is-depth-requires : tie.Need-is-depth-requires
 is-depth-requires c κs = search needs
 
--- src/format.rt:64:13
 returns-3 : tie.Need-returns-3
 unfolding formatOf refuse
 returns-3 c = simp (le-ltb _ _ (c .before .before .before .if1 .left), le-ltb _ _ (c .before .before .if2 .left), ap not (sym (c .before .is-depth .ensures)) ∙ c .if3 .taken)
 
--- src/format.rt:54:5
 returns-4 : tie.Need-returns-4
 unfolding formatOf refuse
 returns-4 c = simp (le-ltb _ _ (c .before .before .before .if1 .left), le-ltb _ _ (c .before .before .if2 .left), ap not (sym (c .before .is-depth .ensures)) ∙ c .if3 .left)

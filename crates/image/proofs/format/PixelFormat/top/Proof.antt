@@ -6,11 +6,9 @@ use Rattle.image.proofs.format.PixelFormat.top.Reads as reads
 use Rattle.image.proofs.format.PixelFormat.top.Lts as lts
 use Rattle.image.proofs.format.PixelFormat.top_at.Reads as top-at-reads
 
--- src/format.rt:95:9
 top-at-requires : tie.Need-top-at-requires
 top-at-requires c κs = search needs
 
--- src/format.rt:91:5
 returns : tie.Need-returns
 unfolding topOf
 returns c = c .top-at .ensures

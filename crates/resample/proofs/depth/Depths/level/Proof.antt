@@ -32,60 +32,48 @@ high c =
     let start = c .before .before .before .before in
     omega (arith, c .top-at2 .ensures, top-high (start .args .self .new) (start .pre .newHigh))
 
--- src/depth.rt:28:13
 returns : tie.Need-returns
 unfolding levelOf pick
 returns c = simp (eq-eqb _ _ (c .if1 .taken))
 
--- src/depth.rt:30:19
 top-at-requires : tie.Need-top-at-requires
 top-at-requires c κs = search needs
 
--- src/depth.rt:30:19
 cast-old : tie.Need-cast-old
 cast-old c = search needs
 
--- src/depth.rt:31:19
 top-at-requires-2 : tie.Need-top-at-requires-2
 top-at-requires-2 c κs = search needs
 
--- src/depth.rt:31:19
 cast-new : tie.Need-cast-new
 cast-new c = search needs
 
--- src/depth.rt:32:22
 mul-level : tie.Need-mul-level
 mul-level c =
     let start = c .before .before .before .before in
     omega (arith, mul-below 65535 65535 (start .args .v) (c .top-at2 .result) (omega (arith, start .fits .v)) (omega (arith, high c)))
 
--- src/depth.rt:32:22
 add-level : tie.Need-add-level
 add-level c =
     let start = c .before .before .before .before in
     omega (arith, mul-below 65535 65535 (start .args .v) (c .top-at2 .result) (omega (arith, start .fits .v)) (omega (arith, high c)), c .before .top-at .ensures, top-high (start .args .self .old) (start .pre .oldHigh))
 
--- src/depth.rt:32:21
 div-level : tie.Need-div-level
 div-level c =
     let start = c .before .before .before .before in
     omega (arith, c .before .top-at .ensures, top-low (start .args .self .old) (start .pre .oldLow))
 
--- src/depth.rt:34:20
 cast-result : tie.Need-cast-result
 cast-result c = search needs
 
--- src/depth.rt:34:13
 returns-2 : tie.Need-returns-2
 returns-2 c =
     let if1 = c .before .before .before .if1 in
     c .before .top-at2 .ensures ∙ sym (level-other _ _ _ (if1 .left) ∙ min-right _ _ (lt-as (c .before .top-at2 .ensures) (worked (c .before)) (c .if2 .taken)))
 
--- src/depth.rt:36:9
 cast-result-2 : tie.Need-cast-result-2
 cast-result-2 c = search needs
 
--- src/depth.rt:23:5
 returns-3 : tie.Need-returns-3
 returns-3 c =
     let if1 = c .before .before .before .if1 in

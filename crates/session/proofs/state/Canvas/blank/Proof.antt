@@ -127,8 +127,8 @@ draw-blank-requires c κs =
     let to = tight-form _ _ (c .tight .ensures) in (
       to .1,
       rw (to .0, canvas-form .ensures, promotes .ensures)
-    (blank-suits _ _ _ (state-grid _ (sound else1)) (state-tile _ (sound else1) (tiled else2) .tile)
-    (fits-as (still (c .before .before .before .before)) (room else4))),
+          (blank-suits _ _ _ (state-grid _ (sound else1)) (state-tile _ (sound else1) (tiled else2) .tile)
+          (fits-as (still (c .before .before .before .before)) (room else4))),
     )
 
 drawn-requires : tie.Need-drawn-requires

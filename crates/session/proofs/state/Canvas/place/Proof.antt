@@ -192,8 +192,8 @@ draw-tile-requires c κs =
     let to = tight-form _ _ (c .tight .ensures) in (
       to .1,
       rw (to .0, canvas-form .ensures, promotes .ensures)
-    (place-suits _ _ _ _ _ (state-grid _ (sound else1)) (whole-sound _ _ (taken after-fr) .0) (held after-t)
-    (fits-as (still (c .before .before .before .before)) (room else3))),
+          (place-suits _ _ _ _ _ (state-grid _ (sound else1)) (whole-sound _ _ (taken after-fr) .0) (held after-t)
+          (fits-as (still (c .before .before .before .before)) (room else3))),
     )
 
 with-tile-requires : tie.Need-with-tile-requires
