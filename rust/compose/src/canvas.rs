@@ -21,8 +21,10 @@
 //! ```
 
 use crate::derived::GridDescriptor;
-use crate::image::{Chroma, HeifFrame};
+use crate::form::Form;
+use crate::image::HeifFrame;
 use crate::lend::buffer;
+use crate::plan::Asked;
 use crate::{Refusal, Result, sys};
 
 /// How many words a session's state has: the grid's four numbers, the first tile's five, whether a
@@ -57,15 +59,11 @@ impl GridCanvas {
         }
     }
 
-    /// The most bytes that a canvas of `tile`'s format takes with its reserved alpha plane: all of
-    /// its samples, and the record's numbers.
-    fn room(&self, tile: &HeifFrame) -> usize {
-        let planes = match tile.format.chroma {
-            Chroma::Mono => 2,
-            _ => 4,
-        };
-        let pixels = self.desc.output_width as usize * self.desc.output_height as usize;
-        pixels * planes * tile.format.bytes_per_sample() + 65
+    /// The room of the canvas when `tile` is the first: its record with the reserved alpha plane.
+    fn asked(&self, tile: &HeifFrame) -> Option<Asked> {
+        let format = tile.format.with_alpha();
+        let tile = Form::new(tile.width, tile.height, format)?;
+        tile.on_grid(&self.desc).map(Asked::from)
     }
 
     /// A tile in its cell, over what is there; one without alpha leaves the alpha there. Refusals:
@@ -80,7 +78,7 @@ impl GridCanvas {
             answer => return answer.map(drop),
         }
         // Only the first tile that is accepted finds too little room.
-        let mut buffer = buffer(self.room(t));
+        let mut buffer = buffer(self.asked(t).ok_or(Refusal::ROOM)?)?;
         let state = self.state.as_mut().map_err(|refusal| *refusal)?;
         sys::compose_canvas_place(state, index, &record, &mut buffer)?;
         self.buffer = buffer;

@@ -15,8 +15,10 @@
 use crate::derived::{GridDescriptor, OverlayDescriptor};
 use crate::image::HeifFrame;
 use crate::lend::written;
+use crate::plan::{self, Asked};
 use crate::props::Colr;
-use crate::{Refusal, Result, sys, tray};
+use crate::sys::Fresh;
+use crate::{Refusal, Result, tray};
 
 /// One input of an overlay.
 #[derive(Clone, Debug)]
@@ -47,7 +49,8 @@ fn tray_of<'a>(frames: impl Iterator<Item = &'a HeifFrame>) -> Result<Vec<u8>> {
 /// The record that a grid's body and a tray of tiles come to. Refusals: 5 a tray count that cannot
 /// be read; the body's; 11; the records'; 12; tile by tile 13 and 14.
 pub fn grid(body: &[u8], tray: &[u8]) -> Result<Vec<u8>> {
-    written(tray.len(), |out| sys::compose_grid(body, tray, out))
+    let asked = plan::grid(body, tray).map(Asked::from);
+    written(asked, |room| Fresh::compose_grid(body, tray, room))
 }
 
 /// The record that an overlay's body, a tray of inputs and one premultiplied byte an input come to.
@@ -59,8 +62,9 @@ pub fn overlay(
     colr: Option<&Colr>,
 ) -> Result<Vec<u8>> {
     let (colour, matrix, full_range) = Colr::words(colr);
-    written(tray.len(), |out| {
-        sys::compose_overlay(body, tray, premultiplied, colour, matrix, full_range, out)
+    let asked = plan::overlay(body, tray).map(Asked::from);
+    written(asked, |room| {
+        Fresh::compose_overlay(body, tray, premultiplied, colour, matrix, full_range, room)
     })
 }
 

@@ -4,8 +4,9 @@
 //! (document 01, "What is handed in"), which [`HeifFrame::to_record`] and
 //! [`HeifFrame::from_record`] write and read.
 
+use crate::form::Form;
 use crate::record::{self, RecordInfo};
-use crate::{Refusal, Result};
+use crate::{Refusal, Result, limits};
 
 /// Upper bound on the pixels of a frame.
 pub const MAX_FRAME_PIXELS: u64 = 1 << 30;
@@ -218,14 +219,14 @@ impl HeifFrame {
         self
     }
 
-    /// A frame with `value` in every sample. Refusals: 3 a side 0, 4 above 2^30 pixels.
+    /// A frame with `value` in every sample. Refusals: 3 a side 0, 4 above 2^30 pixels or a ceiling of
+    /// the caller's.
     pub fn filled(width: u32, height: u32, format: HeifPixelFormat, value: u16) -> Result<Self> {
         if width == 0 || height == 0 {
             return Err(Refusal::EMPTY);
         }
-        if u64::from(width) * u64::from(height) > MAX_FRAME_PIXELS {
-            return Err(Refusal::LIMIT);
-        }
+        let form = Form::new(width, height, format).ok_or(Refusal::LIMIT)?;
+        limits::judge(form.into())?;
         let sample = &value.to_le_bytes()[..format.bytes_per_sample()];
         let plane = |plane| {
             let (columns, rows) = format.plane_dims(plane, width, height);

@@ -1,46 +1,43 @@
-//! Lending an output to a call that writes bytes, and taking the words that one answers.
+//! Lending an output to a call that writes a picture, and taking the words that one answers.
 
-use crate::{Refusal, Result};
+use crate::plan::Asked;
+use crate::{Refusal, Result, limits};
 
-/// No record is longer: 2^30 pixels, four planes, two bytes a sample, and its numbers.
-const MOST: usize = (1 << 33) + 64;
-
-/// A buffer to lend, all zero: every one that a picture is written to is made here.
-pub(crate) fn buffer(length: usize) -> Vec<u8> {
-    vec![0; length]
-}
-
-/// What `call` writes to the output that it is lent: none at first, so that a refusal costs
-/// nothing; then `room` bytes, and twice as many while it says that they are too few.
-pub(crate) fn written(room: usize, call: impl Fn(&mut [u8]) -> Result<u64>) -> Result<Vec<u8>> {
-    up_to(MOST, room, call)
-}
-
-/// The same for a call that is lent an output and a spare of that length: the halves of one buffer.
-pub(crate) fn composed(
-    room: usize,
-    call: impl Fn(&mut [u8], &mut [u8]) -> Result<u64>,
+/// What `call` writes to an output that it is lent, of so many bytes as it is told: as many as it
+/// asks for. Where that is refused, or is above a ceiling of the caller's, it is told 0, so that
+/// nothing is allocated and its own refusals come first.
+///
+/// Every picture that a call makes passes here, but for a canvas, which asks [`buffer`].
+pub(crate) fn written(
+    asked: Option<Asked>,
+    call: impl Fn(usize) -> Result<Vec<u8>>,
 ) -> Result<Vec<u8>> {
-    up_to(2 * MOST, room.saturating_mul(2), |both| {
-        let (output, spare) = both.split_at_mut(both.len() / 2);
-        call(output, spare)
-    })
+    let Some(asked) = asked else { return call(0) };
+    match limits::judge(asked) {
+        Ok(()) => call(asked.bytes),
+        Err(above) => Err(call(0)
+            .err()
+            .filter(|refusal| *refusal != Refusal::ROOM)
+            .unwrap_or(above)),
+    }
 }
 
-fn up_to(most: usize, room: usize, call: impl Fn(&mut [u8]) -> Result<u64>) -> Result<Vec<u8>> {
-    let mut room = room.clamp(64, most);
-    let mut output = Vec::new();
-    loop {
-        match call(&mut output) {
-            Err(Refusal::ROOM) if output.len() < most => output = buffer(room.min(most)),
-            Err(refusal) => return Err(refusal),
-            Ok(length) => {
-                output.truncate(usize::try_from(length).expect("a length of the output"));
-                return Ok(output);
-            }
-        }
-        room *= 2;
-    }
+/// The same for a call that is lent an output and a spare of that length.
+pub(crate) fn composed(
+    asked: Option<Asked>,
+    call: impl Fn(usize) -> Result<Vec<u8>>,
+) -> Result<Vec<u8>> {
+    let both = asked.map(|asked| Asked {
+        bytes: 2 * asked.bytes,
+        ..asked
+    });
+    written(both, |room| call(room / 2))
+}
+
+/// A canvas, all zero. Refusal 4: above a ceiling of the caller's.
+pub(crate) fn buffer(asked: Asked) -> Result<Vec<u8>> {
+    limits::judge(asked)?;
+    Ok(vec![0; asked.bytes])
 }
 
 /// A word in its own type. The call's contract keeps it in range.
@@ -50,31 +47,98 @@ pub(crate) fn narrow<T: TryFrom<u64>>(word: u64) -> T {
 
 #[cfg(test)]
 mod tests {
-    use super::written;
-    use crate::Refusal;
-    use std::cell::Cell;
+    use super::{composed, written};
+    use crate::plan::Asked;
+    use crate::{Limits, Refusal};
+    use std::cell::RefCell;
 
-    #[test]
-    fn an_output_grows_until_the_call_takes_it() {
-        let lent = Cell::new(0);
-        let made = written(70, |output| {
-            lent.set(lent.get() + 1);
-            if output.len() < 200 {
-                return Err(Refusal::ROOM);
+    const ASKED: Asked = Asked {
+        pixels: 60,
+        bytes: 100,
+    };
+
+    /// A call that refuses, or is lent too little, or writes `abc`; and what it was lent.
+    fn call<'a>(
+        refuses: Option<Refusal>,
+        lent: &'a RefCell<Vec<usize>>,
+    ) -> impl Fn(usize) -> crate::Result<Vec<u8>> + 'a {
+        move |room| {
+            lent.borrow_mut().push(room);
+            match refuses {
+                Some(refusal) => Err(refusal),
+                None if room < ASKED.bytes => Err(Refusal::ROOM),
+                None => Ok(b"abc".to_vec()),
             }
-            output[..3].copy_from_slice(b"abc");
-            Ok(3)
-        });
-        assert_eq!(made.as_deref(), Ok(&b"abc"[..]));
-        assert_eq!(lent.get(), 4);
+        }
     }
 
     #[test]
-    fn a_refusal_is_handed_on_at_once() {
-        let refused = written(usize::MAX, |output| {
-            assert!(output.is_empty());
+    fn an_output_is_lent_once() {
+        let lent = RefCell::default();
+        assert_eq!(written(Some(ASKED), call(None, &lent)), Ok(b"abc".to_vec()));
+        assert_eq!(
+            composed(Some(ASKED), call(None, &lent)),
+            Ok(b"abc".to_vec())
+        );
+        assert_eq!(
+            written(None, call(Some(Refusal::OUTSIDE), &lent)),
             Err(Refusal::OUTSIDE)
+        );
+        assert_eq!(lent.take(), [100, 100, 0]);
+    }
+
+    #[test]
+    fn above_a_ceiling_nothing_is_lent() {
+        let lent = RefCell::default();
+        for (limits, pair, text) in [
+            (
+                Limits::new().with_max_pixels(59),
+                false,
+                "60 pixels, and at most 59 ",
+            ),
+            (
+                Limits::new().with_max_bytes(99),
+                false,
+                "100 bytes of memory, and at most 99 ",
+            ),
+            (
+                Limits::new().with_max_bytes(199),
+                true,
+                "200 bytes of memory, and at most 199 ",
+            ),
+        ] {
+            let lend = |refuses| match pair {
+                true => composed(Some(ASKED), call(refuses, &lent)),
+                false => written(Some(ASKED), call(refuses, &lent)),
+            };
+            let above = limits.within(|| lend(None)).unwrap_err();
+            assert!(above.to_string().contains(text), "{above}");
+            assert_eq!(above.number(), 4);
+            // What document 01 refuses comes first.
+            assert_eq!(
+                limits.within(|| lend(Some(Refusal::OPACITY))),
+                Err(Refusal::OPACITY)
+            );
+            assert_eq!(lent.take(), [0, 0]);
+            assert_eq!(lend(None), Ok(b"abc".to_vec()));
+            lent.take();
+        }
+    }
+
+    #[test]
+    fn ceilings_hold_inside_and_end() {
+        let (low, high) = (
+            Limits::new().with_max_pixels(5),
+            Limits::new().with_max_bytes(7),
+        );
+        low.within(|| {
+            high.within(|| assert_eq!(Limits::current(), low.with_max_bytes(7)));
+            assert_eq!(Limits::current(), low);
+            low.with_max_pixels(9)
+                .within(|| assert_eq!(Limits::current(), low));
         });
-        assert_eq!(refused, Err(Refusal::OUTSIDE));
+        let panicked = std::panic::catch_unwind(|| low.within(|| panic!("on purpose")));
+        assert!(panicked.is_err());
+        assert_eq!(Limits::current(), Limits::new());
     }
 }

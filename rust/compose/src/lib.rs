@@ -76,6 +76,11 @@
 //! # Ok::<(), compose::Refusal>(())
 //! ```
 //!
+//! # Ceilings
+//!
+//! A few bytes can ask for a picture of 2^30 pixels. [`Limits`] sets what a call may make; what asks
+//! for more is refused before anything is allocated.
+//!
 //! # What stays out
 //!
 //! A program that uses one of these changes more than its `use` lines. Where a call is there and
@@ -128,12 +133,15 @@ mod declared;
 pub mod derived;
 pub mod error;
 pub mod fill;
+mod form;
 #[cfg(test)]
 mod header;
 pub mod image;
 mod lend;
+pub mod limits;
 pub mod operation;
 mod outline;
+mod plan;
 pub mod props;
 pub mod record;
 mod refusal;
@@ -148,6 +156,7 @@ pub use composite::{OverlayInput, composite_grid, composite_overlay};
 pub use derived::{GridDescriptor, OverlayDescriptor};
 pub use fill::fill_to_ycbcr;
 pub use image::{Chroma, HeifFrame, HeifPixelFormat, Plane};
+pub use limits::Limits;
 pub use refusal::Refusal;
 pub use scene::{Point, Scene, Shows, point, scene};
 pub use transform::{

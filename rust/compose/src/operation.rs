@@ -15,38 +15,42 @@
 //! # Ok::<(), compose::Refusal>(())
 //! ```
 
+use crate::Result;
+use crate::form::Form;
 use crate::lend::written;
-use crate::props::{Clap, Iscl};
-use crate::record::inspect;
-use crate::{Result, sys};
+use crate::plan::{self, Asked};
+use crate::props::{Clap, CropRect, Iscl, Property};
+use crate::record::{RecordInfo, inspect};
+use crate::sys::Fresh;
 
-/// A record's own length and what its numbers may grow by: enough where nothing is promoted or
-/// scaled up.
-fn alike(record: &[u8]) -> usize {
-    record.len() + 64
-}
-
-/// The room that a smaller picture of the record's form takes.
-fn part(record: &[u8], width: u32, height: u32) -> Result<usize> {
-    Ok(inspect(record)?.room(width, height).min(alike(record)))
+/// A tight record of another form; of the same, the record is handed back as it is.
+fn other_than(info: &RecordInfo, record: &[u8], form: Option<Form>) -> Option<Asked> {
+    let form = form?;
+    match form == info.form() {
+        true => Some(Asked::same(info, record)),
+        false => Some(form.into()),
+    }
 }
 
 /// The part of a record in a rectangle. Refusals: the record's; 9 a rectangle outside.
 pub fn crop(record: &[u8], x: u32, y: u32, width: u32, height: u32) -> Result<Vec<u8>> {
-    written(part(record, width, height)?, |out| {
-        sys::compose_crop(record, x, y, width, height, out)
+    let to = CropRect {
+        x,
+        y,
+        width,
+        height,
+    };
+    let asked = inspect(record)?.form().cropped(to);
+    written(asked.map(Asked::from), |room| {
+        Fresh::compose_crop(record, x, y, width, height, room)
     })
 }
 
 /// A record cropped by a clap property. Refusals: the record's; 7, 8, 9, the width axis first.
 pub fn clap(record: &[u8], clap: &Clap) -> Result<Vec<u8>> {
-    let side = |n: u32, d: u32| n.checked_div(d).unwrap_or(0);
-    let (width, height) = (
-        side(clap.width_n, clap.width_d),
-        side(clap.height_n, clap.height_d),
-    );
-    written(part(record, width, height)?, |out| {
-        sys::compose_clap(
+    let asked = inspect(record)?.form().after(&Property::Clap(*clap));
+    written(asked.map(Asked::from), |room| {
+        Fresh::compose_clap(
             record,
             clap.width_n,
             clap.width_d,
@@ -56,19 +60,25 @@ pub fn clap(record: &[u8], clap: &Clap) -> Result<Vec<u8>> {
             clap.horiz_off_d,
             clap.vert_off_n.cast_unsigned(),
             clap.vert_off_d,
-            out,
+            room,
         )
     })
 }
 
 /// A record turned by angle mod 4 quarter turns anticlockwise. Refusals: the record's.
 pub fn irot(record: &[u8], angle: u8) -> Result<Vec<u8>> {
-    written(alike(record), |out| sys::compose_irot(record, angle, out))
+    let info = inspect(record)?;
+    let asked = match angle % 4 {
+        0 => Asked::same(&info, record),
+        _ => info.form().turned(angle).into(),
+    };
+    written(Some(asked), |room| Fresh::compose_irot(record, angle, room))
 }
 
 /// A record mirrored: axis mod 2, 0 top and bottom, 1 left and right. Refusals: the record's.
 pub fn imir(record: &[u8], axis: u8) -> Result<Vec<u8>> {
-    written(alike(record), |out| sys::compose_imir(record, axis, out))
+    let asked = inspect(record)?.form().into();
+    written(Some(asked), |room| Fresh::compose_imir(record, axis, room))
 }
 
 /// A record scaled by an iscl property; an unchanged size is the record. Refusals: the record's; 7,
@@ -84,14 +94,16 @@ pub fn imir(record: &[u8], axis: u8) -> Result<Vec<u8>> {
 /// # Ok::<(), compose::Refusal>(())
 /// ```
 pub fn iscl(record: &[u8], iscl: &Iscl) -> Result<Vec<u8>> {
-    written(alike(record), |out| {
-        sys::compose_iscl(
+    let info = inspect(record)?;
+    let asked = other_than(&info, record, info.form().after(&Property::Iscl(*iscl)));
+    written(asked, |room| {
+        Fresh::compose_iscl(
             record,
             iscl.width_num,
             iscl.width_den,
             iscl.height_num,
             iscl.height_den,
-            out,
+            room,
         )
     })
 }
@@ -99,9 +111,10 @@ pub fn iscl(record: &[u8], iscl: &Iscl) -> Result<Vec<u8>> {
 /// A record at another size, by nearest samples; an unchanged size is the record. Refusals: the
 /// record's; 3, 4.
 pub fn resize_nearest(record: &[u8], width: u32, height: u32) -> Result<Vec<u8>> {
-    let room = inspect(record)?.room(width, height).max(alike(record));
-    written(room, |out| {
-        sys::compose_resize_nearest(record, width, height, out)
+    let info = inspect(record)?;
+    let asked = other_than(&info, record, info.form().sized(width, height));
+    written(asked, |room| {
+        Fresh::compose_resize_nearest(record, width, height, room)
     })
 }
 
@@ -116,8 +129,10 @@ pub fn resize_nearest(record: &[u8], width: u32, height: u32) -> Result<Vec<u8>>
 /// # Ok::<(), compose::Refusal>(())
 /// ```
 pub fn rescale_depth(record: &[u8], depth: u32) -> Result<Vec<u8>> {
-    written(2 * alike(record), |out| {
-        sys::compose_rescale_depth(record, depth, out)
+    let info = inspect(record)?;
+    let asked = other_than(&info, record, info.form().at_depth(depth));
+    written(asked, |room| {
+        Fresh::compose_rescale_depth(record, depth, room)
     })
 }
 
@@ -134,7 +149,8 @@ pub fn rescale_depth(record: &[u8], depth: u32) -> Result<Vec<u8>> {
 /// # Ok::<(), compose::Refusal>(())
 /// ```
 pub fn attach_alpha(master: &[u8], alpha: &[u8]) -> Result<Vec<u8>> {
-    written(alike(master) + alike(alpha), |out| {
-        sys::compose_attach_alpha(master, alpha, out)
+    let asked = plan::attached(&inspect(master)?, &inspect(alpha)?);
+    written(Some(asked), |room| {
+        Fresh::compose_attach_alpha(master, alpha, room)
     })
 }

@@ -61,24 +61,10 @@ impl RecordInfo {
         // Each has a row of a byte at least.
         self.planes.into_iter().filter(|plane| plane.len > 0)
     }
-
-    /// Room for a tight record of the same layout at another size.
-    pub(crate) fn room(&self, width: u32, height: u32) -> usize {
-        let format = self.format();
-        let planes = (0..format.plane_count()).map(|plane| {
-            let (columns, rows) = format.plane_dims(plane, width, height);
-            let samples = columns as usize * rows as usize;
-            samples.saturating_mul(format.bytes_per_sample())
-        });
-        planes.fold(LONGEST_NUMBERS, usize::saturating_add)
-    }
 }
 
 /// The most bytes that a house number has.
 pub(crate) const LONGEST_NUMBER: usize = 5;
-
-/// The most bytes of a record's numbers: five of the header, two a plane.
-const LONGEST_NUMBERS: usize = LONGEST_NUMBER * (5 + 2 * 4);
 
 /// Appends a house number: groups of seven bits, the lowest first, the top bit set on all but the
 /// last.
@@ -89,6 +75,12 @@ pub(crate) fn push_number(bytes: &mut Vec<u8>, number: u32) {
         rest >>= 7;
     }
     bytes.push(rest as u8);
+}
+
+/// The bytes of a house number.
+pub(crate) fn number_size(number: u32) -> usize {
+    let bits = 32 - number.leading_zeros();
+    bits.div_ceil(7).max(1) as usize
 }
 
 /// Takes a house number off the front; none where there is none whole.

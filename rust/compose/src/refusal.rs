@@ -1,5 +1,6 @@
 //! Why a call refuses (document 01, "Refusals in order").
 
+use crate::limits::Excess;
 use std::error::Error;
 use std::fmt;
 
@@ -7,6 +8,8 @@ use std::fmt;
 #[derive(Clone, Copy, Debug, PartialEq, Eq, Hash)]
 pub struct Refusal {
     number: u8,
+    /// Where the limit is the caller's own.
+    excess: Option<Excess>,
 }
 
 /// The refusals by number: the constant, its name in words, and what it means.
@@ -15,7 +18,7 @@ macro_rules! refusals {
         impl Refusal {
             $(
                 #[doc = concat!($number, ": ", $meaning, ".")]
-                pub const $constant: Self = Self { number: $number };
+                pub const $constant: Self = Self { number: $number, excess: None };
             )*
 
             /// Every refusal, by number.
@@ -62,6 +65,20 @@ impl Refusal {
             .find(|refusal| u64::from(refusal.number) == number)
     }
 
+    /// Above a ceiling that the caller set.
+    pub(crate) fn above(excess: Excess) -> Self {
+        Self {
+            excess: Some(excess),
+            ..Self::LIMIT
+        }
+    }
+
+    /// What was asked for above a ceiling that the caller set ([`Limits`](crate::Limits)), if that
+    /// is why; the number is [`Refusal::LIMIT`]'s then.
+    pub fn excess(self) -> Option<Excess> {
+        self.excess
+    }
+
     /// Document 01's number.
     pub fn number(self) -> u8 {
         self.number
@@ -81,7 +98,11 @@ impl Refusal {
 impl fmt::Display for Refusal {
     fn fmt(&self, f: &mut fmt::Formatter<'_>) -> fmt::Result {
         let (name, meaning) = self.words();
-        write!(f, "refused {} ({name}): {meaning}", self.number)
+        write!(f, "refused {} ({name}): ", self.number)?;
+        match self.excess {
+            Some(excess) => excess.fmt(f),
+            None => f.write_str(meaning),
+        }
     }
 }
 

@@ -45,7 +45,8 @@
 
 use crate::lend::composed;
 use crate::props::{Colr, CropRect};
-use crate::{Result, sys};
+use crate::sys::Fresh;
+use crate::{Result, plan, sys};
 
 /// What a scene is made of, as bytes.
 #[derive(Clone, Copy, Debug)]
@@ -116,11 +117,11 @@ pub fn scene(scene: &Scene) -> Result<Vec<u8>> {
         body, tray, chain, ..
     } = *scene;
     let essential_only = u8::from(scene.essential_only);
-    composed(tray.len(), |output, spare| match &scene.marks {
-        None => sys::compose_grid_scene(body, tray, chain, essential_only, output, spare),
+    composed(plan::scene(scene), |room| match &scene.marks {
+        None => Fresh::compose_grid_scene(body, tray, chain, essential_only, room),
         Some(marks) => {
             let (colour, matrix, full_range) = Colr::words(marks.colr);
-            sys::compose_overlay_scene(
+            Fresh::compose_overlay_scene(
                 body,
                 tray,
                 chain,
@@ -129,8 +130,7 @@ pub fn scene(scene: &Scene) -> Result<Vec<u8>> {
                 colour,
                 matrix,
                 full_range,
-                output,
-                spare,
+                room,
             )
         }
     })

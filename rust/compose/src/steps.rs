@@ -1,8 +1,11 @@
 //! The sizes along a chain as text (document 01, "Steps program").
 
-use crate::lend::written;
+use crate::Refusal;
 use crate::record::push_number;
-use crate::{Refusal, sys};
+use crate::sys::Fresh;
+
+/// No text is longer (`text-fits` of the crate `steps_text`).
+const LONGEST: usize = 16_384;
 
 /// The text that the program `steps` prints for `input`, which is a width, a height and a chain:
 /// a heading, then for each entry its index, its kind and the size after it. A refused entry has
@@ -14,7 +17,7 @@ use crate::{Refusal, sys};
 /// assert_eq!(compose::steps::text(&[6, 4]), "refused 5\n");
 /// ```
 pub fn text(input: &[u8]) -> String {
-    let text = written(1 << 10, |out| sys::compose_steps(input, out));
+    let text = Fresh::compose_steps(input, LONGEST);
     let text = text.expect("an output that is long enough is the only thing it asks for");
     String::from_utf8(text).expect("the text is ASCII")
 }

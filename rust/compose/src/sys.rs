@@ -38,6 +38,24 @@ macro_rules! safe {
             $($rest)*
         }
     };
+    // The last of a function that writes a record or a text: into a buffer of its own, too.
+    ($head:tt ($($here:tt)*) ($($in_c:tt)*) ($($passes:tt)*) out: &mut [u8], $(,)?) => {
+        fresh! { $head ($($here)*) ($($in_c)*) ($($passes)*) }
+        safe! { $head
+            ($($here)* out: &mut [u8],)
+            ($($in_c)* out: *mut u8, _: usize,)
+            ($($passes)* out.as_mut_ptr(), out.len(),)
+        }
+    };
+    ($head:tt ($($here:tt)*) ($($in_c:tt)*) ($($passes:tt)*)
+        output: &mut [u8], spare: &mut [u8], $(,)?) => {
+        fresh_pair! { $head ($($here)*) ($($in_c)*) ($($passes)*) }
+        safe! { $head
+            ($($here)* output: &mut [u8], spare: &mut [u8],)
+            ($($in_c)* output: *mut u8, _: usize, spare: *mut u8, _: usize,)
+            ($($passes)* output.as_mut_ptr(), output.len(), spare.as_mut_ptr(), spare.len(),)
+        }
+    };
     ($head:tt ($($here:tt)*) ($($in_c:tt)*) ($($passes:tt)*)
         $part:ident: &mut [$item:ty], $($rest:tt)*) => {
         safe! { $head
@@ -67,6 +85,62 @@ macro_rules! safe {
             // are one slice's, borrowed until the call ends, and the proved code keeps inside them
             // whatever they hold.
             answer(unsafe { $name($($passes)*) })
+        }
+    };
+}
+
+/// Functions that write into a buffer of their own, of so many bytes as they are told; with none, the
+/// answer is the refusal. The buffer holds nothing before: no answer depends on what it holds.
+pub(crate) struct Fresh;
+
+impl Fresh {
+    /// What a function wrote to a buffer, by its word.
+    fn written(mut buffer: Vec<u8>, word: u64) -> Result<Vec<u8>> {
+        let length = answer(word)? as usize;
+        assert!(length <= buffer.capacity(), "a length of the buffer");
+        // SAFETY: the caller is one of the functions below: where the library answers a length, its
+        // contract has that many bytes written, from the start of the buffer on.
+        unsafe { buffer.set_len(length) };
+        Ok(buffer)
+    }
+}
+
+/// One function whose last part is an output.
+macro_rules! fresh {
+    (($(#[$about:meta])* $name:ident) ($($here:tt)*) ($($in_c:tt)*) ($($passes:tt)*)) => {
+        impl Fresh {
+            $(#[$about])*
+            #[inline]
+            pub fn $name($($here)* room: usize) -> $crate::Result<Vec<u8>> {
+                unsafe extern "C" {
+                    fn $name($($in_c)* out: *mut u8, _: usize) -> u64;
+                }
+                let mut out = Vec::with_capacity(room);
+                // SAFETY: as in `safe`; the output is the vector's own memory.
+                let word = unsafe { $name($($passes)* out.as_mut_ptr(), room) };
+                Self::written(out, word)
+            }
+        }
+    };
+}
+
+/// The same where an output and a spare of its length are the last.
+macro_rules! fresh_pair {
+    (($(#[$about:meta])* $name:ident) ($($here:tt)*) ($($in_c:tt)*) ($($passes:tt)*)) => {
+        impl Fresh {
+            $(#[$about])*
+            #[inline]
+            pub fn $name($($here)* room: usize) -> $crate::Result<Vec<u8>> {
+                unsafe extern "C" {
+                    fn $name($($in_c)* output: *mut u8, _: usize, spare: *mut u8, _: usize) -> u64;
+                }
+                let (mut output, mut spare) = (Vec::with_capacity(room), Vec::<u8>::with_capacity(room));
+                // SAFETY: as in `safe`; output and spare are the vectors' own memory.
+                let word = unsafe {
+                    $name($($passes)* output.as_mut_ptr(), room, spare.as_mut_ptr(), room)
+                };
+                Self::written(output, word)
+            }
         }
     };
 }

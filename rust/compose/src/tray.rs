@@ -8,6 +8,8 @@
 //! # Ok::<(), compose::Refusal>(())
 //! ```
 
+use crate::form::Form;
+use crate::image::{Chroma, HeifPixelFormat};
 use crate::outline::Outline;
 use crate::record::{push_number, read_number};
 use crate::{Refusal, Result, sys};
@@ -72,18 +74,38 @@ pub fn outline(file: &mut (impl Read + Seek)) -> io::Result<Vec<u8>> {
 /// The record at the front, taken off. It is not judged here: the tray was.
 fn first_record<'a>(rest: &mut &'a [u8]) -> Option<&'a [u8]> {
     let whole = *rest;
+    first_header(rest)?;
+    Some(&whole[..whole.len() - rest.len()])
+}
+
+/// The numbers in front of the first record's planes; the record is taken off.
+fn first_header(rest: &mut &[u8]) -> Option<[u32; 5]> {
     let mut header = [0; 5];
     for number in &mut header {
         *number = read_number(rest)?;
     }
     let [_, _, chroma, _, alpha] = header;
     let colour_planes = if chroma == 0 { 1 } else { 3 };
-    for _ in 0..colour_planes + alpha {
+    // More planes than these no record has.
+    for _ in 0..colour_planes + alpha.min(1) {
         read_number(rest)?;
         let length = read_number(rest)?;
         *rest = rest.get(length as usize..)?;
     }
-    Some(&whole[..whole.len() - rest.len()])
+    Some(header)
+}
+
+/// The forms of the records that `tray` says it has, none of one that is no record's; none at all
+/// where it has no count. Their planes are not judged.
+pub(crate) fn forms(tray: &[u8]) -> Option<impl Iterator<Item = Option<Form>>> {
+    let mut rest = tray;
+    let count = read_number(&mut rest)?;
+    Some((0..count).map(move |_| {
+        let [width, height, chroma, depth, alpha] = first_header(&mut rest)?;
+        let chroma = Chroma::from_idc(u8::try_from(chroma).ok()?)?;
+        let format = HeifPixelFormat::new(chroma, u8::try_from(depth).ok()?, alpha == 1);
+        Form::new(width, height, format.ok()?)
+    }))
 }
 
 /// The tray of `records`. Refusals: *Record*'s of each in turn.

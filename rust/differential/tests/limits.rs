@@ -1,0 +1,246 @@
+//! Ceilings that a caller sets, and with them the room that the crate works out before it lends it: as
+//! many bytes as the call then writes.
+
+use compose::limits::{Ceiling, Excess, Limits};
+use compose::props::{Clap, Colr, Iscl};
+use compose::{
+    GridCanvas, HeifFrame, HeifPixelFormat, Refusal, Scene, composite, operation, record, scene,
+    sys,
+};
+use differential::generate;
+use differential::rng::Rng;
+use differential::shaped::{grid_descriptor, heif};
+use model::{Frame, SceneParts, chain_bytes, tray_bytes};
+
+/// Nothing may be made.
+const NOTHING: Limits = Limits::new().with_max_pixels(0).with_max_bytes(0);
+
+fn excess(what: Ceiling, asked: u64, most: u64) -> Option<Excess> {
+    Some(Excess { what, asked, most })
+}
+
+/// How many pixels a record has.
+fn pixels(bytes: &[u8]) -> u64 {
+    let info = record::inspect(bytes).expect("a record");
+    u64::from(info.width) * u64::from(info.height)
+}
+
+/// A call asks for the bytes that it writes, and no more; what is refused is refused as ever.
+fn hold(what: &str, call: impl Fn() -> compose::Result<Vec<u8>>) {
+    let made = match call() {
+        Ok(made) => made,
+        Err(refusal) => {
+            assert_eq!(NOTHING.within(&call), Err(refusal), "{what}");
+            return;
+        }
+    };
+    let (pixels, bytes) = (pixels(&made), made.len() as u64);
+    let just = Limits::new().with_max_pixels(pixels).with_max_bytes(bytes);
+    assert_eq!(just.within(&call), Ok(made), "{what}");
+    let above = |limits: Limits| limits.within(&call).expect_err(what).excess();
+    let few = just.with_max_pixels(pixels - 1);
+    assert_eq!(
+        above(few),
+        excess(Ceiling::Pixels, pixels, pixels - 1),
+        "{what}"
+    );
+    let few = just.with_max_bytes(bytes - 1);
+    assert_eq!(
+        above(few),
+        excess(Ceiling::Bytes, bytes, bytes - 1),
+        "{what}"
+    );
+}
+
+fn clap(clap: model::Clap) -> Clap {
+    Clap::new(
+        clap.width_n,
+        clap.width_d,
+        clap.height_n,
+        clap.height_d,
+        clap.horizontal_n,
+        clap.horizontal_d,
+        clap.vertical_n,
+        clap.vertical_d,
+    )
+}
+
+#[test]
+fn operations_ask_for_what_they_write() {
+    let mut rng = Rng::new(31);
+    for _ in 0..1_500 {
+        let frame = generate::frame(&mut rng);
+        let (size, record) = ((frame.width, frame.height), frame.record());
+        let (across, down) = (
+            generate::span(&mut rng, size.0),
+            generate::span(&mut rng, size.1),
+        );
+        hold("crop", || {
+            operation::crop(&record, across.0, down.0, across.1, down.1)
+        });
+        let aperture = clap(generate::clap(&mut rng, size));
+        hold("clap", || operation::clap(&record, &aperture));
+        let angle = generate::turn(&mut rng, 3);
+        hold("irot", || operation::irot(&record, angle));
+        let axis = generate::turn(&mut rng, 1);
+        hold("imir", || operation::imir(&record, axis));
+        let [a, b, c, d] = generate::iscl(&mut rng).fields();
+        hold("iscl", || operation::iscl(&record, &Iscl::new(a, b, c, d)));
+        let to = (rng.number(0..=9), rng.number(0..=9));
+        hold("nearest", || operation::resize_nearest(&record, to.0, to.1));
+        hold("nearest", || {
+            operation::resize_nearest(&record, size.0, size.1)
+        });
+        let depth = rng.number(7..=17);
+        hold("depth", || operation::rescale_depth(&record, depth));
+        let alike = generate::Form {
+            depth: frame.depth,
+            ..generate::form(&mut rng)
+        };
+        let alpha = match rng.flag() {
+            true => generate::frame(&mut rng),
+            false => generate::frame_of(&mut rng, size, alike, false),
+        };
+        hold("attach", || {
+            operation::attach_alpha(&record, &alpha.record())
+        });
+    }
+}
+
+/// What a scene asks for, without its chain and with it.
+fn hold_scene(scene_of: &Scene, room: Result<usize, u8>) {
+    let call = || scene(scene_of);
+    let refusal = NOTHING.within(call).expect_err("nothing is made");
+    let room = match room {
+        Ok(room) => room as u64,
+        Err(number) => {
+            assert_eq!((refusal.number(), refusal.excess()), (number, None));
+            return;
+        }
+    };
+    // An output and a spare.
+    let bytes = Limits::new().with_max_bytes(0).within(call).unwrap_err();
+    assert_eq!(bytes.excess(), excess(Ceiling::Bytes, 2 * room, 0));
+    let just = Limits::new().with_max_bytes(2 * room);
+    assert_eq!(just.within(call), call());
+    assert!(call().is_ok());
+}
+
+#[test]
+fn grids_ask_for_what_they_write() {
+    let mut rng = Rng::new(32);
+    for _ in 0..1_000 {
+        let (grid, tiles) = generate::grid_scene(&mut rng);
+        let (body, tray) = (generate::grid_body(&grid, rng.flag()), tray_bytes(&tiles));
+        hold("grid", || composite::grid(&body, &tray));
+        let chain = generate::chain(&mut rng, (grid.width, grid.height));
+        let chain = chain_bytes(&chain);
+        let essential_only = rng.flag();
+        let parts = SceneParts {
+            body: &body,
+            tray: &tray,
+            chain: &chain,
+            essential_only,
+        };
+        let want = model::grid_scene(&parts);
+        let made = Scene::grid(&body, &tray, &chain).with_essential_only(essential_only);
+        hold_scene(&made, want.map(|scene| scene.room));
+    }
+}
+
+#[test]
+fn overlays_ask_for_what_they_write() {
+    let mut rng = Rng::new(33);
+    for _ in 0..300 {
+        let (overlay, inputs) = generate::overlay_scene(&mut rng);
+        let frames: Vec<Frame> = inputs.iter().map(|input| input.frame.clone()).collect();
+        let list: Vec<u8> = inputs.iter().map(|one| one.premultiplied.into()).collect();
+        let body = generate::overlay_body(&overlay, true);
+        let tray = tray_bytes(&frames);
+        hold("overlay", || {
+            composite::overlay(&body, &tray, &list, Some(&Colr::MIAF_DEFAULT))
+        });
+        let chain = generate::chain(&mut rng, (overlay.width, overlay.height));
+        let chain = chain_bytes(&chain);
+        let parts = SceneParts {
+            body: &body,
+            tray: &tray,
+            chain: &chain,
+            essential_only: false,
+        };
+        let marks = model::Marks {
+            premultiplied: &list,
+            colour: None,
+        };
+        let want = model::overlay_scene(&parts, &marks);
+        let made = Scene::overlay(&body, &tray, &chain, &list, None);
+        hold_scene(&made, want.map(|scene| scene.room));
+    }
+}
+
+/// The largest picture counts, also where a later entry makes it small again.
+#[test]
+fn pictures_between_two_entries_count() {
+    let body = [0, 0, 0, 0, 0, 2, 0, 2];
+    let tray = [1, 2, 2, 0, 8, 0, 2, 4, 1, 2, 3, 4];
+    // Four times as wide and high, then a quarter of that.
+    let chain = [2, 4, 0, 4, 1, 4, 1, 4, 0, 1, 4, 1, 4];
+    let call = || scene(&Scene::grid(&body, &tray, &chain));
+    assert_eq!(call(), Ok(tray[1..].to_vec()));
+    let above = Limits::new().with_max_pixels(63).within(call);
+    let above = above.unwrap_err().excess();
+    assert_eq!(above, excess(Ceiling::Pixels, 64, 63));
+    assert!(Limits::new().with_max_pixels(64).within(call).is_ok());
+}
+
+/// The first tile that is accepted asks for the canvas with its reserved alpha plane.
+#[test]
+fn a_canvas_asks_for_what_it_takes() {
+    let mut rng = Rng::new(34);
+    for _ in 0..500 {
+        let (grid, tiles) = generate::grid_scene(&mut rng);
+        let (desc, tile) = (grid_descriptor(&grid), heif(&tiles[0]));
+        let place = |limits: Limits| {
+            let mut canvas = GridCanvas::new(&desc);
+            limits.within(|| canvas.place(0, &tile))
+        };
+        if let Err(refusal) = place(Limits::new()) {
+            assert_eq!(place(NOTHING), Err(refusal));
+            continue;
+        }
+        let all = u64::from(grid.width) * u64::from(grid.height);
+        let above = place(NOTHING.with_max_bytes(u64::MAX)).unwrap_err();
+        assert_eq!(above.excess(), excess(Ceiling::Pixels, all, 0));
+        let above = place(NOTHING.with_max_pixels(all)).unwrap_err().excess();
+        let room = above.expect("a ceiling of bytes").asked;
+        assert_eq!(place(Limits::new().with_max_bytes(room)), Ok(()));
+
+        // No byte less would do.
+        let mut state = [0; compose::canvas::STATE_WORDS];
+        sys::compose_canvas_start(&desc.to_bytes(), &mut state).expect("a canvas");
+        let record = tiles[0].record();
+        let mut lent = |room: u64| {
+            sys::compose_canvas_place(&mut state, 0, &record, &mut vec![0; room as usize])
+        };
+        assert_eq!((lent(room - 1), lent(room)), (Err(Refusal::ROOM), Ok(0)));
+    }
+}
+
+/// A frame that the crate makes by itself, and one that a call makes.
+#[test]
+fn frames_keep_to_ceilings() {
+    let format = HeifPixelFormat::new(compose::Chroma::Yuv420, 8, false).expect("a depth");
+    let limits = Limits::new().with_max_pixels(24);
+    let above = limits
+        .within(|| HeifFrame::zeroed(5, 5, format))
+        .unwrap_err();
+    assert_eq!(above.excess(), excess(Ceiling::Pixels, 25, 24));
+    let frame = limits
+        .within(|| HeifFrame::zeroed(6, 4, format))
+        .expect("a frame");
+    let twice = || compose::resize_nearest(&frame, 12, 4);
+    let above = limits.within(twice).unwrap_err();
+    assert_eq!(above.excess(), excess(Ceiling::Pixels, 48, 24));
+    assert_eq!((above.number(), above.name()), (4, "limit"));
+    assert!(twice().is_ok());
+}
