@@ -4,7 +4,10 @@ use super::Command;
 use super::Failure;
 use super::colour::Description;
 use super::files::{counted, read, say};
-use super::options::{ESSENTIAL, FORCE, FORMAT, MATRIX, OUT, Opt, PICTURE, PREMULTIPLIED, STUDIO};
+use super::options::{
+    ESSENTIAL, FORCE, FORMAT, MATRIX, MAX_BYTES, MAX_PIXELS, OUT, Opt, PICTURE, PREMULTIPLIED,
+    STUDIO,
+};
 use super::parts::Files;
 use super::pictures::{Pictures, Target};
 use super::words::Words;
@@ -35,7 +38,16 @@ lies beyond the canvas is cut.
 pub const OVERLAY: Command = Command {
     name: "overlay",
     takes: "BODY TRAY",
-    options: &[OUT, FORCE, FORMAT, PREMULTIPLIED, FILL_MATRIX, STUDIO],
+    options: &[
+        OUT,
+        FORCE,
+        FORMAT,
+        PREMULTIPLIED,
+        FILL_MATRIX,
+        STUDIO,
+        MAX_PIXELS,
+        MAX_BYTES,
+    ],
     about: "pictures laid over a canvas",
     more: "\
 BODY is an overlay's descriptor body (`compose body overlay` makes one), TRAY holds its inputs, the
@@ -56,11 +68,14 @@ pub const SCENE: Command = Command {
         PREMULTIPLIED,
         FILL_MATRIX,
         STUDIO,
+        MAX_PIXELS,
+        MAX_BYTES,
     ],
     about: "composed, then changed by a chain",
     more: "\
 As `compose grid` or `compose overlay`, then the properties of CHAIN in turn (`compose entries` makes
-one), in one call.
+one), in one call. A few bytes can ask for a very large picture: --max-pixels and --max-bytes say what
+may be made, and what asks for more is refused (4) before any memory is taken.
   compose scene grid field.body tiles.tray turn.chain -o turned.rec
 ",
     run: run_scene,

@@ -19,6 +19,7 @@ mod view;
 mod words;
 
 use compose::Refusal;
+use compose::limits::Ceiling;
 use options::Opt;
 use std::fmt;
 use words::Words;
@@ -118,12 +119,19 @@ impl fmt::Display for Failure {
         match self {
             Self::Refused {
                 command,
-                part: Some(part),
+                part,
                 refusal,
-            } => write!(f, "compose {command}: {part}: {refusal}"),
-            Self::Refused {
-                command, refusal, ..
-            } => write!(f, "compose {command}: {refusal}"),
+            } => {
+                let part = part.iter().map(|part| format!("{part}: "));
+                let part: String = part.collect();
+                let raise = refusal.excess().map(|excess| match excess.what {
+                    Ceiling::Pixels => options::MAX_PIXELS.usage(),
+                    Ceiling::Bytes => options::MAX_BYTES.usage(),
+                });
+                let raise = raise.iter().map(|option| format!("; {option} sets it"));
+                let raise: String = raise.collect();
+                write!(f, "compose {command}: {part}{refusal}{raise}")
+            }
             Self::Usage { complaint, usage } => write!(f, "compose: {complaint}\n{usage}"),
             Self::File { complaint } => write!(f, "compose: {complaint}"),
         }
@@ -193,8 +201,9 @@ pub fn run(words: &[String]) -> Result<(), Failure> {
 
 fn run_command(command: &'static Command, words: &[String]) -> Result<(), Failure> {
     let mut words = Words::new(command, words)?;
+    let limits = words.limits()?;
     progress::start(command.name);
-    let ended = (command.run)(&mut words);
+    let ended = limits.within(|| (command.run)(&mut words));
     progress::clear();
     ended
 }

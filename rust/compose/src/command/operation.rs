@@ -4,11 +4,12 @@ use super::options::PICTURE;
 use super::pictures::{Pictures, Target};
 use super::words::Words;
 use super::{Command, Failure};
-use compose::Result as Answer;
 use compose::operation::{
     attach_alpha, clap, crop, imir, irot, iscl, rescale_depth, resize_nearest,
 };
 use compose::props::Iscl;
+use compose::record::inspect;
+use compose::{Limits, Result as Answer};
 
 pub const CONVERT: Command = Command {
     name: "convert",
@@ -127,7 +128,12 @@ fn apply(
 
 fn run_convert(words: &mut Words) -> Result<(), Failure> {
     let file = words.file("PICTURE")?;
-    apply(words, &file, |record| Ok(record.to_vec()))
+    apply(words, &file, |record| {
+        let info = inspect(record)?;
+        let pixels = u64::from(info.width) * u64::from(info.height);
+        Limits::current().judge(pixels, record.len() as u64)?;
+        Ok(record.to_vec())
+    })
 }
 
 fn run_crop(words: &mut Words) -> Result<(), Failure> {

@@ -1,5 +1,7 @@
 //! The options that several commands take.
 
+use compose::Limits;
+
 /// One option of a command.
 pub struct Opt {
     /// As it is written, `-o` or `--force`.
@@ -52,8 +54,29 @@ pub const RGB_MATRIX: Opt = Opt {
     ..MATRIX
 };
 
-/// The options of every command that makes a picture.
-pub const PICTURE: &[Opt] = &[OUT, FORCE, FORMAT, RGB_MATRIX, STUDIO];
+pub const MAX_PIXELS: Opt = Opt {
+    name: "--max-pixels",
+    value: "N",
+    about: "the most pixels of a picture that is made, between two properties of a chain, too; 268435456 \
+            (2^28) where nothing is said, and never above 2^30",
+};
+
+pub const MAX_BYTES: Opt = Opt {
+    name: "--max-bytes",
+    value: "N",
+    about: "the most bytes of memory for what is made, and of a scene for as many to work in; 1073741824 \
+            (2^30) where nothing is said",
+};
+
+/// What holds where neither of them is given: photographs are smaller.
+pub const USUAL_LIMITS: Limits = Limits::new()
+    .with_max_pixels(1 << 28)
+    .with_max_bytes(1 << 30);
+
+/// The options of every command that makes a picture of one.
+pub const PICTURE: &[Opt] = &[
+    OUT, FORCE, FORMAT, RGB_MATRIX, STUDIO, MAX_PIXELS, MAX_BYTES,
+];
 
 pub const STUDIO: Opt = Opt {
     name: "--studio",

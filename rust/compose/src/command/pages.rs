@@ -53,8 +53,9 @@ what its ending or --format says. Several records in one file are a tray. Try:
 const ENDS: &str = "\
 A file called - is standard input, or standard output. A file that is read is never written to, and
 one that is there is replaced by --force alone. What the composer does not take it refuses by a number
-and a name, and then nothing is written. Exit status: 0 done, 1 wrong words or a file that cannot be
-read or written, 2 refused.
+and a name, and then nothing is written. A few bytes can ask for a picture of gigabytes: what is above
+--max-pixels or --max-bytes is refused before it takes memory. Exit status: 0 done, 1 wrong words or a
+file that cannot be read or written, 2 refused.
 
 compose help NAME says more of one command, compose help refusals what the numbers mean, compose
 --version which version this is.

@@ -2,8 +2,8 @@
 
 use super::files::Output;
 use super::{Command, Failure, options};
-use compose::Refusal;
 use compose::props::Clap;
+use compose::{Limits, Refusal};
 use std::collections::VecDeque;
 use std::fmt::Display;
 use std::str::FromStr;
@@ -23,7 +23,7 @@ macro_rules! numbers {
     };
 }
 
-numbers! { u8 u16 u32 i32 }
+numbers! { u8 u16 u32 u64 i32 }
 
 /// Whether a word is an option: not a negative number, and not the file called -.
 fn is_option(word: &str) -> bool {
@@ -210,6 +210,16 @@ impl Words {
     pub fn number_option<T: Number>(&self, option: &str) -> Result<Option<T>, Failure> {
         let word = self.option(option);
         word.map(|word| self.parse(option, word)).transpose()
+    }
+
+    /// The ceilings of what is made.
+    pub fn limits(&self) -> Result<Limits, Failure> {
+        let usual = options::USUAL_LIMITS;
+        let pixels = self.number_option(options::MAX_PIXELS.name)?;
+        let bytes = self.number_option(options::MAX_BYTES.name)?;
+        Ok(usual
+            .with_max_pixels(pixels.unwrap_or(usual.max_pixels))
+            .with_max_bytes(bytes.unwrap_or(usual.max_bytes)))
     }
 
     /// No word may be left.

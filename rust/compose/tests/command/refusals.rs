@@ -1,7 +1,9 @@
 //! How the command fails: nothing is written, and it is said what is wrong.
 
-use crate::folder::Folder;
+use crate::folder::{Folder, complaint};
 use compose::{Chroma, HeifFrame, HeifPixelFormat};
+use std::fs;
+use std::process::Command;
 
 #[test]
 fn what_is_refused_writes_nothing() {
@@ -359,4 +361,84 @@ fn refusals_name_the_file_and_its_part() {
     }
     // Under the flag the entry that would be refused is passed over.
     folder.done("scene grid grid.body tiles.tray clap.chain --essential -o new.rec");
+}
+
+/// A body, a tray and a chain of 28 bytes that ask for 32,768 × 32,768 pixels and, with a spare, for
+/// 2 GiB.
+fn small_and_large(name: &str) -> Folder {
+    let folder = Folder::new(name);
+    folder.put("one.body", &[0, 0, 0, 0, 0, 1, 0, 1]);
+    folder.put("one.tray", &[1, 1, 1, 0, 8, 0, 1, 1, 7]);
+    let scale = [1, 4, 0, 0x80, 0x80, 2, 1, 0x80, 0x80, 2, 1];
+    folder.put("large.chain", &scale);
+    folder
+}
+
+#[test]
+fn what_is_above_a_ceiling_takes_no_memory() {
+    let folder = small_and_large("ceilings");
+    let scene = "scene grid one.body one.tray large.chain -o new.rec";
+    let usual = "compose scene: refused 4 (limit): a picture of 1073741824 pixels, and at most \
+                 268435456 are allowed; --max-pixels N sets it\n";
+    folder.fails(scene, 2, usual);
+    let beyond = format!("{scene} --max-pixels 1073741824");
+    let bytes = "compose scene: refused 4 (limit): 2147483682 bytes of memory, and at most 1073741824 \
+                 are allowed; --max-bytes N sets it\n";
+    folder.fails(&beyond, 2, bytes);
+
+    // A process that may have 256 MiB in all ends so, too.
+    let compose = env!("CARGO_BIN_EXE_compose");
+    let run = format!("ulimit -v 262144; {compose} {beyond}");
+    let small = Command::new("sh")
+        .args(["-c", &run])
+        .current_dir(&folder.0)
+        .output()
+        .expect("a shell");
+    assert_eq!(complaint(&small), bytes);
+    assert!(!folder.has("new.rec"));
+}
+
+#[test]
+fn ceilings_are_set_by_options() {
+    let folder = Folder::with_picture("ceilings-set");
+    folder.done("body grid 1 1 6 4 -o one.body");
+    folder.done("body overlay 6 4 0 0 0 65535 0 0 -o over.body");
+    folder.done("pack a.rec -o one.tray");
+    folder.done("entries irot 2 -o turn.chain");
+    for (words, bytes) in [
+        ("crop a.rec 0 0 6 4", 47),
+        ("clap a.rec 6 1 4 1 0 1 0 1", 47),
+        ("irot a.rec 1", 47),
+        ("imir a.rec 0", 47),
+        ("iscl a.rec 1 1 1 1", 47),
+        ("nearest a.rec 6 4", 47),
+        ("depth a.rec 10", 83),
+        ("attach a.rec a.rec", 73),
+        ("convert a.rec", 47),
+        ("grid one.body one.tray", 47),
+        ("overlay over.body one.tray", 47),
+        ("scene grid one.body one.tray turn.chain", 94),
+        ("scene overlay over.body one.tray turn.chain", 94),
+    ] {
+        let command = words.split(' ').next().unwrap_or_default();
+        let refused =
+            |most: &str| format!("compose {command}: refused 4 (limit): {most} are allowed;");
+        let few = format!("{words} --max-pixels 23 -o new.rec");
+        folder.fails(&few, 2, &refused("a picture of 24 pixels, and at most 23"));
+        let few = format!("{words} --max-bytes {} -o new.rec", bytes - 1);
+        let most = format!("{bytes} bytes of memory, and at most {}", bytes - 1);
+        folder.fails(&few, 2, &refused(&most));
+        assert!(!folder.has("new.rec"), "{words}");
+        folder.done(&format!(
+            "{words} --max-pixels=24 --max-bytes={bytes} -o new.rec"
+        ));
+        fs::remove_file(folder.0.join("new.rec")).expect("a file");
+        let own = folder.done(&format!("help {command}"));
+        assert!(own.contains("\n--max-pixels N ") && own.contains("\n--max-bytes N "));
+    }
+    folder.fails(
+        "crop a.rec 0 0 6 4 -o new.rec --max-pixels all",
+        1,
+        "compose: crop: --max-pixels is a number from 0 to ",
+    );
 }
