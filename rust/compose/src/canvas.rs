@@ -24,8 +24,8 @@ use crate::derived::GridDescriptor;
 use crate::form::Form;
 use crate::image::HeifFrame;
 use crate::lend::buffer;
-use crate::plan::Asked;
 use crate::{Refusal, Result, sys};
+use std::mem;
 
 /// How many words a session's state has: the grid's four numbers, the first tile's five, whether a
 /// tile had alpha, and a bit for each of 65,536 cells.
@@ -39,6 +39,8 @@ pub struct GridCanvas {
     /// Or why there is no canvas for `desc`, which every call then refuses with.
     state: Result<Box<[u64]>>,
     buffer: Vec<u8>,
+    /// The record of the tile that is being placed.
+    tile: Vec<u8>,
 }
 
 /// The index of a cell; one that is too great for a call is outside.
@@ -56,31 +58,40 @@ impl GridCanvas {
             desc: *desc,
             state: started.map(|_| words),
             buffer: Vec::new(),
+            tile: Vec::new(),
         }
-    }
-
-    /// The room of the canvas when `tile` is the first: its record with the reserved alpha plane.
-    fn asked(&self, tile: &HeifFrame) -> Option<Asked> {
-        let format = tile.format.with_alpha();
-        let tile = Form::new(tile.width, tile.height, format)?;
-        tile.on_grid(&self.desc).map(Asked::from)
     }
 
     /// A tile in its cell, over what is there; one without alpha leaves the alpha there. Refusals:
     /// 11 an index outside; the frame's; 12, 13, 14.
     pub fn place(&mut self, index: usize, t: &HeifFrame) -> Result<()> {
         // The cell is judged before the frame.
-        let record = t.unjudged();
-        let index = cell(index);
+        self.state.as_ref().map_err(|refusal| *refusal)?;
+        if index < self.desc.tile_count() {
+            t.validate()?;
+            self.tile.clear();
+            t.push_record(&mut self.tile);
+        }
+        let tile = mem::take(&mut self.tile);
+        let placed = self.place_bytes(index, &tile, t.form());
+        self.tile = tile;
+        placed
+    }
+
+    /// A tile's record in its cell.
+    fn place_bytes(&mut self, index: usize, tile: &[u8], form: Form) -> Result<()> {
         let state = self.state.as_mut().map_err(|refusal| *refusal)?;
-        match sys::compose_canvas_place(state, index, &record, &mut self.buffer) {
+        let index = cell(index);
+        match sys::compose_canvas_place(state, index, tile, &mut self.buffer) {
             Err(Refusal::ROOM) => {}
             answer => return answer.map(drop),
         }
-        // Only the first tile that is accepted finds too little room.
-        let mut buffer = buffer(self.asked(t).ok_or(Refusal::ROOM)?)?;
-        let state = self.state.as_mut().map_err(|refusal| *refusal)?;
-        sys::compose_canvas_place(state, index, &record, &mut buffer)?;
+        // Only the first tile that is accepted finds too little room: the canvas's record has an
+        // alpha plane reserved.
+        let format = form.format.with_alpha();
+        let canvas = Form { format, ..form }.on_grid(&self.desc);
+        let mut buffer = buffer(canvas.ok_or(Refusal::ROOM)?.into())?;
+        sys::compose_canvas_place(state, index, tile, &mut buffer)?;
         self.buffer = buffer;
         Ok(())
     }
@@ -94,9 +105,15 @@ impl GridCanvas {
 
     /// The picture. Refusal: 15 a cell is missing.
     pub fn finish(self) -> Result<HeifFrame> {
+        HeifFrame::from_record(&self.finished()?)
+    }
+
+    /// The picture's record.
+    fn finished(mut self) -> Result<Vec<u8>> {
         let length = sys::compose_canvas_finish(&self.state?, &self.buffer)?;
         let length = usize::try_from(length).expect("a length of the buffer");
-        HeifFrame::from_record(&self.buffer[..length])
+        self.buffer.truncate(length);
+        Ok(self.buffer)
     }
 }
 

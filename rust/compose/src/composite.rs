@@ -17,8 +17,9 @@ use crate::image::HeifFrame;
 use crate::lend::written;
 use crate::plan::{self, Asked};
 use crate::props::Colr;
+use crate::record::{LONGEST_NUMBER, push_number};
 use crate::sys::Fresh;
-use crate::{Refusal, Result, tray};
+use crate::{Refusal, Result};
 
 /// One input of an overlay.
 #[derive(Clone, Debug)]
@@ -40,10 +41,18 @@ impl<'a> OverlayInput<'a> {
     }
 }
 
-/// The tray of `frames`.
-fn tray_of<'a>(frames: impl Iterator<Item = &'a HeifFrame>) -> Result<Vec<u8>> {
-    let records: Result<Vec<Vec<u8>>> = frames.map(HeifFrame::to_record).collect();
-    tray::join(&records?)
+/// The tray of `frames`, each copied once. Refusals: each frame's in turn.
+fn tray_of<'a>(frames: impl Iterator<Item = &'a HeifFrame> + Clone) -> Result<Vec<u8>> {
+    let mut size = LONGEST_NUMBER;
+    for frame in frames.clone() {
+        frame.validate()?;
+        size += frame.record_size();
+    }
+    let mut tray = Vec::with_capacity(size);
+    let count = u32::try_from(frames.clone().count());
+    push_number(&mut tray, count.map_err(|_| Refusal::MALFORMED)?);
+    frames.for_each(|frame| frame.push_record(&mut tray));
+    Ok(tray)
 }
 
 /// The record that a grid's body and a tray of tiles come to. Refusals: 5 a tray count that cannot
@@ -75,7 +84,8 @@ pub fn composite_grid(desc: &GridDescriptor, tiles: &[HeifFrame]) -> Result<Heif
     if tiles.len() != desc.tile_count() {
         return Err(Refusal::COUNT);
     }
-    HeifFrame::from_record(&grid(&body, &tray_of(tiles.iter())?)?)
+    let made = grid(&body, &tray_of(tiles.iter())?)?;
+    HeifFrame::from_record(&made)
 }
 
 /// The inputs of an overlay, the last on top; `colr` is for the fill. Refusals: the descriptor's; 15 no
@@ -91,7 +101,9 @@ pub fn composite_overlay(
         .map(|input| input.premultiplied.into())
         .collect();
     let tray = tray_of(inputs.iter().map(|input| input.frame))?;
-    HeifFrame::from_record(&overlay(&body, &tray, &list, colr)?)
+    let made = overlay(&body, &tray, &list, colr)?;
+    drop(tray);
+    HeifFrame::from_record(&made)
 }
 
 #[cfg(test)]

@@ -4,7 +4,7 @@
 use crate::derived::{GridDescriptor, OverlayDescriptor};
 use crate::image::{Chroma, HeifPixelFormat, MAX_FRAME_PIXELS};
 use crate::props::{CropRect, Property};
-use crate::record::{RecordInfo, number_size};
+use crate::record::{RecordInfo, number_size, push_number};
 use crate::transform::needs_444;
 
 /// What the first five numbers of a record say.
@@ -43,6 +43,14 @@ impl Form {
     /// The bytes of the numbers in front of a record's planes: chroma, depth and alpha have one each.
     pub fn head_size(&self) -> usize {
         number_size(self.width) + number_size(self.height) + 3
+    }
+
+    /// Appends these numbers.
+    pub fn push_head(&self, record: &mut Vec<u8>) {
+        let format = [self.format.chroma.idc(), self.format.bit_depth].map(u32::from);
+        push_numbers(record, [self.width, self.height]);
+        push_numbers(record, format);
+        push_numbers(record, [u32::from(self.format.has_alpha)]);
     }
 
     /// The length of the tight record of a picture of this form (document 01, "What is handed in").
@@ -147,6 +155,13 @@ impl Form {
 
 fn odd(side: u32) -> bool {
     side % 2 == 1
+}
+
+/// Appends numbers, one after the other.
+pub(crate) fn push_numbers<const N: usize>(bytes: &mut Vec<u8>, numbers: [u32; N]) {
+    for number in numbers {
+        push_number(bytes, number);
+    }
 }
 
 /// The bytes of a plane in a record: stride, length and data.

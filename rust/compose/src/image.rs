@@ -4,7 +4,8 @@
 //! (document 01, "What is handed in"), which [`HeifFrame::to_record`] and
 //! [`HeifFrame::from_record`] write and read.
 
-use crate::form::Form;
+use crate::form::{Form, plane_size, push_numbers};
+use crate::props::CropRect;
 use crate::record::{self, RecordInfo};
 use crate::{Refusal, Result, limits};
 
@@ -138,12 +139,18 @@ impl HeifPixelFormat {
         self.has_alpha.then_some(self.chroma.colour_planes())
     }
 
+    /// How far a plane is shifted against luma.
+    fn shift(&self, plane: usize) -> (u32, u32) {
+        match plane == 0 || Some(plane) == self.alpha_plane() {
+            true => (0, 0),
+            false => self.chroma.shift(),
+        }
+    }
+
     /// The size of a plane of a picture.
     pub fn plane_dims(&self, plane: usize, width: u32, height: u32) -> (u32, u32) {
-        if plane == 0 || Some(plane) == self.alpha_plane() {
-            return (width, height);
-        }
-        self.chroma.chroma_dims(width, height)
+        let (across, down) = self.shift(plane);
+        (width.div_ceil(1 << across), height.div_ceil(1 << down))
     }
 }
 
@@ -160,6 +167,11 @@ impl Plane {
     /// A plane of its two fields.
     pub fn new(stride: usize, data: Vec<u8>) -> Self {
         Self { stride, data }
+    }
+
+    /// Stride and length as a record has them; a valid frame's are such.
+    fn numbers(&self) -> [u32; 2] {
+        [self.stride, self.data.len()].map(|number| number as u32)
     }
 }
 
@@ -242,9 +254,45 @@ impl HeifFrame {
         Self::filled(width, height, format, 0)
     }
 
-    /// Whether the planes are what size and layout ask for. Refusals: document 01's *Record*.
+    pub(crate) fn form(&self) -> Form {
+        Form {
+            width: self.width,
+            height: self.height,
+            format: self.format,
+        }
+    }
+
+    /// Whether the planes are what size and layout ask for. Refusals: document 01's *Record*, as a
+    /// call has them of the frame's record.
     pub fn validate(&self) -> Result<()> {
-        self.to_record().map(drop)
+        let HeifPixelFormat {
+            chroma,
+            bit_depth,
+            has_alpha,
+        } = self.format;
+        HeifPixelFormat::new(chroma, bit_depth, has_alpha)?;
+        if self.width == 0 || self.height == 0 {
+            return Err(Refusal::EMPTY);
+        }
+        Form::new(self.width, self.height, self.format).ok_or(Refusal::LIMIT)?;
+        let count = self.format.plane_count();
+        match self.planes.len() == count && (0..count).all(|plane| self.is_whole(plane)) {
+            true => Ok(()),
+            false => Err(Refusal::MALFORMED),
+        }
+    }
+
+    /// Whether a plane's stride is no shorter than a row, and its data have all rows; both lengths
+    /// are numbers of a record.
+    fn is_whole(&self, plane: usize) -> bool {
+        let [row, _] = self.form().plane(plane).map(u64::from);
+        let (_, rows) = self.plane_dims(plane);
+        let Plane { stride, data } = &self.planes[plane];
+        let numbers = [*stride, data.len()].map(u32::try_from);
+        let [Ok(stride), Ok(length)] = numbers.map(|number| number.map(u64::from)) else {
+            return false;
+        };
+        stride >= row && length >= stride * u64::from(rows - 1) + row
     }
 
     /// The size of a plane.
@@ -325,9 +373,8 @@ impl HeifFrame {
         let format = self.format.with_chroma(Chroma::Yuv444);
         let middle = 1 << (format.bit_depth - 1);
         let mut promoted = Self::filled(self.width, self.height, format, middle)?;
-        let (across, down) = self.format.chroma.shift();
         for plane in 0..self.format.chroma.colour_planes() {
-            let (across, down) = if plane == 0 { (0, 0) } else { (across, down) };
+            let (across, down) = self.format.shift(plane);
             for y in 0..self.height {
                 for x in 0..self.width {
                     let sample = self.sample(plane, x >> across, y >> down);
@@ -361,33 +408,53 @@ impl HeifFrame {
     /// The frame as a record, strides and spare bytes as they are. Refusals: document 01's
     /// *Record*, so that what comes is one.
     pub fn to_record(&self) -> Result<Vec<u8>> {
-        let record = self.unjudged();
-        record::inspect(&record)?;
+        self.validate()?;
+        let mut record = Vec::new();
+        self.push_record(&mut record);
         Ok(record)
     }
 
-    /// The same bytes before they are judged, for a call that judges something else first. Where
-    /// the frame is no record's, they are none either, and their refusal is the frame's: a stride
-    /// or a length that is no house number ends them in a malformed one.
-    pub(crate) fn unjudged(&self) -> Vec<u8> {
-        let format = [self.format.chroma.idc(), self.format.bit_depth];
-        let alpha = u32::from(self.format.has_alpha);
-        let [chroma, depth] = format.map(u32::from);
-        let mut record = Vec::with_capacity(self.planes.iter().map(|p| p.data.len() + 10).sum());
-        for number in [self.width, self.height, chroma, depth, alpha] {
-            record::push_number(&mut record, number);
-        }
+    /// How long the record of a valid frame is.
+    pub(crate) fn record_size(&self) -> usize {
+        let planes = self.planes.iter().map(|plane| plane_size(plane.numbers()));
+        self.form().head_size() + planes.sum::<usize>()
+    }
+
+    /// Appends the record of a valid frame.
+    pub(crate) fn push_record(&self, bytes: &mut Vec<u8>) {
+        bytes.reserve_exact(self.record_size());
+        self.form().push_head(bytes);
         for plane in &self.planes {
-            let numbers = [plane.stride, plane.data.len()].map(u32::try_from);
-            let [Ok(stride), Ok(length)] = numbers else {
-                record.extend([0xff; record::LONGEST_NUMBER + 1]);
-                return record;
-            };
-            record::push_number(&mut record, stride);
-            record::push_number(&mut record, length);
-            record.extend_from_slice(&plane.data);
+            push_numbers(bytes, plane.numbers());
+            bytes.extend_from_slice(&plane.data);
         }
-        record
+    }
+
+    /// Appends the tight record of a part of a valid frame. Where a side is halved, no chroma sample
+    /// lies across an edge of the part.
+    pub(crate) fn push_part(&self, part: CropRect, record: &mut Vec<u8>) {
+        let form = Form {
+            width: part.width,
+            height: part.height,
+            format: self.format,
+        };
+        record.reserve(form.record_size());
+        form.push_head(record);
+        for plane in 0..self.planes.len() {
+            let [row, length] = form.plane(plane);
+            push_numbers(record, [row, length]);
+            let (across, down) = self.format.shift(plane);
+            let start = self.place(plane, part.x >> across, part.y >> down).start;
+            let Plane { stride, data } = &self.planes[plane];
+            let (row, length) = (row as usize, length as usize);
+            if row == *stride {
+                record.extend_from_slice(&data[start..][..length]);
+                continue;
+            }
+            for row_on in data[start..].chunks(*stride).take(length / row) {
+                record.extend_from_slice(&row_on[..row]);
+            }
+        }
     }
 
     /// The frame that a record holds. Refusals: document 01's *Record*.

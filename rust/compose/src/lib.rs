@@ -123,6 +123,7 @@
 //! # Ok::<(), compose::Refusal>(())
 //! ```
 
+mod bands;
 #[cfg(test)]
 mod calls;
 pub mod canvas;

@@ -34,12 +34,7 @@ fn other_than(info: &RecordInfo, record: &[u8], form: Option<Form>) -> Option<As
 
 /// The part of a record in a rectangle. Refusals: the record's; 9 a rectangle outside.
 pub fn crop(record: &[u8], x: u32, y: u32, width: u32, height: u32) -> Result<Vec<u8>> {
-    let to = CropRect {
-        x,
-        y,
-        width,
-        height,
-    };
+    let to = CropRect::new(x, y, width, height);
     let asked = inspect(record)?.form().cropped(to);
     written(asked.map(Asked::from), |room| {
         Fresh::compose_crop(record, x, y, width, height, room)

@@ -127,6 +127,17 @@ pub struct CropRect {
     pub height: u32,
 }
 
+impl CropRect {
+    pub(crate) fn new(x: u32, y: u32, width: u32, height: u32) -> Self {
+        Self {
+            x,
+            y,
+            width,
+            height,
+        }
+    }
+}
+
 /// A rotation (`irot`): quarter turns anticlockwise.
 #[derive(Clone, Copy, Debug, PartialEq, Eq)]
 #[non_exhaustive]

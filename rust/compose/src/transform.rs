@@ -23,8 +23,9 @@
 //! # Ok::<(), compose::Refusal>(())
 //! ```
 
+use crate::bands::Bands;
 use crate::image::{Chroma, HeifFrame};
-use crate::props::{Clap, Imir, Irot, Iscl, Property, PropertyEntry};
+use crate::props::{Clap, CropRect, Imir, Irot, Iscl, Property, PropertyEntry};
 use crate::{Refusal, Result, chain, operation};
 
 /// Whether an odd column or an odd row asks for a chroma sample that a picture of this chroma has
@@ -44,12 +45,38 @@ pub fn needs_444(chroma: Chroma, x_odd: bool, y_odd: bool) -> bool {
 
 /// An operation on a record, on a frame.
 fn on_frame(f: &HeifFrame, operation: impl Fn(&[u8]) -> Result<Vec<u8>>) -> Result<HeifFrame> {
-    HeifFrame::from_record(&operation(&f.to_record()?)?)
+    // The record is freed before planes are made.
+    let made = operation(&f.to_record()?)?;
+    HeifFrame::from_record(&made)
 }
 
 /// The `w` × `h` part of `f` from (`x`, `y`) on. Refusals: the frame's; 9 a rectangle outside.
 pub fn crop(f: &HeifFrame, x: u32, y: u32, w: u32, h: u32) -> Result<HeifFrame> {
-    on_frame(f, |record| operation::crop(record, x, y, w, h))
+    f.validate()?;
+    let to = CropRect::new(x, y, w, h);
+    match (Bands::crop(f, to), f.form().cropped(to)) {
+        (Some(bands), _) => bands.made(),
+        (None, Some(_)) => promoted_part(f, to),
+        // The call has the refusal.
+        (None, None) => on_frame(f, |record| operation::crop(record, x, y, w, h)),
+    }
+}
+
+/// A crop that promotes: what shares a chroma sample with the part is read, too, and no more.
+fn promoted_part(f: &HeifFrame, to: CropRect) -> Result<HeifFrame> {
+    let (across, down) = f.format.chroma.shift();
+    let span = |edge: u32, size: u32, side: u32, shift: u32| {
+        let start = edge >> shift << shift;
+        let end = (edge + size).next_multiple_of(1 << shift).min(side);
+        (start, end - start)
+    };
+    let (left, width) = span(to.x, to.width, f.width, across);
+    let (top, height) = span(to.y, to.height, f.height, down);
+    let mut record = Vec::new();
+    f.push_part(CropRect::new(left, top, width, height), &mut record);
+    let made = operation::crop(&record, to.x - left, to.y - top, to.width, to.height);
+    drop(record);
+    HeifFrame::from_record(&made?)
 }
 
 /// Applies a clap property. Refusals: the frame's; 7, 8, 9, the width axis first.
@@ -67,7 +94,9 @@ pub fn crop(f: &HeifFrame, x: u32, y: u32, w: u32, h: u32) -> Result<HeifFrame> 
 /// # Ok::<(), compose::Refusal>(())
 /// ```
 pub fn apply_clap(f: &HeifFrame, clap: &Clap) -> Result<HeifFrame> {
-    on_frame(f, |record| operation::clap(record, clap))
+    f.validate()?;
+    let to = clap.resolve(f.width, f.height)?;
+    crop(f, to.x, to.y, to.width, to.height)
 }
 
 /// Applies an irot property: angle mod 4 quarter turns anticlockwise. Refusals: the frame's.
@@ -78,7 +107,8 @@ pub fn apply_irot(f: &HeifFrame, irot: &Irot) -> Result<HeifFrame> {
 /// Applies an imir property: axis mod 2, 0 exchanges top and bottom, 1 left and right. Refusals:
 /// the frame's.
 pub fn apply_imir(f: &HeifFrame, imir: &Imir) -> Result<HeifFrame> {
-    on_frame(f, |record| operation::imir(record, imir.axis))
+    f.validate()?;
+    Bands::imir(f, imir.axis).made()
 }
 
 /// Applies an iscl property: each side times its fraction, rounded up. Refusals: the frame's; 7,
@@ -129,28 +159,54 @@ pub fn resize_nearest(f: &HeifFrame, w: u32, h: u32) -> Result<HeifFrame> {
 
 /// `f` at another depth, each sample in proportion to the top. Refusals: the frame's; 6.
 pub fn rescale_depth(f: &HeifFrame, depth: u8) -> Result<HeifFrame> {
-    on_frame(f, |record| {
-        operation::rescale_depth(record, u32::from(depth))
-    })
+    f.validate()?;
+    match Bands::rescale_depth(f, depth) {
+        Some(bands) => bands.made(),
+        None => on_frame(f, |record| operation::rescale_depth(record, depth.into())),
+    }
 }
 
 /// `master` with the luma of `alpha` as its alpha plane, at the master's size and depth. Refusals:
 /// the master's, then the alpha frame's.
 pub fn attach_alpha(master: &HeifFrame, alpha: &HeifFrame) -> Result<HeifFrame> {
-    // The call judges the master before the alpha.
-    let (master, alpha) = (master.unjudged(), alpha.unjudged());
-    HeifFrame::from_record(&operation::attach_alpha(&master, &alpha)?)
+    let made = operation::attach_alpha(&master.to_record()?, &alpha.to_record()?)?;
+    HeifFrame::from_record(&made)
 }
 
-/// The record after one property of a chain, or none where the property is skipped.
-fn after(record: &[u8], property: &Property) -> Option<Result<Vec<u8>>> {
+/// The record after one property that moves it.
+fn after(record: &[u8], property: &Property) -> Result<Vec<u8>> {
     match property {
-        Property::Other => None,
-        Property::Clap(clap) => Some(operation::clap(record, clap)),
-        Property::Irot(irot) => Some(operation::irot(record, irot.angle)),
-        Property::Imir(imir) => Some(operation::imir(record, imir.axis)),
-        Property::Iscl(iscl) => Some(operation::iscl(record, iscl)),
+        Property::Other => Ok(record.to_vec()),
+        Property::Clap(clap) => operation::clap(record, clap),
+        Property::Irot(irot) => operation::irot(record, irot.angle),
+        Property::Imir(imir) => operation::imir(record, imir.axis),
+        Property::Iscl(iscl) => operation::iscl(record, iscl),
     }
+}
+
+/// The properties of a chain that are applied. Refusal 4: above 256 entries, applied or not.
+pub(crate) fn applied<'a>(
+    chain: impl IntoIterator<Item = &'a PropertyEntry>,
+    essential_only: bool,
+) -> Result<Vec<Property>> {
+    let entries: Vec<PropertyEntry> = chain.into_iter().copied().collect();
+    chain::join(&entries)?;
+    let applied = entries
+        .iter()
+        .filter(|entry| entry.essential || !essential_only)
+        .map(|entry| entry.property)
+        .filter(Property::is_transformative);
+    Ok(applied.collect())
+}
+
+/// The record after several, one at least.
+pub(crate) fn all_after(record: &[u8], properties: &[Property]) -> Result<Vec<u8>> {
+    let (first, rest) = properties.split_first().expect("a property");
+    let mut record = after(record, first)?;
+    for property in rest {
+        record = after(&record, property)?;
+    }
+    Ok(record)
 }
 
 /// The properties of `chain` in turn, under `essential_only` the essential ones alone; without one
@@ -178,24 +234,22 @@ pub fn apply_transforms<'a>(
     chain: impl IntoIterator<Item = &'a PropertyEntry>,
     essential_only: bool,
 ) -> Result<HeifFrame> {
-    let entries: Vec<PropertyEntry> = chain.into_iter().copied().collect();
-    chain::join(&entries)?;
-    let mut record: Option<Vec<u8>> = None;
-    for entry in entries {
-        if essential_only && !entry.essential {
-            continue;
+    let properties = applied(chain, essential_only)?;
+    changed(f, &properties).unwrap_or_else(|| Ok(f.clone()))
+}
+
+/// The frame after properties, if there are any.
+fn changed(f: &HeifFrame, properties: &[Property]) -> Option<Result<HeifFrame>> {
+    let changed = match properties {
+        [] => return None,
+        [Property::Clap(clap)] => apply_clap(f, clap),
+        [Property::Imir(imir)] => apply_imir(f, imir),
+        [Property::Clap(clap), rest @ ..] => {
+            apply_clap(f, clap).and_then(|f| on_frame(&f, |record| all_after(record, rest)))
         }
-        let before = match record.take() {
-            Some(record) => record,
-            None if entry.property.is_transformative() => f.to_record()?,
-            None => continue,
-        };
-        record = Some(after(&before, &entry.property).unwrap_or(Ok(before))?);
-    }
-    match record {
-        Some(record) => HeifFrame::from_record(&record),
-        None => Ok(f.clone()),
-    }
+        all => on_frame(f, |record| all_after(record, all)),
+    };
+    Some(changed)
 }
 
 /// [`apply_transforms`] on a frame that is handed over: it comes back without a copy where no
@@ -205,12 +259,6 @@ pub fn apply_transforms_owned<'a>(
     chain: impl IntoIterator<Item = &'a PropertyEntry>,
     essential_only: bool,
 ) -> Result<HeifFrame> {
-    let entries: Vec<PropertyEntry> = chain.into_iter().copied().collect();
-    let moves = |entry: &PropertyEntry| {
-        (entry.essential || !essential_only) && entry.property.is_transformative()
-    };
-    match entries.iter().any(moves) {
-        true => apply_transforms(&f, &entries, essential_only),
-        false => chain::join(&entries).map(|_| f),
-    }
+    let properties = applied(chain, essential_only)?;
+    changed(&f, &properties).unwrap_or(Ok(f))
 }
