@@ -20,10 +20,12 @@
 //! # Ok::<(), compose::Refusal>(())
 //! ```
 
+use crate::composite::Recorded;
 use crate::derived::GridDescriptor;
 use crate::form::Form;
 use crate::image::HeifFrame;
 use crate::lend::buffer;
+use crate::recorded::RecordFrame;
 use crate::{Refusal, Result, sys};
 use std::mem;
 
@@ -78,6 +80,11 @@ impl GridCanvas {
         placed
     }
 
+    /// The same of a tile over its record, which is not copied.
+    pub fn place_record(&mut self, index: usize, t: &RecordFrame) -> Result<()> {
+        self.place_bytes(index, t.as_record(), t.info().form())
+    }
+
     /// A tile's record in its cell.
     fn place_bytes(&mut self, index: usize, tile: &[u8], form: Form) -> Result<()> {
         let state = self.state.as_mut().map_err(|refusal| *refusal)?;
@@ -106,6 +113,11 @@ impl GridCanvas {
     /// The picture. Refusal: 15 a cell is missing.
     pub fn finish(self) -> Result<HeifFrame> {
         HeifFrame::from_record(&self.finished()?)
+    }
+
+    /// The same over its record, which is the canvas's own.
+    pub fn finish_record(self) -> Result<RecordFrame<'static>> {
+        RecordFrame::from_record(self.finished()?)
     }
 
     /// The picture's record.

@@ -41,18 +41,51 @@ impl<'a> OverlayInput<'a> {
     }
 }
 
+/// A picture that has a record.
+pub(crate) trait Recorded {
+    /// Refusals: document 01's *Record*.
+    fn judge(&self) -> Result<()>;
+
+    /// How long the record is, where it is judged.
+    fn record_size(&self) -> usize;
+
+    /// Appends the record, where it is judged.
+    fn push_record(&self, bytes: &mut Vec<u8>);
+}
+
 /// The tray of `frames`, each copied once. Refusals: each frame's in turn.
-fn tray_of<'a>(frames: impl Iterator<Item = &'a HeifFrame> + Clone) -> Result<Vec<u8>> {
-    let mut size = LONGEST_NUMBER;
+fn tray_of<'a, F: Recorded + 'a>(frames: impl Iterator<Item = &'a F> + Clone) -> Result<Vec<u8>> {
+    let (mut size, mut count) = (LONGEST_NUMBER, 0u32);
     for frame in frames.clone() {
-        frame.validate()?;
+        frame.judge()?;
         size += frame.record_size();
+        count = count.checked_add(1).ok_or(Refusal::MALFORMED)?;
     }
     let mut tray = Vec::with_capacity(size);
-    let count = u32::try_from(frames.clone().count());
-    push_number(&mut tray, count.map_err(|_| Refusal::MALFORMED)?);
+    push_number(&mut tray, count);
     frames.for_each(|frame| frame.push_record(&mut tray));
     Ok(tray)
+}
+
+/// The record of a grid's tiles.
+pub(crate) fn grid_of(desc: &GridDescriptor, tiles: &[impl Recorded]) -> Result<Vec<u8>> {
+    let body = desc.body()?;
+    if tiles.len() != desc.tile_count() {
+        return Err(Refusal::COUNT);
+    }
+    grid(&body, &tray_of(tiles.iter())?)
+}
+
+/// The record of an overlay's inputs, each with whether it is premultiplied.
+pub(crate) fn overlay_of<'a, F: Recorded + 'a>(
+    desc: &OverlayDescriptor,
+    inputs: impl ExactSizeIterator<Item = (&'a F, bool)> + Clone,
+    colr: Option<&Colr>,
+) -> Result<Vec<u8>> {
+    let body = desc.body(inputs.len())?;
+    let list: Vec<u8> = inputs.clone().map(|(_, alpha)| alpha.into()).collect();
+    let tray = tray_of(inputs.map(|(frame, _)| frame))?;
+    overlay(&body, &tray, &list, colr)
 }
 
 /// The record that a grid's body and a tray of tiles come to. Refusals: 5 a tray count that cannot
@@ -80,12 +113,7 @@ pub fn overlay(
 /// The tiles of a grid, each in its cell. Refusals: the descriptor's; 11 another number of tiles; the
 /// frames'; 12, 13, 14.
 pub fn composite_grid(desc: &GridDescriptor, tiles: &[HeifFrame]) -> Result<HeifFrame> {
-    let body = desc.body()?;
-    if tiles.len() != desc.tile_count() {
-        return Err(Refusal::COUNT);
-    }
-    let made = grid(&body, &tray_of(tiles.iter())?)?;
-    HeifFrame::from_record(&made)
+    HeifFrame::from_record(&grid_of(desc, tiles)?)
 }
 
 /// The inputs of an overlay, the last on top; `colr` is for the fill. Refusals: the descriptor's; 15 no
@@ -95,15 +123,10 @@ pub fn composite_overlay(
     inputs: &[OverlayInput<'_>],
     colr: Option<&Colr>,
 ) -> Result<HeifFrame> {
-    let body = desc.body(inputs.len())?;
-    let list: Vec<u8> = inputs
+    let inputs = inputs
         .iter()
-        .map(|input| input.premultiplied.into())
-        .collect();
-    let tray = tray_of(inputs.iter().map(|input| input.frame))?;
-    let made = overlay(&body, &tray, &list, colr)?;
-    drop(tray);
-    HeifFrame::from_record(&made)
+        .map(|input| (input.frame, input.premultiplied));
+    HeifFrame::from_record(&overlay_of(desc, inputs, colr)?)
 }
 
 #[cfg(test)]

@@ -4,10 +4,12 @@
 //! (document 01, "What is handed in"), which [`HeifFrame::to_record`] and
 //! [`HeifFrame::from_record`] write and read.
 
+use crate::composite::Recorded;
 use crate::form::{Form, plane_size, push_numbers};
 use crate::props::CropRect;
 use crate::record::{self, RecordInfo};
 use crate::{Refusal, Result, limits};
+use std::ops::Range;
 
 /// Upper bound on the pixels of a frame.
 pub const MAX_FRAME_PIXELS: u64 = 1 << 30;
@@ -179,6 +181,21 @@ impl Plane {
 #[deprecated(note = "renamed to `Plane`")]
 pub type HeifPlane = Plane;
 
+/// Where a sample's bytes are in a plane of a layout and a stride.
+pub(crate) fn sample_place(format: HeifPixelFormat, stride: usize, x: u32, y: u32) -> Range<usize> {
+    let bytes = format.bytes_per_sample();
+    let start = y as usize * stride + x as usize * bytes;
+    start..start + bytes
+}
+
+/// A sample of one byte or two.
+pub(crate) fn read_sample(bytes: &[u8]) -> u16 {
+    match *bytes {
+        [low, high] => u16::from_le_bytes([low, high]),
+        _ => u16::from(bytes[0]),
+    }
+}
+
 /// A planar picture: luma, Cb, Cr (mono has luma alone), then alpha.
 #[derive(Clone, Debug, PartialEq, Eq)]
 pub struct HeifFrame {
@@ -301,18 +318,13 @@ impl HeifFrame {
     }
 
     /// Where a sample's bytes are in its plane.
-    fn place(&self, plane: usize, x: u32, y: u32) -> std::ops::Range<usize> {
-        let bytes = self.format.bytes_per_sample();
-        let start = y as usize * self.planes[plane].stride + x as usize * bytes;
-        start..start + bytes
+    fn place(&self, plane: usize, x: u32, y: u32) -> Range<usize> {
+        sample_place(self.format, self.planes[plane].stride, x, y)
     }
 
     /// The sample at a column and a row of a plane. It panics where there is none.
     pub fn sample(&self, plane: usize, x: u32, y: u32) -> u16 {
-        match self.planes[plane].data[self.place(plane, x, y)] {
-            [low, high] => u16::from_le_bytes([low, high]),
-            ref one => u16::from(one[0]),
-        }
+        read_sample(&self.planes[plane].data[self.place(plane, x, y)])
     }
 
     /// Changes the sample at a column and a row of a plane. It panics where there is none.
@@ -414,22 +426,6 @@ impl HeifFrame {
         Ok(record)
     }
 
-    /// How long the record of a valid frame is.
-    pub(crate) fn record_size(&self) -> usize {
-        let planes = self.planes.iter().map(|plane| plane_size(plane.numbers()));
-        self.form().head_size() + planes.sum::<usize>()
-    }
-
-    /// Appends the record of a valid frame.
-    pub(crate) fn push_record(&self, bytes: &mut Vec<u8>) {
-        bytes.reserve_exact(self.record_size());
-        self.form().push_head(bytes);
-        for plane in &self.planes {
-            push_numbers(bytes, plane.numbers());
-            bytes.extend_from_slice(&plane.data);
-        }
-    }
-
     /// Appends the tight record of a part of a valid frame. Where a side is halved, no chroma sample
     /// lies across an edge of the part.
     pub(crate) fn push_part(&self, part: CropRect, record: &mut Vec<u8>) {
@@ -459,13 +455,36 @@ impl HeifFrame {
 
     /// The frame that a record holds. Refusals: document 01's *Record*.
     pub fn from_record(record: &[u8]) -> Result<Self> {
-        let info = record::inspect(record)?;
+        Ok(Self::of_parts(record, &record::inspect(record)?))
+    }
+
+    /// The same of a record that is judged.
+    pub(crate) fn of_parts(record: &[u8], info: &RecordInfo) -> Self {
         let planes = info.present().map(|plane| {
             let data = plane.of(record).to_vec();
             Plane::new(plane.stride, data)
         });
-        let planes = planes.collect();
-        Ok(Self::new(info.width, info.height, info.format(), planes))
+        Self::new(info.width, info.height, info.format(), planes.collect())
+    }
+}
+
+impl Recorded for HeifFrame {
+    fn judge(&self) -> Result<()> {
+        self.validate()
+    }
+
+    fn record_size(&self) -> usize {
+        let planes = self.planes.iter().map(|plane| plane_size(plane.numbers()));
+        self.form().head_size() + planes.sum::<usize>()
+    }
+
+    fn push_record(&self, bytes: &mut Vec<u8>) {
+        bytes.reserve_exact(self.record_size());
+        self.form().push_head(bytes);
+        for plane in &self.planes {
+            push_numbers(bytes, plane.numbers());
+            bytes.extend_from_slice(&plane.data);
+        }
     }
 }
 

@@ -107,7 +107,10 @@
 //!
 //! # On records
 //!
-//! The calls work on records, and so can a program: [`record`] says what one holds, [`operation`]
+//! The calls work on records. [`recorded`] has oxideav-heif's operations on frames over records, which
+//! copy nothing beside; a frame of planes is copied into a record and out of one by each call.
+//!
+//! A program can work on the bytes, too: [`record`] says what one holds, [`operation`]
 //! makes another of it, [`tray`] counts several, [`chain`] reads what is to be done to one, and
 //! [`steps`] says what sizes that gives; [`mod@scene`] composes several and does it, in one call, and
 //! says which of them a place of the result shows.
@@ -145,6 +148,7 @@ mod outline;
 mod plan;
 pub mod props;
 pub mod record;
+pub mod recorded;
 mod refusal;
 pub mod scene;
 pub mod steps;
@@ -158,6 +162,7 @@ pub use derived::{GridDescriptor, OverlayDescriptor};
 pub use fill::fill_to_ycbcr;
 pub use image::{Chroma, HeifFrame, HeifPixelFormat, Plane};
 pub use limits::Limits;
+pub use recorded::RecordFrame;
 pub use refusal::Refusal;
 pub use scene::{Point, Scene, Shows, point, scene};
 pub use transform::{

@@ -40,7 +40,7 @@ macro_rules! safe {
     };
     // The last of a function that writes a record or a text: into a buffer of its own, too.
     ($head:tt ($($here:tt)*) ($($in_c:tt)*) ($($passes:tt)*) out: &mut [u8], $(,)?) => {
-        fresh! { $head ($($here)*) ($($in_c)*) ($($passes)*) }
+        fresh! { $head ($($here)*) ($($in_c)*) ($($passes)*) out }
         safe! { $head
             ($($here)* out: &mut [u8],)
             ($($in_c)* out: *mut u8, _: usize,)
@@ -49,7 +49,7 @@ macro_rules! safe {
     };
     ($head:tt ($($here:tt)*) ($($in_c:tt)*) ($($passes:tt)*)
         output: &mut [u8], spare: &mut [u8], $(,)?) => {
-        fresh_pair! { $head ($($here)*) ($($in_c)*) ($($passes)*) }
+        fresh! { $head ($($here)*) ($($in_c)*) ($($passes)*) output spare }
         safe! { $head
             ($($here)* output: &mut [u8], spare: &mut [u8],)
             ($($in_c)* output: *mut u8, _: usize, spare: *mut u8, _: usize,)
@@ -105,41 +105,25 @@ impl Fresh {
     }
 }
 
-/// One function whose last part is an output.
+/// One function whose last part is an output, or an output and a spare of its length.
 macro_rules! fresh {
-    (($(#[$about:meta])* $name:ident) ($($here:tt)*) ($($in_c:tt)*) ($($passes:tt)*)) => {
+    (($(#[$about:meta])* $name:ident) ($($here:tt)*) ($($in_c:tt)*) ($($passes:tt)*)
+        $out:ident $($spare:ident)?) => {
         impl Fresh {
             $(#[$about])*
             #[inline]
             pub fn $name($($here)* room: usize) -> $crate::Result<Vec<u8>> {
                 unsafe extern "C" {
-                    fn $name($($in_c)* out: *mut u8, _: usize) -> u64;
+                    fn $name($($in_c)* $out: *mut u8, _: usize $(, $spare: *mut u8, _: usize)?)
+                        -> u64;
                 }
-                let mut out = Vec::with_capacity(room);
-                // SAFETY: as in `safe`; the output is the vector's own memory.
-                let word = unsafe { $name($($passes)* out.as_mut_ptr(), room) };
-                Self::written(out, word)
-            }
-        }
-    };
-}
-
-/// The same where an output and a spare of its length are the last.
-macro_rules! fresh_pair {
-    (($(#[$about:meta])* $name:ident) ($($here:tt)*) ($($in_c:tt)*) ($($passes:tt)*)) => {
-        impl Fresh {
-            $(#[$about])*
-            #[inline]
-            pub fn $name($($here)* room: usize) -> $crate::Result<Vec<u8>> {
-                unsafe extern "C" {
-                    fn $name($($in_c)* output: *mut u8, _: usize, spare: *mut u8, _: usize) -> u64;
-                }
-                let (mut output, mut spare) = (Vec::with_capacity(room), Vec::<u8>::with_capacity(room));
+                let mut $out = Vec::with_capacity(room);
+                $(let mut $spare = Vec::<u8>::with_capacity(room);)?
                 // SAFETY: as in `safe`; output and spare are the vectors' own memory.
                 let word = unsafe {
-                    $name($($passes)* output.as_mut_ptr(), room, spare.as_mut_ptr(), room)
+                    $name($($passes)* $out.as_mut_ptr(), room $(, $spare.as_mut_ptr(), room)?)
                 };
-                Self::written(output, word)
+                Self::written($out, word)
             }
         }
     };

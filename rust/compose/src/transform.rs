@@ -143,13 +143,17 @@ fn ratio(new: u32, old: u32) -> Result<(u16, u16)> {
 /// # Ok::<(), compose::Refusal>(())
 /// ```
 pub fn resize_area(f: &HeifFrame, w: u32, h: u32) -> Result<HeifFrame> {
-    on_frame(f, |record| {
-        if w == 0 || h == 0 {
-            return Err(Refusal::EMPTY);
-        }
-        let (across, down) = (ratio(w, f.width)?, ratio(h, f.height)?);
-        operation::iscl(record, &Iscl::new(across.0, across.1, down.0, down.1))
-    })
+    f.validate()?;
+    apply_iscl(f, &area((f.width, f.height), w, h)?)
+}
+
+/// The iscl that makes a size of another. Refusals: 3 a side of 0; 4 a ratio that no iscl has.
+pub(crate) fn area((width, height): (u32, u32), w: u32, h: u32) -> Result<Iscl> {
+    if w == 0 || h == 0 {
+        return Err(Refusal::EMPTY);
+    }
+    let (across, down) = (ratio(w, width)?, ratio(h, height)?);
+    Ok(Iscl::new(across.0, across.1, down.0, down.1))
 }
 
 /// `f` at another size, by nearest samples. Refusals: the frame's; 3, 4.

@@ -2,8 +2,12 @@
 //! shape, legal or not, and what document 01 wants of the calls on them.
 
 use crate::expected::{Stop, Want, alpha_above_top, attach, settle};
-use compose::{Chroma, GridDescriptor, HeifFrame, HeifPixelFormat, OverlayDescriptor, Plane};
-use model::{Colour, Frame, Grid, Oracle, Outcome, Overlay, OverlayInput, parse_record, refusal};
+use compose::{
+    Chroma, GridDescriptor, HeifFrame, HeifPixelFormat, OverlayDescriptor, Plane, props,
+};
+use model::{
+    Clap, Colour, Frame, Grid, Iscl, Oracle, Outcome, Overlay, OverlayInput, parse_record, refusal,
+};
 
 /// The same frame in the crate's own shape. Nothing is judged.
 pub fn heif(frame: &Frame) -> HeifFrame {
@@ -25,6 +29,24 @@ pub fn grid_descriptor(grid: &Grid) -> GridDescriptor {
 pub fn overlay_descriptor(overlay: &Overlay) -> OverlayDescriptor {
     let offsets = overlay.offsets.clone();
     OverlayDescriptor::new(overlay.fill, overlay.width, overlay.height, offsets)
+}
+
+pub fn clap(clap: &Clap) -> props::Clap {
+    props::Clap::new(
+        clap.width_n,
+        clap.width_d,
+        clap.height_n,
+        clap.height_d,
+        clap.horizontal_n,
+        clap.horizontal_d,
+        clap.vertical_n,
+        clap.vertical_d,
+    )
+}
+
+pub fn iscl(iscl: &Iscl) -> props::Iscl {
+    let [width_num, width_den, height_num, height_den] = iscl.fields();
+    props::Iscl::new(width_num, width_den, height_num, height_den)
 }
 
 /// Holds an answer of the crate to what is wanted.

@@ -11,7 +11,7 @@ use compose::{
 };
 use differential::generate;
 use differential::rng::Rng;
-use differential::shaped::{heif, hold};
+use differential::shaped::{self, heif, hold};
 use model::{Frame, Operation, Rectangle, parse_record};
 
 #[test]
@@ -48,16 +48,7 @@ fn operations_are_oxideav_heifs() {
             hold(cropped, oracle.crop(&frame, &rectangle), "crop");
 
             let clap = generate::clap(&mut rng, size);
-            let aperture = Clap::new(
-                clap.width_n,
-                clap.width_d,
-                clap.height_n,
-                clap.height_d,
-                clap.horizontal_n,
-                clap.horizontal_d,
-                clap.vertical_n,
-                clap.vertical_d,
-            );
+            let aperture = shaped::clap(&clap);
             let cropped = apply_clap(&ours, &aperture);
             hold(cropped, oracle.apply_clap(&frame, &clap), "clap");
         }

@@ -2,14 +2,14 @@
 //! many bytes as the call then writes.
 
 use compose::limits::{Ceiling, Excess, Limits};
-use compose::props::{Clap, Colr, Iscl};
+use compose::props::Colr;
 use compose::{
     GridCanvas, HeifFrame, HeifPixelFormat, Refusal, Scene, composite, operation, record, scene,
     sys,
 };
 use differential::generate;
 use differential::rng::Rng;
-use differential::shaped::{grid_descriptor, heif};
+use differential::shaped::{clap, grid_descriptor, heif, iscl};
 use model::{Frame, SceneParts, chain_bytes, tray_bytes};
 
 /// Nothing may be made.
@@ -52,19 +52,6 @@ fn hold(what: &str, call: impl Fn() -> compose::Result<Vec<u8>>) {
     );
 }
 
-fn clap(clap: model::Clap) -> Clap {
-    Clap::new(
-        clap.width_n,
-        clap.width_d,
-        clap.height_n,
-        clap.height_d,
-        clap.horizontal_n,
-        clap.horizontal_d,
-        clap.vertical_n,
-        clap.vertical_d,
-    )
-}
-
 #[test]
 fn operations_ask_for_what_they_write() {
     let mut rng = Rng::new(31);
@@ -78,14 +65,14 @@ fn operations_ask_for_what_they_write() {
         hold("crop", || {
             operation::crop(&record, across.0, down.0, across.1, down.1)
         });
-        let aperture = clap(generate::clap(&mut rng, size));
+        let aperture = clap(&generate::clap(&mut rng, size));
         hold("clap", || operation::clap(&record, &aperture));
         let angle = generate::turn(&mut rng, 3);
         hold("irot", || operation::irot(&record, angle));
         let axis = generate::turn(&mut rng, 1);
         hold("imir", || operation::imir(&record, axis));
-        let [a, b, c, d] = generate::iscl(&mut rng).fields();
-        hold("iscl", || operation::iscl(&record, &Iscl::new(a, b, c, d)));
+        let scale = iscl(&generate::iscl(&mut rng));
+        hold("iscl", || operation::iscl(&record, &scale));
         let to = (rng.number(0..=9), rng.number(0..=9));
         hold("nearest", || operation::resize_nearest(&record, to.0, to.1));
         hold("nearest", || {
