@@ -10,10 +10,12 @@ mod frames;
 mod operations;
 mod reading;
 mod report;
+mod shape;
 mod stopwatch;
 mod tables;
 
 use case::{Case, Row, Table};
+use compose::{HeifFrame, RecordFrame};
 use report::{Earlier, Layout, Times};
 use std::cell::RefCell;
 use std::hint::black_box;
@@ -97,27 +99,32 @@ impl Output {
     }
 }
 
-/// Times a case: the call, into an output that is lent again and again; the crate `compose`; the
-/// published Rust; a copy of as many bytes into that same output.
+/// Times a case: the call, into an output that is lent again and again; the crate `compose` on frames
+/// over records, and on frames of planes; the published Rust; a copy of as many bytes into that same
+/// output.
 fn time(case: Case, rounds: Option<usize>) -> Times {
     let output = RefCell::new(Output::new(case.room));
     let mut call = || (case.call)(output.borrow_mut().lend());
-    let frames = frames::ready(case.work.clone());
-    let mut frames = || drop(black_box(frames()));
+    let planes = frames::ready::<HeifFrame>(case.work.clone());
+    let mut planes = || drop(black_box(planes()));
+    let records = frames::ready::<RecordFrame>(case.work.clone());
+    let mut records = || drop(black_box(records()));
     let theirs = oracle::open().map(|oracle| oracle.ready(case.work));
     let mut theirs = theirs.map(|run| move || run());
     let from = vec![1u8; case.room];
     let mut copy = || output.borrow_mut().lend().copy_from_slice(black_box(&from));
-    let jobs: [Option<Job>; 4] = [
+    let jobs: [Option<Job>; 5] = [
         Some(&mut call),
-        Some(&mut frames),
+        Some(&mut records),
+        Some(&mut planes),
         theirs.as_mut().map(|run| run as Job),
         (case.room > 0).then_some(&mut copy),
     ];
-    let [call, frames, theirs, copy] = least(jobs, rounds);
+    let [call, records, planes, theirs, copy] = least(jobs, rounds);
     Times {
         call,
-        frames,
+        records,
+        planes,
         theirs,
         copy,
         units: case.units,

@@ -7,7 +7,9 @@ use std::collections::HashMap;
 /// The times of a row in seconds; none where a side is not there.
 pub struct Times {
     pub call: Option<f64>,
-    pub frames: Option<f64>,
+    /// The crate on frames over records, and on frames of planes.
+    pub records: Option<f64>,
+    pub planes: Option<f64>,
     pub theirs: Option<f64>,
     pub copy: Option<f64>,
     /// How many of the table's unit the row has.
@@ -15,7 +17,12 @@ pub struct Times {
 }
 
 /// The columns of ratios.
-const RATIOS: [&str; 3] = ["call / Rust", "call / memcpy", "crate / Rust"];
+const RATIOS: [&str; 4] = [
+    "call / Rust",
+    "call / memcpy",
+    "records / Rust",
+    "planes / Rust",
+];
 
 /// A number to about three figures.
 fn number(number: f64) -> String {
@@ -39,12 +46,14 @@ impl Times {
         let each = self.call.map(|call| call / self.units as f64 * 1e9);
         vec![
             time(self.call),
-            time(self.frames),
+            time(self.records),
+            time(self.planes),
             time(self.theirs),
             time(self.copy),
             ratio(self.call, self.theirs),
             ratio(self.call, self.copy),
-            ratio(self.frames, self.theirs),
+            ratio(self.records, self.theirs),
+            ratio(self.planes, self.theirs),
             each.map_or("–".into(), number),
         ]
     }
@@ -63,18 +72,17 @@ pub struct Earlier(HashMap<String, Vec<String>>);
 impl Earlier {
     /// Reads the tables of a text; the last row of a name counts.
     pub fn read(text: &str) -> Self {
-        let mut columns: Vec<usize> = Vec::new();
+        let mut columns = [None; RATIOS.len()];
         let mut rows = HashMap::new();
         for cells in text.lines().filter_map(cells) {
             if cells[0] == "case" {
-                let place = |name: &&str| cells.iter().position(|cell| cell == name);
-                columns = RATIOS.iter().filter_map(place).collect();
+                columns = RATIOS.map(|name| cells.iter().position(|cell| *cell == name));
                 continue;
             }
-            let ratio = |at: &usize| cells.get(*at).copied().unwrap_or("–").to_owned();
-            rows.insert(cells[0].to_owned(), columns.iter().map(ratio).collect());
+            let ratio = |at: Option<usize>| at.and_then(|at| cells.get(at).copied());
+            let ratios = columns.map(|at| ratio(at).unwrap_or("–").to_owned());
+            rows.insert(cells[0].to_owned(), ratios.to_vec());
         }
-        rows.retain(|_, ratios: &mut Vec<String>| ratios.len() == RATIOS.len());
         Self(rows)
     }
 
@@ -101,8 +109,8 @@ impl Layout {
 
     /// The lines above a table's rows.
     pub fn head(&self, table: &Table) -> String {
-        let mut names = vec!["call".into(), "crate".into(), "the Rust".into()];
-        names.push("memcpy".into());
+        let times = ["call", "records", "planes", "the Rust", "memcpy"];
+        let mut names: Vec<String> = times.map(String::from).into();
         names.extend(RATIOS.map(String::from));
         names.push(format!("ns / {}", table.unit));
         if self.earlier.is_some() {
@@ -132,7 +140,8 @@ mod tests {
 
     const TIMES: Times = Times {
         call: Some(0.003),
-        frames: Some(0.002),
+        records: Some(0.0015),
+        planes: Some(0.002),
         theirs: Some(0.001),
         copy: None,
         units: 1_000,
@@ -154,16 +163,27 @@ mod tests {
     #[test]
     fn a_table_is_read_back() {
         let first = markdown(None);
-        let row = "| name | 3.00 ms | 2.00 ms | 1.00 ms | – | 3.00 | – | 2.00 | 3000 |";
+        let row =
+            "| name | 3.00 ms | 1.50 ms | 2.00 ms | 1.00 ms | – | 3.00 | – | 1.50 | 2.00 | 3000 |";
         assert_eq!(first.lines().last(), Some(row));
         let second = markdown(Some(Earlier::read(&first)));
-        assert!(second.ends_with("| 3000 | 3.00 | – | 2.00 |"), "{second}");
+        assert!(
+            second.ends_with("| 3000 | 3.00 | – | 1.50 | 2.00 |"),
+            "{second}"
+        );
     }
 
     #[test]
-    fn a_row_without_an_earlier_one_has_dashes() {
+    fn what_the_earlier_run_had_not_has_dashes() {
         let other = markdown(None).replace("| name |", "| other |");
         let beside = markdown(Some(Earlier::read(&other)));
-        assert!(beside.ends_with("| 3000 | – | – | – |"), "{beside}");
+        assert!(beside.ends_with("| 3000 | – | – | – | – |"), "{beside}");
+        // A column that the earlier run had not.
+        let earlier = markdown(None).replace("records / Rust", "crate / Rust");
+        let beside = markdown(Some(Earlier::read(&earlier)));
+        assert!(
+            beside.ends_with("| 3000 | 3.00 | – | – | 2.00 |"),
+            "{beside}"
+        );
     }
 }

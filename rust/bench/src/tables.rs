@@ -116,8 +116,9 @@ pub fn all(side: u32) -> Vec<Table> {
 mod tests {
     use super::all;
     use crate::frames;
+    use compose::{HeifFrame, RecordFrame};
 
-    /// Each row runs on all sides, and crate and call make the same picture.
+    /// Each row runs on all sides, and the crate's two shapes and the call make the same picture.
     #[test]
     fn rows_run() {
         for row in all(32).into_iter().flat_map(|table| table.rows) {
@@ -125,8 +126,12 @@ mod tests {
             let case = (row.make)();
             let mut output = vec![0; case.room];
             (case.call)(&mut output);
-            if let Some(frame) = frames::ready(case.work.clone())() {
-                let record = frame.to_record().expect("a record");
+            let planes = frames::ready::<HeifFrame>(case.work.clone())();
+            let over = frames::ready::<RecordFrame>(case.work.clone())();
+            assert_eq!(planes.is_some(), over.is_some(), "{}", row.name);
+            let planes = planes.map(|frame| frame.to_record().expect("a record"));
+            for record in [planes, over.map(RecordFrame::into_record)] {
+                let record = record.unwrap_or_default();
                 assert!(output.starts_with(&record), "{}", row.name);
             }
             if let Some(oracle) = oracle::open() {
