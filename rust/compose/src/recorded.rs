@@ -269,7 +269,7 @@ pub fn apply_transforms_owned<'a, 'f>(
 }
 
 /// The tiles of a grid, each in its cell. Refusals: the descriptor's; 11 another number of tiles; 12,
-/// 13, 14. Where the tiles are a tray already, [`composite::grid`](crate::composite::grid) takes it.
+/// 13, 14. Where the tiles are a tray already, [`composite::grid`] takes it.
 pub fn composite_grid(desc: &GridDescriptor, tiles: &[RecordFrame]) -> Made {
     RecordFrame::from_record(composite::grid_of(desc, tiles)?)
 }

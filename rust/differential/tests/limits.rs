@@ -2,7 +2,7 @@
 //! many bytes as the call then writes.
 
 use compose::limits::{Ceiling, Excess, Limits};
-use compose::props::Colr;
+use compose::props::{Colr, Imir};
 use compose::{
     GridCanvas, HeifFrame, HeifPixelFormat, Refusal, Scene, composite, operation, record, scene,
     sys,
@@ -230,4 +230,32 @@ fn frames_keep_to_ceilings() {
     assert_eq!(above.excess(), excess(Ceiling::Pixels, 48, 24));
     assert_eq!((above.number(), above.name()), (4, "limit"));
     assert!(twice().is_ok());
+}
+
+/// What is made of a frame's bands is judged as a whole.
+#[test]
+fn frames_by_bands_keep_to_ceilings() {
+    let mut rng = Rng::new(35);
+    for _ in 0..500 {
+        let frame = generate::frame(&mut rng);
+        let (record, planes) = (frame.record(), heif(&frame));
+        let (x, w) = generate::span(&mut rng, frame.width);
+        let (y, h) = generate::span(&mut rng, frame.height);
+        let (axis, depth) = (rng.number(0..=1) as u8, rng.number(8..=16));
+        for limits in [NOTHING, NOTHING.with_max_pixels(1 << 30)] {
+            let part = limits.within(|| compose::crop(&planes, x, y, w, h));
+            let want = limits.within(|| operation::crop(&record, x, y, w, h));
+            assert_eq!(part.err(), want.err());
+            let mirrored = limits.within(|| compose::apply_imir(&planes, &Imir::new(axis)));
+            let want = limits.within(|| operation::imir(&record, axis));
+            assert!(
+                want.as_ref()
+                    .is_err_and(|refusal| refusal.excess().is_some())
+            );
+            assert_eq!(mirrored.err(), want.err());
+            let deep = limits.within(|| compose::rescale_depth(&planes, depth as u8));
+            let want = limits.within(|| operation::rescale_depth(&record, depth));
+            assert_eq!(deep.err(), want.err());
+        }
+    }
 }
