@@ -64,8 +64,8 @@ pub const MAX_PIXELS: Opt = Opt {
 pub const MAX_BYTES: Opt = Opt {
     name: "--max-bytes",
     value: "N",
-    about: "the most bytes of memory for what is made, and of a scene for as many to work in; 1073741824 \
-            (2^30) where nothing is said",
+    about: "the most bytes of memory for what is made: for a record; of a scene, for as many to work in; \
+            of another format, for the planes and the file, too; 1073741824 (2^30) where nothing is said",
 };
 
 /// What holds where neither of them is given: photographs are smaller.

@@ -436,6 +436,12 @@ fn ceilings_are_set_by_options() {
         let own = folder.done(&format!("help {command}"));
         assert!(own.contains("\n--max-pixels N ") && own.contains("\n--max-bytes N "));
     }
+    // The record, its planes and the file.
+    let to_ppm = "convert a.rec --matrix 6 -o new.ppm";
+    let above =
+        "compose convert: refused 4 (limit): 166 bytes of memory, and at most 165 are allowed;";
+    folder.fails(&format!("{to_ppm} --max-bytes 165"), 2, above);
+    folder.done(&format!("{to_ppm} --max-bytes 166"));
     folder.fails(
         "crop a.rec 0 0 6 4 -o new.rec --max-pixels all",
         1,

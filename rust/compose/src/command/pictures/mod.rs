@@ -13,8 +13,8 @@ use super::colour::Description;
 use super::files::{self, Output, about_info, read};
 use super::options::{FORCE, FORMAT, MATRIX};
 use super::words::Words;
-use compose::image::{Chroma, HeifFrame};
-use compose::record;
+use compose::image::{Chroma, HeifFrame, HeifPixelFormat};
+use compose::{Limits, record};
 use std::path::Path;
 
 /// A format of picture files.
@@ -102,6 +102,16 @@ impl Format {
     fn called(self) -> &'static Called {
         let called = FORMATS.iter().find(|called| called.format == self);
         called.expect("every format is called something")
+    }
+
+    /// The most bytes that a pixel of a layout takes in a file.
+    fn bytes_a_pixel(self, layout: HeifPixelFormat) -> u64 {
+        let channels = match self {
+            Self::Pgm => 1,
+            Self::Ppm => 3,
+            Self::Record | Self::Y4m | Self::Pam => layout.plane_count(),
+        };
+        (channels * layout.bytes_per_sample()) as u64
     }
 
     /// What `--format` names, if it is given.
@@ -324,10 +334,18 @@ impl Pictures {
     /// Writes a record that was made, in the format of the target.
     pub fn write(&self, words: &Words, target: &Target, made: &[u8]) -> Result<(), Failure> {
         let refused = |refusal| words.refused(refusal);
-        let about = about_info(&record::inspect(made).map_err(refused)?);
+        let info = record::inspect(made).map_err(refused)?;
+        let about = about_info(&info);
         if target.format == Format::Record {
             return target.out.write(made, &about);
         }
+        // The record, its planes and the file are there at once.
+        let pixels = u64::from(info.width) * u64::from(info.height);
+        let file = pixels * target.format.bytes_a_pixel(info.format());
+        let limits = Limits::current();
+        limits
+            .judge(pixels, 2 * made.len() as u64 + file)
+            .map_err(refused)?;
         let frame = HeifFrame::from_record(made).map_err(refused)?;
         let chroma = frame.format.chroma;
         let bytes = match target.format {

@@ -188,13 +188,12 @@ fn scale(sample: u16, most: u16, to: u16) -> u16 {
     ((sample * to + most / 2) / most) as u16
 }
 
-/// The samples of a picture, pixel by pixel; its chroma samples at each place that they cover.
-fn samples(frame: &HeifFrame, description: Description, channels: usize) -> Vec<u16> {
+/// The samples of a row, pixel by pixel; its chroma samples at each place that they cover.
+fn samples(frame: &HeifFrame, description: Description, channels: usize, y: u32) -> Vec<u16> {
     let format = frame.format;
     let top = format.max_value();
-    let places = (0..frame.height).flat_map(|y| (0..frame.width).map(move |x| (x, y)));
-    let mut samples = Vec::with_capacity(frame.width as usize * frame.height as usize * channels);
-    for (x, y) in places {
+    let mut samples = Vec::with_capacity(frame.width as usize * channels);
+    for x in 0..frame.width {
         if format.chroma == Chroma::Mono {
             let grey = if channels > 2 { 3 } else { 1 };
             samples.extend([frame.sample(0, x, y)].repeat(grey));
@@ -259,10 +258,14 @@ pub fn write(
         }
     };
     let mut bytes = head.into_bytes();
-    let samples = samples(frame, description, channels);
-    match most {
-        255 => bytes.extend(samples.iter().map(|sample| *sample as u8)),
-        _ => bytes.extend(samples.iter().flat_map(|sample| sample.to_be_bytes())),
+    let row = width as usize * channels * frame.format.bytes_per_sample();
+    bytes.reserve_exact(row * height as usize);
+    for y in 0..height {
+        let samples = samples(frame, description, channels, y);
+        match most {
+            255 => bytes.extend(samples.iter().map(|sample| *sample as u8)),
+            _ => bytes.extend(samples.iter().flat_map(|sample| sample.to_be_bytes())),
+        }
     }
     Ok(bytes)
 }

@@ -151,8 +151,11 @@ pub fn write(frame: &HeifFrame, full_range: Option<bool>) -> Result<Vec<u8>, Str
     };
     let head = format!("YUV4MPEG2 W{width} H{height} F25:1 Ip A1:1 C{name}{range}\nFRAME\n");
     let mut bytes = head.into_bytes();
-    for plane in frame.tight().planes {
-        bytes.extend_from_slice(&plane.data);
+    for plane in 0..frame.planes.len() {
+        let (_, rows) = frame.plane_dims(plane);
+        for y in 0..rows {
+            bytes.extend_from_slice(frame.row(plane, y));
+        }
     }
     Ok(bytes)
 }
