@@ -8,7 +8,7 @@ use crate::record::{RecordInfo, inspect};
 use crate::{Result, limits, operation};
 
 /// About how many bytes of a frame a band has.
-const BYTES: usize = 128 << 10;
+const BYTES: usize = 96 << 10;
 
 /// What is done to the record of a band.
 type Call = Box<dyn Fn(&[u8]) -> Result<Vec<u8>>>;
