@@ -274,6 +274,30 @@ library! {
         spare: &mut [u8],
     );
 
+    /// A chain on one record, in the same two buffers; an empty chain writes the record tight.
+    fn compose_transforms(
+        record: &[u8],
+        chain: &[u8],
+        essential_only: u8,
+        output: &mut [u8],
+        spare: &mut [u8],
+    );
+
+    /// The length of the tight record of a form.
+    fn compose_record_size(width: u32, height: u32, chroma: u32, depth: u32, alpha: u32);
+
+    /// The least length of output and of the spare for `compose_grid_scene`.
+    fn compose_grid_scene_room(body: &[u8], tray: &[u8], chain: &[u8], essential_only: u8);
+
+    /// The same for `compose_overlay_scene`, whatever its colour.
+    fn compose_overlay_scene_room(
+        body: &[u8],
+        tray: &[u8],
+        chain: &[u8],
+        essential_only: u8,
+        premultiplied: &[u8],
+    );
+
     /// The tile and the spot that a final place of a grid scene shows, in 10 words: 1 an input or 0
     /// fill, the input, the spot's column and row; the chain's rectangle as x, y, width, height; 1
     /// exchanged or 0, quarter turns.

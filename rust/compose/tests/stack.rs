@@ -80,6 +80,14 @@ fn add_reading(calls: &mut Calls) {
             sys::compose_record(&one, &mut [0; 17])
         });
         calls.add("compose_tray", move || sys::compose_tray(&several));
+        let [chroma, depth, alpha] = [
+            format.chroma as u32,
+            u32::from(format.bit_depth),
+            u32::from(format.has_alpha),
+        ];
+        calls.add("compose_record_size", move || {
+            sys::compose_record_size(75, 51, chroma, depth, alpha)
+        });
     }
     let grid = grid_body().to_bytes();
     calls.add("compose_grid_descriptor", move || {
@@ -154,6 +162,11 @@ fn add_operations(calls: &mut Calls, format: HeifPixelFormat) {
             sys::compose_attach_alpha(&one, &alpha, &mut out)
         });
     }
+    let (one, entries) = (record(200, 160, format), properties(true));
+    let (mut out, mut spare) = (room(), room());
+    calls.add("compose_transforms", move || {
+        sys::compose_transforms(&one, &entries, 0, &mut out, &mut spare)
+    });
 }
 
 /// Six tiles on a canvas that cuts some of them.
@@ -179,6 +192,10 @@ fn add_grids(calls: &mut Calls, format: HeifPixelFormat) {
         let (mut out, mut spare) = (room(), room());
         calls.add("compose_grid_scene", move || {
             sys::compose_grid_scene(&lent, &tray, &entries, 0, &mut out, &mut spare)
+        });
+        let (lent, tray, entries) = (body.clone(), tiles.clone(), properties(true));
+        calls.add("compose_grid_scene_room", move || {
+            sys::compose_grid_scene_room(&lent, &tray, &entries, 0)
         });
         let (lent, entries) = (body.clone(), properties(false));
         calls.add("compose_grid_point", move || {
@@ -210,6 +227,10 @@ fn add_overlays(calls: &mut Calls, format: HeifPixelFormat) {
                 &mut out,
                 &mut spare,
             )
+        });
+        let (lent, tray, entries) = (body.clone(), inputs.clone(), properties(true));
+        calls.add("compose_overlay_scene_room", move || {
+            sys::compose_overlay_scene_room(&lent, &tray, &entries, 0, &multiplied)
         });
         if format.has_alpha {
             continue;
