@@ -79,8 +79,8 @@ pub(crate) fn tiles_fit(grid: &Grid, tiles: &[Frame]) -> Result<(), Refusal> {
     Ok(())
 }
 
-/// The tiles of a grid, each in its cell: 12, then tile by tile 13 and 14.
-pub fn composite_grid(grid: &Grid, tiles: &[Frame]) -> Result<Frame, Refusal> {
+/// The form of a grid's canvas: 12, then tile by tile 13 and 14.
+pub(crate) fn grid_form(grid: &Grid, tiles: &[Frame]) -> Result<Frame, Refusal> {
     tiles_fit(grid, tiles)?;
     let first = &tiles[0];
     let promoted = promotes(
@@ -90,9 +90,15 @@ pub fn composite_grid(grid: &Grid, tiles: &[Frame]) -> Result<Frame, Refusal> {
     );
     let alpha = u8::from(tiles.iter().any(|tile| tile.alpha != 0));
     let chroma = canvas_chroma(first, promoted);
-    let form = Frame::empty((grid.width, grid.height), chroma, first.depth, alpha);
+    let size = (grid.width, grid.height);
+    Ok(Frame::empty(size, chroma, first.depth, alpha))
+}
+
+/// The tiles of a grid, each in its cell.
+pub fn composite_grid(grid: &Grid, tiles: &[Frame]) -> Result<Frame, Refusal> {
+    let form = grid_form(grid, tiles)?;
     Ok(by_place(form, |part, x, y| {
-        let (input, x, y) = tile_at(grid, first, x, y);
+        let (input, x, y) = tile_at(grid, &tiles[0], x, y);
         tiles[input].covering(part, x, y)
     }))
 }
@@ -144,19 +150,15 @@ pub(crate) fn one_depth<'a>(frames: impl IntoIterator<Item = &'a Frame>) -> Resu
     Ok(())
 }
 
-/// The inputs of an overlay, the last on top: 14, then 16.
-pub fn composite_overlay(
-    overlay: &Overlay,
-    inputs: &[OverlayInput],
-    colour: Option<Colour>,
-) -> Result<Frame, Refusal> {
+/// The form of an overlay's canvas, whatever its colour description: 14, then 16.
+pub(crate) fn overlay_form(overlay: &Overlay, inputs: &[OverlayInput]) -> Result<Frame, Refusal> {
     let frames = || inputs.iter().map(|input| &input.frame);
     one_depth(frames())?;
     if frames().any(alpha_above_top) {
         return Err(refusal::ALPHA);
     }
     let first = &inputs[0].frame;
-    let fill = canvas_fill(overlay, first, colour)?;
+    let [.., fill_alpha] = canvas_fill(overlay, first, None)?;
     let along = |offsets: Vec<i32>, sides: Vec<u32>, canvas: u32| -> Vec<u32> {
         let offsets = offsets.into_iter().map(i32::unsigned_abs);
         offsets.chain(sides).chain([canvas]).collect()
@@ -167,13 +169,23 @@ pub fn composite_overlay(
     let promoted = first.chroma != Chroma::Mono && frames().any(|frame| frame.alpha != 0)
         || frames().any(|frame| frame.chroma != first.chroma)
         || promotes(first, &across, &down);
-    let top = u64::from(first.top());
-    let form = Frame::empty(
+    Ok(Frame::empty(
         (overlay.width, overlay.height),
         canvas_chroma(first, promoted),
         first.depth,
-        u8::from(u64::from(fill[3]) < top),
-    );
+        u8::from(fill_alpha < first.top()),
+    ))
+}
+
+/// The inputs of an overlay, the last on top.
+pub fn composite_overlay(
+    overlay: &Overlay,
+    inputs: &[OverlayInput],
+    colour: Option<Colour>,
+) -> Result<Frame, Refusal> {
+    let form = overlay_form(overlay, inputs)?;
+    let fill = canvas_fill(overlay, &inputs[0].frame, colour)?;
+    let top = u64::from(form.top());
     Ok(by_place(form, |part, x, y| {
         // The colour is multiplied by the opacity, and by top once more.
         let mut colour = u64::from(fill[part]) * u64::from(fill[3]);

@@ -1,6 +1,6 @@
 //! Document 01 as plain Rust: house numbers, frame records, trays, chains and descriptor bodies, with
 //! the refusals of each; the operations on one record, fill colours, grids and overlays, scenes and
-//! points, and the text of the steps program.
+//! points, chains on one record, room, and the text of the steps program.
 //! All of it is written from the paper and shares nothing with the composer or with the published
 //! Rust, so that both can be held against it.
 //!
@@ -19,6 +19,7 @@ mod outcome;
 mod point;
 mod record;
 pub mod refusal;
+mod room;
 mod scene;
 mod steps;
 
@@ -38,5 +39,6 @@ pub use record::{
     tray_count, untested_tray,
 };
 pub use refusal::Refusal;
-pub use scene::{Marks, Scene, SceneParts, grid_scene, overlay_scene};
+pub use room::{grid_room, overlay_room, record_size, transforms_room};
+pub use scene::{Marks, Scene, SceneParts, grid_scene, overlay_scene, transforms};
 pub use steps::{Size, parse_steps, steps_text};

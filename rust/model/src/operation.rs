@@ -78,6 +78,13 @@ fn drawn(
     })
 }
 
+impl Frame {
+    /// The same picture, each plane's stride the bytes of a row, and no spare data.
+    pub fn tightened(&self) -> Frame {
+        drawn(self, (self.width, self.height), false, |x, y| (x, y))
+    }
+}
+
 /// Whether an odd number falls on a halved axis.
 pub(crate) fn promotes(frame: &Frame, across: &[u32], down: &[u32]) -> bool {
     let odd = |numbers: &[u32]| numbers.iter().any(|number| number % 2 == 1);

@@ -227,14 +227,9 @@ impl Frame {
         }
     }
 
-    /// The five header numbers, all read before any is judged, then in document 01's order:
+    /// The frame of a header's five numbers, without its planes, judged in document 01's order:
     /// 5 chroma or alpha, 6 depth, 3 a side 0, 4 above L.
-    fn read_header(reader: &mut Reader) -> Result<Self, Refusal> {
-        let mut numbers = [0u32; 5];
-        for number in &mut numbers {
-            *number = reader.number()?;
-        }
-        let [width, height, chroma, depth, alpha] = numbers;
+    pub fn of_header([width, height, chroma, depth, alpha]: [u32; 5]) -> Result<Self, Refusal> {
         let chroma = *Chroma::ALL.get(chroma as usize).ok_or(refusal::MALFORMED)?;
         if alpha > 1 {
             return Err(refusal::MALFORMED);
@@ -256,9 +251,14 @@ impl Frame {
         ))
     }
 
-    /// A frame from the front of `reader`; the planes are held to the header only if `tested`.
+    /// A frame from the front of `reader`; the planes are held to the header only if `tested`. The
+    /// numbers of the header are all read before any is judged.
     fn read(reader: &mut Reader, tested: bool) -> Result<Self, Refusal> {
-        let mut frame = Self::read_header(reader)?;
+        let mut header = [0u32; 5];
+        for number in &mut header {
+            *number = reader.number()?;
+        }
+        let mut frame = Self::of_header(header)?;
         for plane in 0..frame.plane_count() {
             let stride = reader.number()? as usize;
             let length = reader.number()? as usize;

@@ -1,11 +1,12 @@
-//! The scene calls (document 01, "The scene call" and "Refusals in order").
+//! The scene calls, and a chain on one record (document 01, "The scene call" and "Refusals in
+//! order").
 
 use crate::chain::{Entry, Property, parse_chain};
 use crate::composite::{composite_grid, composite_overlay};
 use crate::derived::{parse_grid, parse_overlay};
 use crate::operation::Operation;
 use crate::oracle::{Colour, Grid, Overlay, OverlayInput};
-use crate::record::{Frame, parse_tray, tray_count};
+use crate::record::{Frame, parse_record, parse_tray, tray_count};
 use crate::refusal::{self, Refusal};
 
 /// What scene and point calls are handed, for grids and overlays alike.
@@ -129,4 +130,12 @@ pub fn overlay_scene(parts: &SceneParts, marks: &Marks) -> Result<Scene, Refusal
     let (chain, overlay, inputs) = read_overlay(parts, marks.premultiplied)?;
     let composed = composite_overlay(&overlay, &inputs, marks.colour)?;
     run_chain(composed, &chain, parts.essential_only)
+}
+
+/// A chain on one record, which an empty chain writes tight: the record's refusals, the chain's
+/// form, the entries' in turn. 17 and the buffers are a scene's.
+pub fn transforms(record: &[u8], chain: &[u8], essential_only: bool) -> Result<Scene, Refusal> {
+    let frame = parse_record(record)?;
+    let chain = parse_chain(chain)?;
+    run_chain(frame.tightened(), &chain, essential_only)
 }
