@@ -205,7 +205,8 @@ impl Comparison {
     /// How many cases a long run judges: a million, or fewer where a case takes longer.
     pub fn long(&self) -> u64 {
         match self.name {
-            "iscl" | "session" | "grid-scene" | "overlay-scene" | "point" => 100_000,
+            "iscl" | "session" | "grid-scene" | "overlay-scene" | "transforms" | "grid-room"
+            | "overlay-room" | "point" => 100_000,
             _ => 1_000_000,
         }
     }

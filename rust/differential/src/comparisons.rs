@@ -6,6 +6,7 @@ use crate::expected::{self, Call, Stop, Want};
 use crate::generate;
 use crate::ours::{self, Answer};
 use crate::rng::Rng;
+use crate::rooms;
 use model::{
     Clap, Colour, Entry, Frame, Grid, Iscl, Marks, Named, Operation, Oracle, Outcome, Overlay,
     OverlayInput, Point, Property, Reader, Rectangle, Scene, SceneParts, Sighted, Size,
@@ -133,6 +134,26 @@ pub const ALL: &[Comparison] = &[
         judge: |sides, input| scene(sides, input, true),
     },
     Comparison {
+        name: "transforms",
+        generate: rooms::transforms_input,
+        judge: rooms::transforms,
+    },
+    Comparison {
+        name: "record-size",
+        generate: rooms::record_size_input,
+        judge: rooms::record_size,
+    },
+    Comparison {
+        name: "grid-room",
+        generate: |rng| rooms::room_input(rng, false),
+        judge: |sides, input| rooms::room(sides, input, false),
+    },
+    Comparison {
+        name: "overlay-room",
+        generate: |rng| rooms::room_input(rng, true),
+        judge: |sides, input| rooms::room(sides, input, true),
+    },
+    Comparison {
         name: "point",
         generate: point_input,
         judge: point,
@@ -141,7 +162,7 @@ pub const ALL: &[Comparison] = &[
 
 /// What both builds want of a call: the same, and no panic. `departs` says how another side does
 /// not answer it.
-fn agree<T: PartialEq + Debug>(
+pub(crate) fn agree<T: PartialEq + Debug>(
     [plain, checked]: [Want<T>; 2],
     departs: impl FnOnce(&Answer<T>) -> Option<String>,
 ) -> Verdict {
@@ -162,7 +183,7 @@ fn agree<T: PartialEq + Debug>(
 }
 
 /// What is written must be a record.
-fn no_record(want: &Answer<impl AsRef<[u8]>>) -> Option<String> {
+pub(crate) fn no_record(want: &Answer<impl AsRef<[u8]>>) -> Option<String> {
     let number = parse_record(want.as_ref().ok()?.as_ref()).err()?;
     Some(format!("the record written is refused {number}"))
 }
@@ -205,7 +226,10 @@ fn record_input(rng: &mut Rng) -> Input {
 }
 
 /// How the model's answer departs from `want`.
-fn model_answers<T: PartialEq + Debug>(want: &Answer<T>, model: &Answer<T>) -> Option<String> {
+pub(crate) fn model_answers<T: PartialEq + Debug>(
+    want: &Answer<T>,
+    model: &Answer<T>,
+) -> Option<String> {
     (model != want).then(|| format!("the model {model:?}, wanted {want:?}"))
 }
 
@@ -536,7 +560,7 @@ fn operation_fields(rng: &mut Rng, kind: Kind, size: (u32, u32)) -> Vec<i64> {
 }
 
 /// A frame's record, once in eight any but a valid one as a rule.
-fn record_of(rng: &mut Rng, frame: &Frame) -> Vec<u8> {
+pub(crate) fn record_of(rng: &mut Rng, frame: &Frame) -> Vec<u8> {
     match rng.below(16) {
         0 => damage::any_record(rng),
         1 => {
@@ -744,7 +768,7 @@ fn overlay_input(rng: &mut Rng) -> Input {
 }
 
 /// A scene; once in eight one with known faults.
-fn scene_input(rng: &mut Rng, overlay: bool) -> Input {
+pub(crate) fn scene_input(rng: &mut Rng, overlay: bool) -> Input {
     if rng.once_in(8) {
         let faults = damage::some_faults(rng, |fault: SceneFault| fault.fits(overlay));
         let draft = damage::faulty_scene(rng, &faults, overlay);
@@ -832,7 +856,11 @@ fn scene(sides: &Sides, input: &Input, overlay: bool) -> Verdict {
     })
 }
 
-fn expected_scene(build: &dyn Oracle, parts: &SceneParts, marks: Option<&Marks>) -> Want<Scene> {
+pub(crate) fn expected_scene(
+    build: &dyn Oracle,
+    parts: &SceneParts,
+    marks: Option<&Marks>,
+) -> Want<Scene> {
     match marks {
         Some(marks) => expected::overlay_scene(build, parts, marks),
         None => expected::grid_scene(build, parts),

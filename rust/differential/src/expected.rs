@@ -267,6 +267,34 @@ pub fn overlay_scene(oracle: &dyn Oracle, parts: &SceneParts, marks: &Marks) -> 
     run_chain(oracle, composed, &chain, parts.essential_only)
 }
 
+/// A chain on one record: the record's refusals, the chain's form, the entries in turn, from the
+/// tight record on. The whole is held against `apply_transforms` on the record as it is, too.
+pub fn transforms(
+    oracle: &dyn Oracle,
+    record: &[u8],
+    chain: &[u8],
+    essential_only: bool,
+) -> Want<Scene> {
+    let frame = parse_record(record)?;
+    let chain = parse_chain(chain)?;
+    let tight = settle(oracle.tight(&frame))?;
+    let made = run_chain(oracle, tight, &chain, essential_only)?;
+    let whole = settle(oracle.apply_transforms(&frame, &chain, essential_only))?;
+    if settle(oracle.tight(&whole))?.record() != made.record {
+        return Err(Stop::Broke(
+            "apply_transforms departs from its steps on a tight record".into(),
+        ));
+    }
+    Ok(made)
+}
+
+/// The length of what an operation writes that ends with the form of `frame`, a mirror: `frame` is
+/// of that form, with strides and data of any length.
+pub fn record_size(oracle: &dyn Oracle, frame: &Frame) -> Want<u64> {
+    let mirrored = settle(oracle.apply_imir(frame, 0))?;
+    Ok(mirrored.record().len() as u64)
+}
+
 /// One call of a canvas session.
 #[derive(Clone, Copy, Debug, PartialEq, Eq)]
 pub enum Call<'a> {

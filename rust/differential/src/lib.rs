@@ -9,6 +9,7 @@ pub mod generate;
 pub mod ours;
 pub mod refusals;
 pub mod rng;
+mod rooms;
 pub mod shaped;
 mod shrink;
 pub mod store;

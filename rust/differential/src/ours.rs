@@ -126,6 +126,33 @@ pub trait Composer: Sync {
         None
     }
 
+    /// A chain on one record.
+    fn transforms(
+        &self,
+        _record: &[u8],
+        _chain: &[u8],
+        _essential_only: bool,
+        _output: &mut [u8],
+        _spare: &mut [u8],
+    ) -> Option<Answer<usize>> {
+        None
+    }
+
+    /// The length of the tight record of a header's five numbers.
+    fn record_size(&self, _header: [u32; 5]) -> Option<Answer<u64>> {
+        None
+    }
+
+    /// The least length of output and spare that a grid's scene takes.
+    fn grid_room(&self, _: &SceneParts) -> Option<Answer<u64>> {
+        None
+    }
+
+    /// The same of an overlay's.
+    fn overlay_room(&self, _: &SceneParts, _premultiplied: &[u8]) -> Option<Answer<u64>> {
+        None
+    }
+
     /// What a column and a row of a grid's final picture show, in ten words at the start of
     /// `_words` ([`model::Point::words`]).
     fn grid_point(&self, _: &SceneParts, _: Size, _words: &mut [u32]) -> Option<Answer<u64>> {
@@ -341,6 +368,46 @@ impl Composer for Linked {
         answer(written.map(|length| length as usize))
     }
 
+    fn transforms(
+        &self,
+        record: &[u8],
+        chain: &[u8],
+        essential_only: bool,
+        output: &mut [u8],
+        spare: &mut [u8],
+    ) -> Option<Answer<usize>> {
+        let flag = u8::from(essential_only);
+        let written = sys::compose_transforms(record, chain, flag, output, spare);
+        answer(written.map(|length| length as usize))
+    }
+
+    fn record_size(&self, [width, height, chroma, depth, alpha]: [u32; 5]) -> Option<Answer<u64>> {
+        answer(sys::compose_record_size(
+            width, height, chroma, depth, alpha,
+        ))
+    }
+
+    fn grid_room(&self, parts: &SceneParts) -> Option<Answer<u64>> {
+        let flag = u8::from(parts.essential_only);
+        answer(sys::compose_grid_scene_room(
+            parts.body,
+            parts.tray,
+            parts.chain,
+            flag,
+        ))
+    }
+
+    fn overlay_room(&self, parts: &SceneParts, premultiplied: &[u8]) -> Option<Answer<u64>> {
+        let flag = u8::from(parts.essential_only);
+        answer(sys::compose_overlay_scene_room(
+            parts.body,
+            parts.tray,
+            parts.chain,
+            flag,
+            premultiplied,
+        ))
+    }
+
     fn grid_point(
         &self,
         parts: &SceneParts,
@@ -486,6 +553,24 @@ pub fn composes(
         let [output, spare] = lengths;
         let want = want.clone().and_then(|scene| scene.lent(output, spare));
         lend(lengths, want, |[output, spare]| call(output, spare))
+    })
+}
+
+/// How a scene call departs from a room: lent so many bytes of output and of spare it must not say
+/// 17, and it must with a byte less of either.
+pub fn suffices(
+    room: usize,
+    call: impl Fn(&mut [u8], &mut [u8]) -> Option<Answer<usize>>,
+) -> Option<String> {
+    let pairs = [
+        (room, room, false),
+        (room - 1, room, true),
+        (room, room - 1, true),
+    ];
+    pairs.into_iter().find_map(|(output, spare, short)| {
+        let ours = call(&mut vec![BEFORE; output], &mut vec![BEFORE; spare])?;
+        let shows = || format!("a room of {room}, lent {output} and {spare}: {ours:?}");
+        ((ours == Err(ROOM)) != short).then(shows)
     })
 }
 
