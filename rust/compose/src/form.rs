@@ -5,6 +5,8 @@ use crate::derived::{GridDescriptor, OverlayDescriptor};
 use crate::image::{Chroma, HeifPixelFormat, MAX_FRAME_PIXELS};
 use crate::props::{CropRect, Property};
 use crate::record::{RecordInfo, number_size, push_number};
+use crate::lend::narrow;
+use crate::sys;
 use crate::transform::needs_444;
 
 /// What the first five numbers of a record say.
@@ -53,10 +55,15 @@ impl Form {
         push_numbers(record, [u32::from(self.format.has_alpha)]);
     }
 
-    /// The length of the tight record of a picture of this form (document 01, "What is handed in").
+    /// The length of the tight record of a picture of this form; 0 where there is none.
     pub fn record_size(&self) -> usize {
-        let planes = (0..self.format.plane_count()).map(|plane| plane_size(self.plane(plane)));
-        self.head_size() + planes.sum::<usize>()
+        let HeifPixelFormat {
+            chroma,
+            bit_depth,
+            has_alpha,
+        } = self.format;
+        let (chroma, depth, alpha) = (chroma.idc().into(), bit_depth.into(), has_alpha.into());
+        sys::compose_record_size(self.width, self.height, chroma, depth, alpha).map_or(0, narrow)
     }
 
     fn with_format(self, format: HeifPixelFormat) -> Self {

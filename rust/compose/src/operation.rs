@@ -17,7 +17,7 @@
 
 use crate::Result;
 use crate::form::Form;
-use crate::lend::written;
+use crate::lend::{composed, written};
 use crate::plan::{self, Asked};
 use crate::props::{Clap, CropRect, Iscl, Property};
 use crate::record::{RecordInfo, inspect};
@@ -74,6 +74,16 @@ pub fn irot(record: &[u8], angle: u8) -> Result<Vec<u8>> {
 pub fn imir(record: &[u8], axis: u8) -> Result<Vec<u8>> {
     let asked = inspect(record)?.form().into();
     written(Some(asked), |room| Fresh::compose_imir(record, axis, room))
+}
+
+/// A chain of properties on one record, under `essential_only` the essential ones alone; without one
+/// that is applied the record, tight. Refusals: the record's; the chain's form; each applied
+/// property's in turn.
+pub fn transforms(record: &[u8], chain: &[u8], essential_only: bool) -> Result<Vec<u8>> {
+    let asked = plan::along(inspect(record)?.form(), chain, essential_only);
+    composed(asked, |room| {
+        Fresh::compose_transforms(record, chain, essential_only.into(), room)
+    })
 }
 
 /// A record scaled by an iscl property; an unchanged size is the record. Refusals: the record's; 7,

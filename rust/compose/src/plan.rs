@@ -3,9 +3,10 @@
 
 use crate::derived::{GridDescriptor, OverlayDescriptor};
 use crate::form::{Form, plane_size};
+use crate::lend::narrow;
 use crate::record::{PlaneInfo, RecordInfo};
 use crate::scene::Scene;
-use crate::{chain, tray};
+use crate::{chain, sys, tray};
 
 /// What a call asks for.
 #[derive(Clone, Copy, Debug, PartialEq, Eq)]
@@ -79,18 +80,36 @@ pub(crate) fn overlay(body: &[u8], tray: &[u8]) -> Option<Form> {
     Form::of_overlay(&overlay, &inputs)
 }
 
-/// The longest of a scene's composed record and the records after each property.
-pub(crate) fn scene(scene: &Scene) -> Option<Asked> {
-    let mut form = match scene.marks {
-        None => grid(scene.body, scene.tray)?,
-        Some(_) => overlay(scene.body, scene.tray)?,
-    };
+/// The largest of a picture of that form and those after each applied property of a chain.
+pub(crate) fn along(mut form: Form, chain: &[u8], essential_only: bool) -> Option<Asked> {
     let mut asked = Asked::from(form);
-    for entry in chain::entries(scene.chain).ok()? {
-        if entry.essential || !scene.essential_only {
+    for entry in chain::entries(chain).ok()? {
+        if entry.essential || !essential_only {
             form = form.after(&entry.property)?;
             asked = asked.or(form.into());
         }
     }
     Some(asked)
+}
+
+/// The longest of a scene's composed record and the records after each property.
+pub(crate) fn scene(scene: &Scene) -> Option<Asked> {
+    let Scene {
+        body, tray, chain, ..
+    } = *scene;
+    let flag = u8::from(scene.essential_only);
+    let (form, room) = match &scene.marks {
+        None => (
+            grid(body, tray)?,
+            sys::compose_grid_scene_room(body, tray, chain, flag),
+        ),
+        Some(marks) => (
+            overlay(body, tray)?,
+            sys::compose_overlay_scene_room(body, tray, chain, flag, marks.premultiplied),
+        ),
+    };
+    Some(Asked {
+        bytes: narrow(room.ok()?),
+        ..along(form, chain, scene.essential_only)?
+    })
 }

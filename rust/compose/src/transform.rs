@@ -203,14 +203,31 @@ pub(crate) fn applied<'a>(
     Ok(applied.collect())
 }
 
+/// Whether a property writes a record of its own, whatever the picture: a turn by none and an
+/// unchanged size hand theirs back.
+fn redraws(property: &Property) -> bool {
+    match property {
+        Property::Clap(_) | Property::Imir(_) => true,
+        Property::Irot(irot) => irot.angle % 4 != 0,
+        Property::Iscl(_) | Property::Other => false,
+    }
+}
+
 /// The record after several, one at least.
 pub(crate) fn all_after(record: &[u8], properties: &[Property]) -> Result<Vec<u8>> {
     let (first, rest) = properties.split_first().expect("a property");
-    let mut record = after(record, first)?;
-    for property in rest {
-        record = after(&record, property)?;
+    if rest.is_empty() || !properties.iter().any(redraws) {
+        let mut record = after(record, first)?;
+        for property in rest {
+            record = after(&record, property)?;
+        }
+        return Ok(record);
     }
-    Ok(record)
+    let entries: Vec<PropertyEntry> = (1..)
+        .zip(properties)
+        .map(|(index, property)| PropertyEntry::new(index, true, *property))
+        .collect();
+    operation::transforms(record, &chain::join(&entries)?, false)
 }
 
 /// The properties of `chain` in turn, under `essential_only` the essential ones alone; without one
