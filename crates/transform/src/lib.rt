@@ -125,12 +125,13 @@ fn still_move(m: Form) -> Move
     requires { ⌜ FormSound m ⌝ }
     ensures { λ v. ⌜ v ≡ stillMove m ⌝ }
 {
+    let still = false;
     Move {
         form: m,
-        promoted: false,
-        swapped: false,
-        across: end_axis(false, m.width),
-        down: end_axis(false, m.height),
+        promoted: still,
+        swapped: still,
+        across: end_axis(still, m.width),
+        down: end_axis(still, m.height),
     }
 }
 

@@ -165,13 +165,7 @@ turnForm m q3 = quarterMove m false true .form
 
 -- a picture as it is
 unfoldable pub stillMove : Form → Move
-stillMove m = record {
-  form = m;
-  promoted = false;
-  swapped = false;
-  across = endAxis false (m .width);
-  down = endAxis false (m .height);
-}
+stillMove m = record { form = m; promoted = false; swapped = false; across = endAxis false (m .width); down = endAxis false (m .height) }
 
 unfoldable pub mirrorMove : Form → Bool → Move
 mirrorMove m sideways = record {
