@@ -4,6 +4,7 @@
  */
 #include "compose.h"
 #include <stdio.h>
+#include <stdlib.h>
 
 /* One row of two tiles, on a canvas of 4 x 2. */
 static const uint8_t body[] = {0, 0, 0, 1, 0, 4, 0, 2};
@@ -48,14 +49,21 @@ static void ask(uint32_t column, uint32_t row)
 
 int main(void)
 {
-    /* Both must have room for the longest of the composed record and the turned one. */
-    uint8_t output[64], spare[64];
-    uint64_t length = compose_grid_scene(body, sizeof body, tray, sizeof tray, chain, sizeof chain, 0, output,
-                                         sizeof output, spare, sizeof spare);
+    /* Output and spare must have room for the longest of the composed record and the turned one. */
+    uint64_t room = compose_grid_scene_room(body, sizeof body, tray, sizeof tray, chain, sizeof chain, 0);
+    if (refused(room))
+        return 1;
+    uint8_t *output = (uint8_t *)malloc(room), *spare = (uint8_t *)malloc(room);
+    if (!output || !spare)
+        return 1;
+    uint64_t length = compose_grid_scene(body, sizeof body, tray, sizeof tray, chain, sizeof chain, 0, output, room,
+                                         spare, room);
     if (refused(length))
         return 1;
     print(output, (size_t)length);
     ask(0, 0);
     ask(2, 0);
+    free(output);
+    free(spare);
     return 0;
 }
