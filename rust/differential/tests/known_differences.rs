@@ -14,6 +14,7 @@
 //! | fill at depths from 32 | red, no nclx, depth 40 | 6 | 76 85 255 (the depth mod 32) | panics at `1 << depth`, "attempt to shift left with overflow" (compose.rs:599) |
 //! | fill, matrix 0, at depths up to 31 | red, matrix 0, depth 7 | 6 | 0 0 127 | the same |
 //! | a chain of 257 entries | 257 × imir 1 on `020100080002020102` | 4 | accepts, `02 01` | accepts, `02 01` |
+//! | a chain that draws nothing | `010100080002020509` (stride 2, a spare byte), no entries, or irot 0 | the tight record, `0101000800010105` | the frame as it came, stride 2 | the same |
 //! | a record that is never validated | imir 1 of `0201000800020105` | 5 | panics, "range end index 2 out of range for slice of length 1" (image.rs:358) | the same |
 //! | a depth that `validate` does not look at | `0101000700010105` and `010100110002020500` | 6 | `validate` accepts | `validate` accepts |
 //! | the size after an iscl | 1 × 1, iscl 65535/1, 65535/1 | 4 | `Iscl::output_size` and `ItemProperties::output_size` accept, 65,535 × 65,535; `apply_iscl` says "limit exceeded" | the same |
@@ -191,6 +192,24 @@ fn a_chain_of_257_entries() {
         assert_eq!(size, Outcome::Done((2, 1)));
     });
     assert_eq!(Linked.chain(&chain_bytes(&[mirror; 257])), Some(Err(4)));
+}
+
+#[test]
+fn a_chain_that_draws_nothing() {
+    let record = bytes("010100080002020509");
+    let loose = parse_untested(&record).expect("a record");
+    let turned_by_none = [Entry::new(true, Property::Irot(0))];
+    for chain in [&[], &turned_by_none[..]] {
+        let (mut output, mut spare) = ([7; 8], [7; 8]);
+        let entries = chain_bytes(chain);
+        let written = Linked.transforms(&record, &entries, false, &mut output, &mut spare);
+        assert_eq!(written, Some(Ok(8)));
+        assert_eq!(output.as_slice(), bytes("0101000800010105"));
+        on_each_build(|oracle| {
+            let left = oracle.apply_transforms(&loose, chain, false);
+            assert_eq!(left, Outcome::Done(loose.clone()));
+        });
+    }
 }
 
 #[test]
