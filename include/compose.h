@@ -150,10 +150,10 @@ uint64_t compose_overlay(const uint8_t *body, size_t body_len, const uint8_t *tr
                          const uint8_t *premultiplied, size_t premultiplied_len, uint8_t colour, uint16_t matrix,
                          uint8_t full_range, uint8_t *out, size_t out_len);
 
-/* A grid or an overlay composed, then a chain of transforms. Each answers the length of the record at the start of output;
- * past it output is zero, and the spare, which must be as long, is all zero. A refusal leaves both as they were. An
- * essential_only of 0 applies every entry of the chain. 17 is an output or a spare shorter than the longest of the composed
- * record and the records after each entry. */
+/* A grid composed, an overlay composed, or one record, then a chain of transforms. Each answers the length of the record at
+ * the start of output; past it output is zero, and the spare, which must be as long, is all zero. A refusal leaves both as
+ * they were. An essential_only of 0 applies every entry of the chain. 17 is an output or a spare shorter than the longest of
+ * the composed record, or the one record made tight, and the records after each entry. */
 
 /* A grid. Refusals: 5 a tray count that cannot be read; the chain's; the body's; 11; the records'; 12; 13 and 14; the
  * entries' in turn; 17. */
