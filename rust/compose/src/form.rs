@@ -3,9 +3,9 @@
 
 use crate::derived::{GridDescriptor, OverlayDescriptor};
 use crate::image::{Chroma, HeifPixelFormat, MAX_FRAME_PIXELS};
+use crate::lend::narrow;
 use crate::props::{CropRect, Property};
 use crate::record::{RecordInfo, number_size, push_number};
-use crate::lend::narrow;
 use crate::sys;
 use crate::transform::needs_444;
 
