@@ -121,6 +121,7 @@ fn mirror_move(m: Form, sideways: bool) -> Move
     }
 }
 
+// A picture as it is: nothing is promoted, no axes are swapped, and none runs back.
 fn still_move(m: Form) -> Move
     requires { ⌜ FormSound m ⌝ }
     ensures { λ v. ⌜ v ≡ stillMove m ⌝ }
