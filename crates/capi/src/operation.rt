@@ -4,10 +4,10 @@ ghost use lib.ListN.{length};
 ghost use Rattle.laws.specs.Out.{answerOf, written};
 ghost use Rattle.transform.specs.Run.{clapRun, cropRun, imirRun, irotRun};
 ghost use Rattle.words.specs.Code.{answerCode};
-use props::Clap;
-use props::CropRect;
 use props::Imir;
 use props::Irot;
+use sizes::Clap;
+use sizes::CropRect;
 
 // The part of a record in a rectangle. Refusals: the record's, 9, 17.
 #[no_mangle]

@@ -8,9 +8,9 @@ ghost use Rattle.words.specs.Properties.{chainCount, clapOf, clapWords, isclOf,
 use image::SizeAnswer;
 use laws::Refusal;
 use props::ChainRead;
-use props::Clap;
-use props::Iscl;
-use props::Resolved;
+use sizes::Clap;
+use sizes::Iscl;
+use sizes::Resolved;
 
 // How many entries a chain has. Refusals: the chain's.
 #[no_mangle]

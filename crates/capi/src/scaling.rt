@@ -4,7 +4,7 @@ ghost use lib.ListN.{length};
 ghost use Rattle.laws.specs.Out.{answerOf, written};
 ghost use Rattle.resample.specs.Run.{attachRun, depthRun, isclRun, nearestRun};
 ghost use Rattle.words.specs.Code.{answerCode};
-use props::Iscl;
+use sizes::Iscl;
 
 // A record scaled by an iscl property. Refusals: the record's, 7, 10, 4, 17.
 #[no_mangle]

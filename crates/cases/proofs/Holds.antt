@@ -17,10 +17,10 @@ use Rattle.fill.specs.Rounded.{wholeOf}
 use Rattle.derived.specs.Canvas.{canvasAt, fieldBytes, startOf}
 use Rattle.derived.specs.Grid.{gridAt, gridOf}
 use Rattle.derived.specs.Overlay.{fillAt, horizontalAt, inputsOf, offsetPlace, overlayOf, placementAt, signedAt, verticalAt}
-use Rattle.props.specs.Aperture.{axisOf, edgeOf, resolveOf}
+use Rattle.sizes.specs.Aperture.{axisOf, edgeOf, resolveOf}
 use Rattle.props.specs.Chain.{applies, chainAt, countAt, entriesAt, foldChain}
 use Rattle.props.specs.Entry.{byteAt, entryAt, irotAt, propertyAt}
-use Rattle.props.specs.Scale.{changed, scaleOf, scaledSide, withinOf}
+use Rattle.sizes.specs.Scale.{changed, scaleOf, scaledSide, withinOf}
 use Rattle.transform.specs.Chain.{picAfter}
 use Rattle.transform.specs.Place.{sideways, swaps, unturn}
 use Rattle.transform.specs.Turn.{fromBottom, fromRight, lopsided, quarterOf, turn, turned}
@@ -37,7 +37,7 @@ use Rattle.overlay.specs.Overlay.{overAll, alphaOf, base, covers, coversAt, bac
 use Rattle.inputs.specs.Layers.{oddAcross, oddDown, oddOffset, otherChroma, overlayForm, promotes, seeThrough, layerOf, layersOf}
 use Rattle.inputs.specs.Inputs.{alphaAbove, composedForm, firstForm, inputsAt, otherDepth}
 use Rattle.overlay.specs.Run.{composed, fillFor, fillPart}
-use Rattle.scene.specs.Chain.{firstDrawn, chainDrawn, drawnAfter}
+use Rattle.chains.specs.Chain.{firstDrawn, chainDrawn, drawnAfter}
 use Rattle.scene.specs.Scene.{gridDrawn, gridScene, overlayDrawn, overlayScene, roomFor}
 use Rattle.point.specs.Point.{gridLook, gridNames, gridPoint, lookOn, pointFrom}
 use Rattle.cases.specs.Table.{AllHold, areaRow, body, clapEdge, depth8, gives, irot1, isclWidth, joined, mono, noEntry, overBlack, spotIn, spotOf, table, tiles}

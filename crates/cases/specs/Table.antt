@@ -6,8 +6,8 @@ use Prim.Native.Nat.{_*_, _+_, _-_, _^_, ℕ}
 use Rattle.laws.specs.Out.{Out, andThen, done, reason, refused}
 use Rattle.fill.specs.Fill.{fillAlphaOf}
 use Rattle.fill.specs.declared.Colour.{Colour}
-use Rattle.props.specs.Aperture.{resolveOf}
-use Rattle.props.specs.Scale.{scaleOf}
+use Rattle.sizes.specs.Aperture.{resolveOf}
+use Rattle.sizes.specs.Scale.{scaleOf}
 use Rattle.resample.specs.Run.{depthRun, isclRun}
 use Rattle.scene.specs.Scene.{gridScene, overlayScene}
 use Rattle.point.specs.Point.{gridPoint}

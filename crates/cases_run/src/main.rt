@@ -4,8 +4,8 @@ use fill::Filled;
 use fill::Nclx;
 use laws::Refusal;
 use libc::STDOUT_FILENO;
-use props::Clap;
-use props::Resolved;
+use sizes::Clap;
+use sizes::Resolved;
 
 fn print(text: &[u8]) {
     io::write_all(STDOUT_FILENO, text);

@@ -15,7 +15,6 @@ use Rattle.numbers.specs.Number.{onNumber, readNumber}
 use Rattle.numbers.specs.declared.NumberRead.the-variants.{Malformed, Number}
 use Rattle.image.proofs.RecordLaws.{record-sound}
 use Rattle.planes.proofs.RoundTrip.{length-encode}
-use Rattle.image.proofs.TrayLaws.{counted}
 use Rattle.planes.specs.Bytes.{encode, sizeOf}
 use Rattle.image.specs.Format.{topOf}
 use Rattle.planes.specs.Picture.{Pic}

@@ -11,7 +11,6 @@ use borrow.Author.Tests.{eq-eqb, le-ltb, lt-ltb, ne-eqb}
 use Rattle.laws.proofs.Order.{and-no, by-equal, by-order, by-test, pick-false, pick-true, true-and, within, within-no, within-yes}
 use Rattle.laws.specs.Out.{done, refused}
 use Rattle.laws.specs.Pick.{pick}
-use Rattle.laws.specs.Span.{run}
 use Rattle.laws.specs.declared.Refusal.{Refusal}
 use Rattle.image.proofs.FormLaws.{cover-in, width-le}
 use Rattle.image.proofs.RecordLaws.{sample-inside}
@@ -28,7 +27,7 @@ use Rattle.derived.specs.Overlay.{placementAt}
 use Rattle.derived.specs.declared.overlay.OverlayDescriptor.{OverlayDescriptor}
 use Rattle.derived.specs.declared.overlay.Placement.{Placement}
 use Rattle.inputs.proofs.BlendLaws.{less-one}
-use Rattle.inputs.proofs.FrameLaws.{from-next, from-refused, shown, tall, wide}
+use Rattle.inputs.proofs.FrameLaws.{from-next, from-refused, tall, wide}
 use Rattle.overlay.proofs.ReachLaws.{line-in, line-out, line-small, row-last, row-mono, spot-inside, spot-step, step-small, stretch-covers, stretch-from}
 use Rattle.image.specs.inner.Placed.{InSlice}
 use Rattle.overlay.specs.inner.Block.{OverRowFits, StripeFits, acrossAt, alphaIn, downAt, layerWith, rowOver, stretchOf}

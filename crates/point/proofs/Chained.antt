@@ -20,7 +20,7 @@ use Rattle.planes.specs.Picture.{Agree, Pic, pixel}
 use Rattle.planes.specs.inner.Even.{Even}
 use Rattle.props.proofs.ChainLaws.{Applied, fold-same}
 use Rattle.props.specs.Chain.{foldChain}
-use Rattle.props.specs.Sound.{Inside}
+use Rattle.sizes.specs.Sound.{Inside}
 use Rattle.props.specs.declared.entry.Property.{Property}
 use Rattle.props.specs.declared.entry.PropertyEntry.{PropertyEntry}
 use Rattle.transform.specs.Chain.{NotIscl, chainPic, picAfter}
@@ -34,7 +34,7 @@ use Rattle.sight.specs.Carry.{carryOf}
 use Rattle.sight.specs.Sight.{back, backFrom, exchange, finalHeight, finalWidth, highOf, sourcePlace, sightOf, whole, wideOf}
 use Rattle.sight.specs.declared.Sight.{Sight}
 use Rattle.sight.specs.inner.Seen.{PlaceAgrees, Seen}
-use Rattle.scene.specs.Chain.{Drawn, firstDrawn, chainDrawn, drawnAfter, scaled}
+use Rattle.chains.specs.Chain.{Drawn, firstDrawn, chainDrawn, drawnAfter, scaled}
 use Rattle.scene.specs.Scene.{roomFor}
 use Rattle.point.proofs.Halves.{pointOn}
 use Rattle.point.specs.Agreement.{Agreement, CarriedFrom, CarriedTo, Pictured, Room, Shown, canvasHeight, canvasWidth, inside, outside}

@@ -26,7 +26,7 @@ use Rattle.derived.specs.declared.overlay.Placement.{Placement}
 use Rattle.props.proofs.ChainLaws.{judged-chain, judged-refused}
 use Rattle.props.specs.Chain.{chainAt, entriesAt}
 use Rattle.props.specs.inner.Judged.{Judged, judgedAt}
-use Rattle.props.specs.Sound.{Inside}
+use Rattle.sizes.specs.Sound.{Inside}
 use Rattle.props.specs.declared.chain.Chain.{Chain}
 use Rattle.props.specs.declared.entry.PropertyEntry.{PropertyEntry}
 use Rattle.transform.specs.Place.{Place}

@@ -16,8 +16,9 @@ use Rattle.fill.specs.Fill.{fillOf}
 use Rattle.fill.specs.declared.Colour.{Colour}
 use Rattle.fill.specs.declared.Ycbcr.{Ycbcr}
 use Rattle.derived.proofs.OffsetLaws.{offset-is}
-use Rattle.props.proofs.ApertureLaws.{resolve-exact, resolve-taken}
-use Rattle.props.proofs.SizeLaws.{chain-sound, scaled-covers, scaled-least}
+use Rattle.sizes.proofs.ApertureLaws.{resolve-exact, resolve-taken}
+use Rattle.props.proofs.SizeLaws.{chain-sound}
+use Rattle.sizes.proofs.ScaleLaws.{scaled-covers, scaled-least}
 use Rattle.sight.proofs.Agreement.{covers-some}
 use Rattle.steps_text.proofs.Cases.{example}
 use Rattle.steps_text.proofs.TextLaws.{text-fits, text-prefix}

@@ -29,12 +29,12 @@ use Rattle.fill.specs.declared.Colour.{Colour}
 use Rattle.fill.specs.declared.Ycbcr.{Ycbcr}
 use Rattle.derived.specs.Grid.{gridOf}
 use Rattle.derived.specs.declared.grid.GridDescriptor.{GridDescriptor}
-use Rattle.props.specs.Aperture.{ExactRect, resolveOf}
+use Rattle.sizes.specs.Aperture.{ExactRect, resolveOf}
 use Rattle.props.specs.Chain.{foldChain}
-use Rattle.props.specs.Scale.{scaledSide}
+use Rattle.sizes.specs.Scale.{scaledSide}
 use Rattle.props.specs.Size.{sizeAfter}
-use Rattle.props.specs.declared.clap.Clap.{Clap}
-use Rattle.props.specs.declared.clap.CropRect.{CropRect}
+use Rattle.sizes.specs.declared.clap.Clap.{Clap}
+use Rattle.sizes.specs.declared.clap.CropRect.{CropRect}
 use Rattle.props.specs.declared.entry.PropertyEntry.{PropertyEntry}
 use Rattle.transform.specs.Place.{Place}
 use Rattle.sight.specs.Carry.{Tracked}
@@ -56,7 +56,7 @@ use Rattle.session.specs.Sequence.{Call, MadeBy, alphaNumber, blank, callsRun, 
 use Rattle.session.specs.Session.{CanvasAfter, blankAt, reservedForm}
 use Rattle.session.specs.State.{stateOk}
 use Rattle.session.specs.declared.state.Canvas.{Canvas}
-use Rattle.scene.specs.Chain.{Drawn}
+use Rattle.chains.specs.Chain.{Drawn}
 use Rattle.scene.specs.Scene.{gridDrawn, gridScene, overlayDrawn, overlayScene}
 use Rattle.point.specs.Agreement.{Agreement, CarriedFrom, CarriedTo, InTray, NoAlpha, NoScaling, Room, canvasHeight, canvasWidth, chainCarries, chainSight, noChain}
 use Rattle.point.specs.Alike.{SameTray}

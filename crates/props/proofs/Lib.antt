@@ -1,4 +1,3 @@
-pub mod ApertureLaws
 pub mod ChainLaws
 pub mod SizeLaws
 pub mod Prefix

@@ -4,8 +4,8 @@ use lib.Dec.{eqb, ltb}
 use Rattle.laws.specs.Out.{Out, andThen, done, refuse, refused}
 use Rattle.laws.specs.Pick.{pick}
 use Rattle.image.specs.Format.{odd}
-use Rattle.props.specs.Aperture.{resolveOf}
-use Rattle.props.specs.Scale.{scaleOf}
+use Rattle.sizes.specs.Aperture.{resolveOf}
+use Rattle.sizes.specs.Scale.{scaleOf}
 use Rattle.props.specs.declared.entry.Property.{Property}
 use Rattle.image.specs.declared.size.Size.{Size}
 use Rattle.image.specs.declared.size.SizeAnswer.{SizeAnswer}

@@ -1,10 +1,10 @@
 // A chain's entries (document 01, "What is handed in"): kind, essential, fields.
 ghost use mathlib.Core.Path.{_≡_};
 ghost use Rattle.props.specs.Entry.{fractionAt, fractionOut, clapAt, irotAt, imirAt, isclAt, byteAt, byteOut, propertyAt, propertyOut, entryAt, entryOut, kindOf};
-use crate::clap::Clap;
-use crate::iscl::Iscl;
 use laws::Refusal;
 use numbers::NumberRead;
+use sizes::Clap;
+use sizes::Iscl;
 
 // Image rotation (ISO/IEC 23008-12, 6.5.10): angle mod 4 quarter turns anticlockwise.
 pub struct Irot {

@@ -2,10 +2,10 @@
 ghost use mathlib.Core.Path.{_≡_};
 ghost use Rattle.image.specs.Format.{sizeOut};
 ghost use Rattle.props.specs.Size.{sizeAfter};
-use crate::clap::Resolved;
 use crate::entry::Property;
 use image::Size;
 use image::SizeAnswer;
+use sizes::Resolved;
 
 impl Property {
     // The size of what the property makes of a picture of that size. Refusals: a clap's, an iscl's.

@@ -15,14 +15,14 @@ use libc::STDIN_FILENO;
 use libc::STDOUT_FILENO;
 use numbers::Cursor;
 use numbers::FieldRead;
-use props::Clap;
-use props::CropRect;
 use props::Imir;
 use props::Irot;
-use props::Iscl;
-use props::Resolved;
 use session::Called;
 use session::Canvas;
+use sizes::Clap;
+use sizes::CropRect;
+use sizes::Iscl;
+use sizes::Resolved;
 
 // The number at a place, 0 where there is none whole.
 fn number_at(s: &[u8], at: usize) -> u32 {

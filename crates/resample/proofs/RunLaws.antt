@@ -24,9 +24,9 @@ use Rattle.image.specs.declared.size.Size.{Size}
 use Rattle.planes.proofs.RoundTrip.{drawn-as}
 use Rattle.planes.specs.Bytes.{decode, encode}
 use Rattle.planes.specs.Picture.{Agree, Pic}
-use Rattle.props.proofs.SizeLaws.{scale-sound}
-use Rattle.props.specs.Scale.{changed, scaleOf, withinOf}
-use Rattle.props.specs.declared.iscl.Iscl.{Iscl}
+use Rattle.sizes.proofs.ScaleLaws.{scale-sound}
+use Rattle.sizes.specs.Scale.{changed, scaleOf, withinOf}
+use Rattle.sizes.specs.declared.iscl.Iscl.{Iscl}
 use Rattle.resample.proofs.PlaceLaws.{level-same, near-same}
 use Rattle.resample.specs.Area.{area}
 use Rattle.resample.specs.Depth.{levelOf, rescaled, toDepth}

@@ -9,8 +9,8 @@ use Rattle.image.specs.Format.{isDepth, judgedSize, hasSize}
 use Rattle.image.specs.Record.{recordOf}
 use Rattle.image.specs.declared.record.Frame.{Frame}
 use Rattle.planes.specs.Bytes.{decode, encode}
-use Rattle.props.specs.Scale.{scaleOf}
-use Rattle.props.specs.declared.iscl.Iscl.{Iscl}
+use Rattle.sizes.specs.Scale.{scaleOf}
+use Rattle.sizes.specs.declared.iscl.Iscl.{Iscl}
 use Rattle.resample.specs.Area.{area}
 use Rattle.resample.specs.Attach.{attachBytes}
 use Rattle.resample.specs.Depth.{rescaled}

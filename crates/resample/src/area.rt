@@ -16,7 +16,7 @@ use image::FrameRead;
 use image::Size;
 use image::SizeAnswer;
 use laws::Answer;
-use props::Iscl;
+use sizes::Iscl;
 
 // A part of an axis, in 256ths of a sample.
 pub struct Foot {

@@ -50,17 +50,17 @@ use Rattle.overlay.proofs.RunLaws.{Took, frames-are, plan-sound, planPic, took}
 use Rattle.overlay.specs.Overlay.{overlayPic}
 use Rattle.overlay.specs.Run.{composed, fillFor}
 use Rattle.overlay.specs.inner.Block.{PlanSound}
-use Rattle.scene.proofs.ApplyLaws.{Carried, chain-carried}
-use Rattle.scene.proofs.ChainPlanLaws.{Leads, lies-even, plan-drawn}
+use Rattle.chains.proofs.ApplyLaws.{Carried, chain-carried}
+use Rattle.chains.proofs.ChainPlanLaws.{Leads, lies-even, plan-drawn}
 use Rattle.scene.proofs.ComposedLaws.{grid-in-range, overlay-in-range, record-in-range}
-use Rattle.scene.specs.Chain.{Drawn, chainDrawn, firstDrawn}
+use Rattle.chains.specs.Chain.{Drawn, chainDrawn, firstDrawn}
 use Rattle.scene.specs.Room.{longestOf}
 use Rattle.scene.specs.Scene.{gridDrawn, gridScene, outputOf, overlayDrawn, overlayScene, roomFor, spareOf}
 use Rattle.scene.specs.Transforms.{recordDrawn, transformsRun}
-use Rattle.scene.specs.declared.apply.Current.{Current}
-use Rattle.scene.specs.declared.chain_plan.ChainPlan.{ChainPlan}
-use Rattle.scene.specs.inner.Apply.{Finished, Ready, bytesIn, chainBytes, lies, lying, recordAfter}
-use Rattle.scene.specs.inner.ChainPlan.{chainPlanOf, currentFor, currentOf}
+use Rattle.chains.specs.declared.apply.Current.{Current}
+use Rattle.chains.specs.declared.chain_plan.ChainPlan.{ChainPlan}
+use Rattle.chains.specs.inner.Apply.{Finished, Ready, bytesIn, chainBytes, lies, lying, recordAfter}
+use Rattle.chains.specs.inner.ChainPlan.{chainPlanOf, currentFor, currentOf}
 
 -- ---- what is answered and written
 

@@ -6,7 +6,7 @@ use Rattle.laws.specs.Out.{Out, andThen}
 use Rattle.image.specs.Record.{recordOf}
 use Rattle.planes.specs.Bytes.{decode}
 use Rattle.props.specs.Chain.{chainAt}
-use Rattle.scene.specs.Chain.{Drawn, chainDrawn}
+use Rattle.chains.specs.Chain.{Drawn, chainDrawn}
 use Rattle.scene.specs.Scene.{roomFor}
 
 -- the record's refusals, the chain's form, then the entries in turn

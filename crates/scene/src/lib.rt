@@ -1,8 +1,5 @@
 // The scene calls (document 01, "The scene call"): a grid or an overlay composed, then a chain of transforms, from bytes to a record
 // in the lent output. All refusals are found before anything is written.
-mod apply;
-mod chain_plan;
-mod plan;
 mod room;
 mod transforms;
 
@@ -10,13 +7,13 @@ ghost use mathlib.Core.Path.{_≡_};
 ghost use lib.ListN.{length};
 ghost use Rattle.laws.specs.Out.{answerOf};
 ghost use Rattle.scene.specs.Scene.{gridScene, overlayScene, outputOf, spareOf};
-use crate::apply::finish_scene;
-use crate::plan::CurrentRead;
-use crate::plan::plan_scene;
 pub use crate::room::RoomRead;
 pub use crate::room::grid_room;
 pub use crate::room::overlay_room;
 pub use crate::transforms::apply_transforms;
+use chains::CurrentRead;
+use chains::finish_scene;
+use chains::plan_scene;
 use fill::Colour;
 use grid::TilesRead;
 use inputs::PlanRead;

@@ -14,15 +14,15 @@ use Rattle.planes.specs.Picture.{Pic, pixel}
 use Rattle.planes.specs.inner.Even.{Even}
 use Rattle.image.specs.declared.format.Form.{Form}
 use Rattle.image.specs.declared.format.Part.{Part}
-use Rattle.props.proofs.ApertureLaws.{resolve-holds}
+use Rattle.sizes.proofs.ApertureLaws.{resolve-holds}
 use Rattle.props.proofs.ChainLaws.{Applied}
-use Rattle.props.specs.Aperture.{resolveOf}
+use Rattle.sizes.specs.Aperture.{resolveOf}
 use Rattle.props.specs.Chain.{applies, foldChain}
-use Rattle.props.specs.Sound.{Inside}
-use Rattle.props.specs.declared.clap.CropRect.{CropRect}
+use Rattle.sizes.specs.Sound.{Inside}
+use Rattle.sizes.specs.declared.clap.CropRect.{CropRect}
 use Rattle.props.specs.declared.entry.Property.{Property}
 use Rattle.props.specs.declared.entry.PropertyEntry.{PropertyEntry}
-use Rattle.props.specs.declared.iscl.Iscl.{Iscl}
+use Rattle.sizes.specs.declared.iscl.Iscl.{Iscl}
 use Rattle.transform.proofs.Shown.{crop-shows, mirror-shows, turn-shows}
 use Rattle.transform.specs.Place.{Place, sideways, swaps, unturn}
 use Rattle.transform.specs.inner.Shows.{Shows, uncrop, unmirror}

@@ -11,10 +11,10 @@ use Rattle.laws.proofs.Out.{Same, alike, both, holds-done, same-left, then-both
 use Rattle.laws.specs.Out.{done}
 use Rattle.laws.specs.Pick.{pick}
 use Rattle.image.specs.Format.{odd}
-use Rattle.props.proofs.ApertureLaws.{resolve-holds}
+use Rattle.sizes.proofs.ApertureLaws.{resolve-holds}
 use Rattle.props.proofs.ChainLaws.{Applied, fold-same}
-use Rattle.props.specs.Sound.{Inside}
-use Rattle.props.specs.declared.clap.CropRect.{CropRect}
+use Rattle.sizes.specs.Sound.{Inside}
+use Rattle.sizes.specs.declared.clap.CropRect.{CropRect}
 use Rattle.props.specs.declared.entry.Property.{Property}
 use Rattle.props.specs.declared.entry.PropertyEntry.{PropertyEntry}
 use Rattle.transform.specs.Place.{Place, sideways, swaps, unturn}

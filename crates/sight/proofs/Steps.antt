@@ -9,13 +9,13 @@ use Rattle.laws.proofs.Out.{Holds, holds-done, pick-holds, refuse-no, refuse-ye
 use Rattle.laws.specs.Out.{Out, done, reason, refused}
 use Rattle.laws.specs.Pick.{pick}
 use Rattle.image.specs.Format.{odd}
-use Rattle.props.proofs.ApertureLaws.{resolve-holds, resolve-inside}
+use Rattle.sizes.proofs.ApertureLaws.{resolve-holds, resolve-inside}
 use Rattle.props.proofs.ChainLaws.{fold-holds}
-use Rattle.props.specs.Aperture.{resolveOf}
+use Rattle.sizes.specs.Aperture.{resolveOf}
 use Rattle.props.specs.Chain.{applies, foldChain}
-use Rattle.props.specs.Sound.{Inside}
-use Rattle.props.specs.declared.clap.Clap.{Clap}
-use Rattle.props.specs.declared.clap.CropRect.{CropRect}
+use Rattle.sizes.specs.Sound.{Inside}
+use Rattle.sizes.specs.declared.clap.Clap.{Clap}
+use Rattle.sizes.specs.declared.clap.CropRect.{CropRect}
 use Rattle.props.specs.declared.entry.Property.{Property}
 use Rattle.props.specs.declared.entry.PropertyEntry.{PropertyEntry}
 use Rattle.transform.proofs.Runs.{quarter-one, quarter-two, quarter-zero}

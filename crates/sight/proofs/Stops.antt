@@ -8,9 +8,9 @@ use lib.IntN.{negsuc, pos, ℤ}
 use Rattle.laws.specs.Out.{Out, andThen, done, reason, refuse, refused}
 use Rattle.laws.specs.Pick.{pick}
 use Rattle.props.proofs.ChainLaws.{Applied, refused-as}
-use Rattle.props.specs.Aperture.{axisOf, edgeOf, resolveOf}
+use Rattle.sizes.specs.Aperture.{axisOf, edgeOf, resolveOf}
 use Rattle.props.specs.Chain.{applies, foldChain}
-use Rattle.props.specs.declared.clap.Clap.{Clap}
+use Rattle.sizes.specs.declared.clap.Clap.{Clap}
 use Rattle.props.specs.declared.entry.Property.{Property}
 use Rattle.props.specs.declared.entry.PropertyEntry.{PropertyEntry}
 use Rattle.transform.specs.Chain.{NotIscl}

@@ -3,8 +3,8 @@ use mathlib.Core.Bool.{Bool, false, not, true}
 use mathlib.Core.Path.{_∙_, _≡_, ap, refl, sym}
 use Prim.Native.Nat.{_+_, _-_, _<_, _≤_, ℕ}
 use native.Mathlib.Omega.{arith}
-use Rattle.props.specs.Sound.{Inside}
-use Rattle.props.specs.declared.clap.CropRect.{CropRect}
+use Rattle.sizes.specs.Sound.{Inside}
+use Rattle.sizes.specs.declared.clap.CropRect.{CropRect}
 use Rattle.transform.specs.Place.{Place, sideways, swaps, unturn}
 use Rattle.transform.specs.inner.Shows.{unmirror}
 use Rattle.transform.specs.Turn.{Quarter, q0, q1, q2, q3, quarterOf}

@@ -7,10 +7,10 @@ use lib.Dec.{leb, ltb}
 use Rattle.laws.specs.Out.{Out, andThen, done, reason, refused}
 use Rattle.laws.specs.Pick.{pick}
 use Rattle.image.specs.Format.{odd}
-use Rattle.props.specs.Aperture.{resolveOf}
+use Rattle.sizes.specs.Aperture.{resolveOf}
 use Rattle.props.specs.Chain.{foldChain}
-use Rattle.props.specs.Sound.{Inside}
-use Rattle.props.specs.declared.clap.CropRect.{CropRect}
+use Rattle.sizes.specs.Sound.{Inside}
+use Rattle.sizes.specs.declared.clap.CropRect.{CropRect}
 use Rattle.props.specs.declared.entry.Property.{Property}
 use Rattle.props.specs.declared.entry.PropertyEntry.{PropertyEntry}
 use Rattle.transform.specs.Place.{Place, sideways, swaps}

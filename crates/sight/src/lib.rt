@@ -5,18 +5,18 @@ ghost use Rattle.laws.specs.Out.{done, andThen};
 ghost use Rattle.laws.specs.Pick.{pick};
 ghost use Rattle.props.specs.Chain.{applies, entriesAt};
 ghost use Rattle.props.specs.inner.Judged.{Judged};
-ghost use Rattle.props.specs.Sound.{Inside};
+ghost use Rattle.sizes.specs.Sound.{Inside};
 ghost use Rattle.transform.specs.Place.{unturn};
 ghost use Rattle.transform.specs.Turn.{quarterOf};
 ghost use Rattle.sight.specs.Sight.{whole, finalWidth, finalHeight, unturnRect, thenCrop, thenTurn, thenMirror, sightAfter, sightOf, sourcePlace, boundedSource, sightOut, placeOut};
 ghost use Rattle.sight.specs.inner.Bounded.{Bounded, Lies};
 use laws::Refusal;
 use props::Chain;
-use props::CropRect;
 use props::EntryRead;
 use props::Property;
 use props::PropertyEntry;
-use props::Resolved;
+use sizes::CropRect;
+use sizes::Resolved;
 
 // A rectangle of a picture, its left and right exchanged or not, then 0 to 3 quarter turns anticlockwise.
 pub struct Sight {

@@ -17,12 +17,13 @@ use Rattle.image.specs.declared.format.Part.the-variants.{Alpha, Cb, Cr, Luma}
 use Rattle.image.specs.declared.format.PixelFormat.{PixelFormat}
 use Rattle.planes.proofs.PictureLaws.{evenly-if, evenly-part, needs-X, needs-Y, needs-colour, odd-false, parts-444}
 use Rattle.planes.specs.inner.Even.{Evenly}
-use Rattle.props.specs.Sound.{Inside}
-use Rattle.props.specs.declared.clap.CropRect.{CropRect}
+use Rattle.sizes.specs.Sound.{Inside}
+use Rattle.sizes.specs.declared.clap.CropRect.{CropRect}
 use Rattle.transform.specs.Turn.{lopsided}
-use Rattle.transform.specs.declared.moves.Axis.{Axis}
-use Rattle.transform.specs.declared.moves.Move.{Move}
-use Rattle.transform.specs.inner.Move.{MoveFits, StepsFit, alongFrom, cropMove, cropWith, endAxis, formWith, halfMove, halfWith, mirrorMove, planeAxis, quarterMove, quarterWith, stillMove, walkOf, walkX, walkY}
+use Rattle.moves.specs.declared.walk.Axis.{Axis}
+use Rattle.moves.specs.declared.walk.Move.{Move}
+use Rattle.moves.specs.inner.Move.{MoveFits, StepsFit, alongFrom, planeAxis, walkOf, walkX, walkY}
+use Rattle.transform.specs.inner.Moves.{cropMove, cropWith, endAxis, formWith, halfMove, halfWith, mirrorMove, quarterMove, quarterWith, stillMove}
 
 -- ---- along one axis: t promoted, h halved; len places of the new picture are sideOf (pick t false h) len samples
 

@@ -1,9 +1,5 @@
-pub mod Walks
-pub mod Drawn
 pub mod Fits
 pub mod Draws
 pub mod Runs
 pub mod Shown
 pub mod Carried
-pub mod Mirrors
-pub mod Turned

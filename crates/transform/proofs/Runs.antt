@@ -17,18 +17,19 @@ use Rattle.image.specs.declared.format.Form.{Form}
 use Rattle.image.specs.declared.record.Frame.{Frame}
 use Rattle.planes.proofs.RoundTrip.{drawn-as, encode-agree}
 use Rattle.planes.specs.Bytes.{decode, encode}
-use Rattle.props.proofs.ApertureLaws.{resolve-inside}
-use Rattle.props.specs.Aperture.{resolveOf}
-use Rattle.props.specs.Sound.{Inside}
-use Rattle.props.specs.declared.clap.Clap.{Clap}
-use Rattle.props.specs.declared.clap.CropRect.{CropRect}
+use Rattle.sizes.proofs.ApertureLaws.{resolve-inside}
+use Rattle.sizes.specs.Aperture.{resolveOf}
+use Rattle.sizes.specs.Sound.{Inside}
+use Rattle.sizes.specs.declared.clap.Clap.{Clap}
+use Rattle.sizes.specs.declared.clap.CropRect.{CropRect}
 use Rattle.props.specs.declared.entry.Imir.{Imir}
 use Rattle.props.specs.declared.entry.Irot.{Irot}
 use Rattle.transform.proofs.Draws.{crop-draws, half-draws, left-draws, mirror-draws, right-draws, still-draws}
 use Rattle.transform.proofs.Fits.{crop-fits}
 use Rattle.transform.specs.Run.{clapRun, cropOf, cropRun, imirRun, irotRun, turnBytes}
 use Rattle.transform.specs.Turn.{Quarter, q0, q1, q2, q3, quarterOf}
-use Rattle.transform.specs.inner.Move.{MoveFits, cropMove, halfMove, mirrorMove, moved, quarterMove, stillMove}
+use Rattle.moves.specs.inner.Move.{MoveFits, moved}
+use Rattle.transform.specs.inner.Moves.{cropMove, halfMove, mirrorMove, quarterMove, stillMove}
 
 -- ---- crop
 

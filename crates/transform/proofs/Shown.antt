@@ -8,7 +8,7 @@ use Rattle.image.specs.Format.{columnsOf, cover, halfX, halfY, halvesX, halvesY
 use Rattle.planes.specs.Picture.{Pic, ensure, pixel, promote}
 use Rattle.planes.specs.inner.Even.{Even, Evenly}
 use Rattle.image.specs.declared.format.Part.{Part}
-use Rattle.props.specs.declared.clap.CropRect.{CropRect}
+use Rattle.sizes.specs.declared.clap.CropRect.{CropRect}
 use Rattle.transform.proofs.Fits.{balanced}
 use Rattle.transform.specs.Place.{sideways, swaps, unturn}
 use Rattle.transform.specs.inner.Shows.{Shows, uncrop, unmirror}

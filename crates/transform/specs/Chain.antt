@@ -4,11 +4,11 @@ use mathlib.Core.List.{List}
 use Rattle.laws.specs.Out.{Out, andThen, done}
 use Rattle.planes.specs.Picture.{Pic}
 use Rattle.image.specs.Format.{odd}
-use Rattle.props.specs.Aperture.{resolveOf}
+use Rattle.sizes.specs.Aperture.{resolveOf}
 use Rattle.props.specs.Chain.{foldChain}
 use Rattle.props.specs.declared.entry.Property.{Property}
 use Rattle.props.specs.declared.entry.PropertyEntry.{PropertyEntry}
-use Rattle.props.specs.declared.iscl.Iscl.{Iscl}
+use Rattle.sizes.specs.declared.iscl.Iscl.{Iscl}
 use Rattle.transform.specs.Turn.{crop, mirror, quarterOf, turn}
 
 -- an applied entry: kind 0 is skipped, a clap crops to the rectangle that it resolves to; what an iscl does is handed in

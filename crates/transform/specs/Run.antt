@@ -7,11 +7,11 @@ use Rattle.planes.specs.Bytes.{decode, encode}
 use Rattle.image.specs.Format.{odd}
 use Rattle.image.specs.Record.{recordOf}
 use Rattle.image.specs.declared.record.Frame.{Frame}
-use Rattle.props.specs.Aperture.{resolveOf}
-use Rattle.props.specs.declared.clap.CropRect.{CropRect}
+use Rattle.sizes.specs.Aperture.{resolveOf}
+use Rattle.sizes.specs.declared.clap.CropRect.{CropRect}
 use Rattle.props.specs.declared.entry.Imir.{Imir}
 use Rattle.props.specs.declared.entry.Irot.{Irot}
-use Rattle.props.specs.declared.clap.Clap.{Clap}
+use Rattle.sizes.specs.declared.clap.Clap.{Clap}
 use Rattle.transform.specs.Turn.{Quarter, crop, mirror, q0, q1, q2, q3, quarterOf, turn}
 
 -- crop: the record, then 9 for a rectangle that has no side or is not inside, then 17

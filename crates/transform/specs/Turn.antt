@@ -7,7 +7,7 @@ use Rattle.image.specs.Format.{columnsOf, cover, halfX, halfY, rowsOf, odd, siz
 use Rattle.planes.specs.Picture.{Pic, ensure}
 use Rattle.image.specs.declared.format.Part.{Part}
 use Rattle.image.specs.declared.format.PixelFormat.{PixelFormat}
-use Rattle.props.specs.declared.clap.CropRect.{CropRect}
+use Rattle.sizes.specs.declared.clap.CropRect.{CropRect}
 
 -- the part of every plane at its own resolution
 unfoldable pub cut : Pic → CropRect → Pic

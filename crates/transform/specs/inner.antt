@@ -1,4 +1,3 @@
 -- What only proofs and the contracts of inner functions cite: no public promise does.
-pub mod Move
-pub mod Rows
+pub mod Moves
 pub mod Shows

@@ -1,6 +1,4 @@
 // Crop, quarter turns and mirrors, each from a record to a tight record in a lent output.
-mod moves;
-
 ghost use mathlib.Core.Path.{_≡_};
 ghost use Prim.Native.Nat.{_≤_};
 ghost use lib.ListN.{length};
@@ -9,22 +7,23 @@ ghost use Rattle.laws.specs.Puts.{puts};
 ghost use Rattle.image.specs.Sound.{FormSound};
 ghost use Rattle.image.specs.inner.Placed.{Sound};
 ghost use Rattle.planes.specs.Bytes.{decode, encode};
-ghost use Rattle.transform.specs.inner.Move.{moved, MoveFits, formWith, endAxis, cropMove, quarterMove, halfMove, mirrorMove, stillMove, turnForm};
+ghost use Rattle.moves.specs.inner.Move.{moved, MoveFits};
+ghost use Rattle.transform.specs.inner.Moves.{formWith, endAxis, cropMove, quarterMove, halfMove, mirrorMove, stillMove, turnForm};
 ghost use Rattle.transform.specs.Turn.{quarterOf};
 ghost use Rattle.transform.specs.Run.{cropRun, clapRun, irotRun, imirRun};
-use crate::moves::Axis;
-use crate::moves::Move;
 use image::Form;
 use image::Frame;
 use image::FrameRead;
 use image::PixelFormat;
 use laws::Answer;
 use laws::Refusal;
-use props::Clap;
-use props::CropRect;
+use moves::Axis;
+use moves::Move;
 use props::Imir;
 use props::Irot;
-use props::Resolved;
+use sizes::Clap;
+use sizes::CropRect;
+use sizes::Resolved;
 
 fn form_with(promoted: bool, m: Form) -> Form
     ensures { λ r. ⌜ r ≡ formWith promoted m ⌝ }

@@ -3,12 +3,12 @@ use mathlib.Core.List.{List, [], _∷_}
 use Prim.Native.Nat.{ℕ}
 use lib.ListN.{length}
 use Rattle.laws.specs.Out.{Out, andThen, done, fitted}
-use Rattle.props.specs.Aperture.{resolveOf}
+use Rattle.sizes.specs.Aperture.{resolveOf}
 use Rattle.props.specs.Chain.{chainAt}
-use Rattle.props.specs.Scale.{scaleOf}
-use Rattle.props.specs.declared.clap.Clap.{Clap}
-use Rattle.props.specs.declared.clap.CropRect.{CropRect}
-use Rattle.props.specs.declared.iscl.Iscl.{Iscl}
+use Rattle.sizes.specs.Scale.{scaleOf}
+use Rattle.sizes.specs.declared.clap.Clap.{Clap}
+use Rattle.sizes.specs.declared.clap.CropRect.{CropRect}
+use Rattle.sizes.specs.declared.iscl.Iscl.{Iscl}
 use Rattle.image.specs.declared.size.Size.{Size}
 
 -- how many entries a chain has

@@ -3,7 +3,7 @@ use mathlib.Core.List.{List}
 use Prim.Native.Nat.{_*_, _<_, _≤_, ℕ}
 use Rattle.laws.specs.Out.{Out, done, refused}
 use Rattle.derived.specs.inner.Sound.{OverlaySound}
-use Rattle.props.specs.Sound.{Inside}
+use Rattle.sizes.specs.Sound.{Inside}
 use Rattle.transform.specs.Place.{Place}
 use Rattle.sight.specs.inner.Bounded.{Bounded}
 use Rattle.sight.specs.declared.CanvasPlace.{CanvasPlace}

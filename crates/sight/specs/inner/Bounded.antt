@@ -1,7 +1,7 @@
 -- Rectangles and places of 32 bits.
 use mathlib.Core.Path.{_≡_}
 use Prim.Native.Nat.{_+_, _<_, _^_}
-use Rattle.props.specs.declared.clap.CropRect.{CropRect}
+use Rattle.sizes.specs.declared.clap.CropRect.{CropRect}
 use Rattle.transform.specs.Place.{Place}
 use Rattle.sight.specs.declared.CanvasPlace.{CanvasPlace}
 

@@ -7,7 +7,7 @@ use Rattle.image.specs.Format.{hasPart, Covers}
 use Rattle.planes.specs.Picture.{Pic, pixel}
 use Rattle.planes.specs.inner.Even.{Even}
 use Rattle.image.specs.declared.format.Part.{Part}
-use Rattle.props.specs.Sound.{Inside}
+use Rattle.sizes.specs.Sound.{Inside}
 use Rattle.transform.specs.Place.{Place}
 use Rattle.sight.specs.Sight.{back, finalHeight, finalWidth}
 use Rattle.sight.specs.declared.Sight.{Sight}

@@ -7,19 +7,19 @@ use Rattle.laws.specs.Out.{done, fitted}
 use Rattle.image.proofs.RecordLaws.{whole-sound}
 use Rattle.planes.specs.Bytes.{decode, encode}
 use Rattle.image.specs.Record.{frameOut, recordOf}
-use Rattle.props.proofs.ApertureLaws.{refused-no-rect}
-use Rattle.props.specs.Aperture.{resolveOf, resolvedOut}
+use Rattle.sizes.proofs.ApertureLaws.{refused-no-rect}
+use Rattle.sizes.specs.Aperture.{resolveOf, resolvedOut}
 use Rattle.transform.proofs.Runs.{clap-drawn, clap-fits, clap-refused}
-use Rattle.transform.specs.inner.Move.{moved}
+use Rattle.moves.specs.inner.Move.{moved}
 use Rattle.transform.specs.Run.{clapRun}
-use Rattle.transform.specs.declared.moves.Move.{Move}
+use Rattle.moves.specs.declared.walk.Move.{Move}
 use Rattle.transform.proofs.apply_clap.Statement.{statement}
 use Rattle.transform.proofs.apply_clap.Tie as tie
 use Rattle.transform.proofs.apply_clap.Reads as reads
 use Rattle.transform.proofs.apply_clap.Lts as lts
 use Rattle.image.proofs.parse_record.Reads as parse-record-reads
-use Rattle.props.proofs.clap.Clap.resolve.Reads as resolve-reads
-use Rattle.props.proofs.clap.Resolved.refusal.Reads as refusal-reads
+use Rattle.sizes.proofs.clap.Clap.resolve.Reads as resolve-reads
+use Rattle.sizes.proofs.clap.Resolved.refusal.Reads as refusal-reads
 use Rattle.transform.proofs.crop_move.Reads as crop-move-reads
 use Rattle.transform.proofs.draw.Reads as draw-reads
 

@@ -10,9 +10,9 @@ use Rattle.image.specs.Format.{odd}
 use Rattle.image.specs.Record.{frameOut, recordOf}
 use Rattle.transform.proofs.Fits.{mirror-fits}
 use Rattle.transform.proofs.Runs.{mirror-run}
-use Rattle.transform.specs.inner.Move.{moved}
+use Rattle.moves.specs.inner.Move.{moved}
 use Rattle.transform.specs.Run.{imirRun}
-use Rattle.transform.specs.declared.moves.Move.{Move}
+use Rattle.moves.specs.declared.walk.Move.{Move}
 use Rattle.transform.proofs.apply_imir.Statement.{statement}
 use Rattle.transform.proofs.apply_imir.Tie as tie
 use Rattle.transform.proofs.apply_imir.Reads as reads

@@ -13,9 +13,9 @@ use Rattle.image.specs.Record.{frameOut, recordOf}
 use Rattle.image.specs.inner.Placed.{Sound}
 use Rattle.transform.proofs.Fits.{half-fits, quarter-fits}
 use Rattle.transform.proofs.Runs.{turn-half, turn-left, turn-none, turn-right}
-use Rattle.transform.specs.inner.Move.{moved}
+use Rattle.moves.specs.inner.Move.{moved}
 use Rattle.transform.specs.Run.{irotRun}
-use Rattle.transform.specs.declared.moves.Move.{Move}
+use Rattle.moves.specs.declared.walk.Move.{Move}
 use Rattle.transform.proofs.apply_irot.Statement.{statement}
 use Rattle.transform.proofs.apply_irot.Tie as tie
 use Rattle.transform.proofs.apply_irot.Reads as reads

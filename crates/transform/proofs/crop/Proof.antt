@@ -8,9 +8,9 @@ use Rattle.image.proofs.RecordLaws.{whole-sound}
 use Rattle.planes.specs.Bytes.{decode, encode}
 use Rattle.image.specs.Record.{frameOut, recordOf}
 use Rattle.transform.proofs.Runs.{crop-below, crop-flat, crop-inside, crop-right, crop-thin}
-use Rattle.transform.specs.inner.Move.{moved}
+use Rattle.moves.specs.inner.Move.{moved}
 use Rattle.transform.specs.Run.{cropRun}
-use Rattle.transform.specs.declared.moves.Move.{Move}
+use Rattle.moves.specs.declared.walk.Move.{Move}
 use Rattle.transform.proofs.crop.Statement.{statement}
 use Rattle.transform.proofs.crop.Tie as tie
 use Rattle.transform.proofs.crop.Reads as reads

@@ -1,6 +1,6 @@
 use mathlib.Core.Path.{sym}
 use borrow.Author.Needs.{needs}
-use Rattle.transform.specs.inner.Move.{cropMove, cropWith}
+use Rattle.transform.specs.inner.Moves.{cropMove, cropWith}
 use Rattle.transform.proofs.crop_move.Statement.{statement}
 use Rattle.transform.proofs.crop_move.Tie as tie
 use Rattle.transform.proofs.crop_move.Reads as reads

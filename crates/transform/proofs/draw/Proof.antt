@@ -5,13 +5,13 @@ use borrow.Author.Needs.{needs}
 use Rattle.laws.proofs.Out.{done-answers, fitted-room, fitted-short, refused-answers}
 use Rattle.planes.proofs.RoundTrip.{length-encode}
 use Rattle.planes.specs.Bytes.{decode, encode}
-use Rattle.transform.specs.inner.Move.{moved}
+use Rattle.moves.specs.inner.Move.{moved}
 use Rattle.transform.proofs.draw.Statement.{statement}
 use Rattle.transform.proofs.draw.Tie as tie
 use Rattle.transform.proofs.draw.Reads as reads
 use Rattle.transform.proofs.draw.Lts as lts
 use Rattle.planes.proofs.record_size.Reads as record-size-reads
-use Rattle.transform.proofs.moves.write_moved.Reads as write-moved-reads
+use Rattle.moves.proofs.write_moved.Reads as write-moved-reads
 
 -- how long the new record is
 size : (c : tie.After-record-size) → c .record-size .result ≡ length (encode (moved (c .before .before .before .before .args .v) (decode (now (c .before .before .before .before .args .«record»)) (c .before .before .before .before .args .fr))))

@@ -1,6 +1,6 @@
 use borrow.Author.Needs.{needs}
 use Rattle.laws.specs.Pick.{pick}
-use Rattle.transform.specs.inner.Move.{endAxis}
+use Rattle.transform.specs.inner.Moves.{endAxis}
 use Rattle.transform.proofs.end_axis.Statement.{statement}
 use Rattle.transform.proofs.end_axis.Tie as tie
 use Rattle.transform.proofs.end_axis.Reads as reads

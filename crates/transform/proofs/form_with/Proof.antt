@@ -1,7 +1,7 @@
 use mathlib.Core.Path.{sym}
 use borrow.Author.Needs.{needs}
 use Rattle.laws.specs.Pick.{pick}
-use Rattle.transform.specs.inner.Move.{formWith}
+use Rattle.transform.specs.inner.Moves.{formWith}
 use Rattle.transform.proofs.form_with.Statement.{statement}
 use Rattle.transform.proofs.form_with.Tie as tie
 use Rattle.transform.proofs.form_with.Reads as reads

@@ -1,6 +1,6 @@
 use mathlib.Core.Path.{sym}
 use borrow.Author.Needs.{needs}
-use Rattle.transform.specs.inner.Move.{halfMove, halfWith}
+use Rattle.transform.specs.inner.Moves.{halfMove, halfWith}
 use Rattle.transform.proofs.half_move.Statement.{statement}
 use Rattle.transform.proofs.half_move.Tie as tie
 use Rattle.transform.proofs.half_move.Reads as reads

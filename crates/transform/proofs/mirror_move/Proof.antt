@@ -1,6 +1,6 @@
 use mathlib.Core.Path.{sym}
 use borrow.Author.Needs.{needs}
-use Rattle.transform.specs.inner.Move.{mirrorMove}
+use Rattle.transform.specs.inner.Moves.{mirrorMove}
 use Rattle.transform.proofs.mirror_move.Statement.{statement}
 use Rattle.transform.proofs.mirror_move.Tie as tie
 use Rattle.transform.proofs.mirror_move.Reads as reads

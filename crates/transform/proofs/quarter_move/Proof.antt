@@ -1,6 +1,6 @@
 use mathlib.Core.Path.{sym}
 use borrow.Author.Needs.{needs}
-use Rattle.transform.specs.inner.Move.{quarterMove, quarterWith}
+use Rattle.transform.specs.inner.Moves.{quarterMove, quarterWith}
 use Rattle.transform.specs.Turn.{lopsided}
 use Rattle.transform.proofs.quarter_move.Statement.{statement}
 use Rattle.transform.proofs.quarter_move.Tie as tie

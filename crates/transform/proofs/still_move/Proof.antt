@@ -1,7 +1,7 @@
 use mathlib.Core.Path.{sym}
 use borrow.Author.Needs.{needs}
 use Rattle.transform.proofs.still_move.Statement.{statement}
-use Rattle.transform.specs.inner.Move.{stillMove}
+use Rattle.transform.specs.inner.Moves.{stillMove}
 use Rattle.transform.proofs.still_move.Tie as tie
 use Rattle.transform.proofs.still_move.Reads as reads
 use Rattle.transform.proofs.still_move.Lts as lts

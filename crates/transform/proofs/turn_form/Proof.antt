@@ -3,7 +3,7 @@ use borrow.Author.Needs.{needs}
 use Rattle.transform.proofs.Carried.{turn-odd}
 use Rattle.transform.proofs.Runs.{quarter-two, quarter-zero}
 use Rattle.transform.proofs.turn_form.Statement.{statement}
-use Rattle.transform.specs.inner.Move.{turnForm}
+use Rattle.transform.specs.inner.Moves.{turnForm}
 use Rattle.transform.proofs.turn_form.Tie as tie
 use Rattle.transform.proofs.turn_form.Reads as reads
 use Rattle.transform.proofs.turn_form.Lts as lts

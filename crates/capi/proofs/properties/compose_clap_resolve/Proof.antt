@@ -6,16 +6,16 @@ use borrow.Author.Needs.{needs}
 use Rattle.laws.proofs.Out.{fitted-room, fitted-short, then-done, then-refused}
 use Rattle.words.proofs.Codes.{done-code, refused-code, words-after}
 use Rattle.words.specs.Properties.{clapOf, clapWords, rectFields}
-use Rattle.props.proofs.ApertureLaws.{refused-no-rect}
-use Rattle.props.specs.Aperture.{resolvedOut}
+use Rattle.sizes.proofs.ApertureLaws.{refused-no-rect}
+use Rattle.sizes.specs.Aperture.{resolvedOut}
 use Rattle.capi.proofs.properties.compose_clap_resolve.Statement.{statement}
 use Rattle.capi.proofs.properties.compose_clap_resolve.Tie as tie
 use Rattle.capi.proofs.properties.compose_clap_resolve.Reads as reads
 use Rattle.capi.proofs.properties.compose_clap_resolve.Lts as lts
 use Rattle.words.proofs.refusal_code.Reads as refusal-code-reads
 use Rattle.words.proofs.put_sides.Reads as put-sides-reads
-use Rattle.props.proofs.clap.Clap.resolve.Reads as resolve-reads
-use Rattle.props.proofs.clap.Resolved.refusal.Reads as refusal-reads
+use Rattle.sizes.proofs.clap.Clap.resolve.Reads as resolve-reads
+use Rattle.sizes.proofs.clap.Resolved.refusal.Reads as refusal-reads
 
 resolve-requires : tie.Need-resolve-requires
 resolve-requires c κs = search needs

@@ -12,7 +12,7 @@ use Rattle.capi.proofs.properties.compose_iscl_size.Reads as reads
 use Rattle.capi.proofs.properties.compose_iscl_size.Lts as lts
 use Rattle.words.proofs.refusal_code.Reads as refusal-code-reads
 use Rattle.words.proofs.put_sides.Reads as put-sides-reads
-use Rattle.props.proofs.iscl.Iscl.output_size.Reads as output-size-reads
+use Rattle.sizes.proofs.iscl.Iscl.output_size.Reads as output-size-reads
 
 output-size-requires : tie.Need-output-size-requires
 output-size-requires c κs = search needs

@@ -6,7 +6,6 @@ use lib.ListN.{getD, length}
 use borrow.Author.Needs.{needs}
 use denote.Ref.{now}
 use Rattle.laws.specs.Pick.{pick}
-use Rattle.laws.specs.Span.{run}
 use Rattle.overlay.proofs.ReachLaws.{row-begins}
 use Rattle.overlay.proofs.StripeLaws.{row-shown, rows-begin, rows-end, rows-more}
 use Rattle.overlay.proofs.blend.over_input.Statement.{statement}

@@ -4,7 +4,6 @@ use native.Mathlib.Nat.{sub-zero}
 use native.Mathlib.Omega.{arith}
 use lib.ListN.{getD, length}
 use borrow.Author.Needs.{needs}
-use Rattle.laws.specs.Span.{run}
 use Rattle.image.specs.Record.{frameOut}
 use Rattle.inputs.proofs.FrameLaws.{record-inside}
 use Rattle.overlay.proofs.StripeLaws.{all-over, all-none, all-refused}

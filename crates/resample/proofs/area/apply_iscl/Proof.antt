@@ -5,7 +5,7 @@ use Rattle.laws.proofs.Out.{answers-as, refused-answers, then-refused}
 use Rattle.laws.specs.Out.{done}
 use Rattle.image.proofs.RecordLaws.{whole-sound}
 use Rattle.image.specs.Record.{frameOut, recordOf}
-use Rattle.props.specs.Scale.{scaleOf}
+use Rattle.sizes.specs.Scale.{scaleOf}
 use Rattle.image.specs.Format.{sizeOut}
 use Rattle.resample.proofs.RunLaws.{iscl-fits, iscl-refused, iscl-run}
 use Rattle.resample.proofs.area.apply_iscl.Statement.{statement}
@@ -14,7 +14,7 @@ use Rattle.resample.proofs.area.apply_iscl.Tie as tie
 use Rattle.resample.proofs.area.apply_iscl.Reads as reads
 use Rattle.resample.proofs.area.apply_iscl.Lts as lts
 use Rattle.image.proofs.parse_record.Reads as parse-record-reads
-use Rattle.props.proofs.iscl.Iscl.output_size.Reads as output-size-reads
+use Rattle.sizes.proofs.iscl.Iscl.output_size.Reads as output-size-reads
 use Rattle.resample.proofs.area.resize_area.Reads as resize-area-reads
 
 taken : (c : tie.After-f) → recordOf (now (c .before .before .before .before .before .args .«record»)) ≡ done (c .f .given .0 .0)

@@ -5,7 +5,6 @@ use borrow.Author.Needs.{fits-under, needs}
 use denote.Ref.{now}
 use Rattle.laws.proofs.Order.{mul-below}
 use Rattle.planes.specs.Bytes.{sampleIn}
-use Rattle.image.specs.Record.{past}
 use Rattle.resample.proofs.FootLaws.{Weighing, mean-small, sum-whole, weighing-done, weighing-fits, weighing-start, weighing-step, whole-small}
 use Rattle.resample.proofs.RedrawLaws.{area-ends, row-sum-fits}
 use Rattle.resample.proofs.area.area_sample.Statement.{statement}

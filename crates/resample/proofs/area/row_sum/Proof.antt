@@ -5,7 +5,6 @@ use borrow.Author.Needs.{needs}
 use denote.Ref.{now}
 use Rattle.laws.proofs.Order.{mul-below}
 use Rattle.planes.specs.Bytes.{sampleIn}
-use Rattle.image.specs.Record.{past}
 use Rattle.resample.proofs.FootLaws.{Weighing, past-in, weighing-done, weighing-fits, weighing-start, weighing-step}
 use Rattle.resample.proofs.area.row_sum.Statement.{statement}
 use Rattle.resample.specs.Area.{firstOf, pastOf, sum}

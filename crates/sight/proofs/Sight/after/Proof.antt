@@ -3,16 +3,16 @@ use borrow.Author.Needs.{needs}
 use Rattle.laws.proofs.Out.{then-done, then-refused}
 use Rattle.laws.specs.Out.{done}
 use Rattle.image.specs.Format.{odd}
-use Rattle.props.proofs.ApertureLaws.{refused-no-rect}
-use Rattle.props.specs.Aperture.{resolvedOut}
+use Rattle.sizes.proofs.ApertureLaws.{refused-no-rect}
+use Rattle.sizes.specs.Aperture.{resolvedOut}
 use Rattle.sight.proofs.Sight.after.Statement.{statement}
 use Rattle.sight.proofs.Steps.{clap-at, clap-inside}
 use Rattle.sight.specs.Sight.{sightAfter}
 use Rattle.sight.proofs.Sight.after.Tie as tie
 use Rattle.sight.proofs.Sight.after.Reads as reads
 use Rattle.sight.proofs.Sight.after.Lts as lts
-use Rattle.props.proofs.clap.Clap.resolve.Reads as resolve-reads
-use Rattle.props.proofs.clap.Resolved.refusal.Reads as refusal-reads
+use Rattle.sizes.proofs.clap.Clap.resolve.Reads as resolve-reads
+use Rattle.sizes.proofs.clap.Resolved.refusal.Reads as refusal-reads
 use Rattle.sight.proofs.Sight.cropped.Reads as cropped-reads
 use Rattle.sight.proofs.Sight.height.Reads as height-reads
 use Rattle.sight.proofs.Sight.mirrored.Reads as mirrored-reads

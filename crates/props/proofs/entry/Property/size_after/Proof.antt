@@ -5,16 +5,16 @@ use Rattle.laws.proofs.Out.{then-refused}
 use Rattle.laws.specs.Out.{andThen}
 use Rattle.laws.specs.Pick.{pick}
 use Rattle.image.specs.Format.{odd}
-use Rattle.props.proofs.ApertureLaws.{refused-no-rect}
-use Rattle.props.specs.Aperture.{resolvedOut}
+use Rattle.sizes.proofs.ApertureLaws.{refused-no-rect}
+use Rattle.sizes.specs.Aperture.{resolvedOut}
 use Rattle.props.specs.Size.{sizeAfter, swapped}
 use Rattle.props.proofs.entry.Property.size_after.Statement.{statement}
 use Rattle.props.proofs.entry.Property.size_after.Tie as tie
 use Rattle.props.proofs.entry.Property.size_after.Reads as reads
 use Rattle.props.proofs.entry.Property.size_after.Lts as lts
-use Rattle.props.proofs.clap.Clap.resolve.Reads as resolve-reads
-use Rattle.props.proofs.clap.Resolved.refusal.Reads as refusal-reads
-use Rattle.props.proofs.iscl.Iscl.output_size.Reads as output-size-reads
+use Rattle.sizes.proofs.clap.Clap.resolve.Reads as resolve-reads
+use Rattle.sizes.proofs.clap.Resolved.refusal.Reads as refusal-reads
+use Rattle.sizes.proofs.iscl.Iscl.output_size.Reads as output-size-reads
 
 enum-told : tie.Need-enum-told
 enum-told c = search needs

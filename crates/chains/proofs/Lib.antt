@@ -1,0 +1,3 @@
+pub mod AfterLaws
+pub mod ApplyLaws
+pub mod ChainPlanLaws

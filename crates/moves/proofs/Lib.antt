@@ -1,0 +1,4 @@
+pub mod Walks
+pub mod Mirrors
+pub mod Turned
+pub mod Drawn

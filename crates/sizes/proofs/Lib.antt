@@ -1,0 +1,2 @@
+pub mod ApertureLaws
+pub mod ScaleLaws

@@ -1,0 +1,3 @@
+pub mod Aperture
+pub mod Scale
+pub mod Sound
