@@ -10,7 +10,8 @@ use Rattle.laws.proofs.Out.{Holds, Same, alike, both, done-holds, then-both, th
 use Rattle.laws.specs.Out.{Out, andThen, done}
 use Rattle.laws.specs.Pick.{pick}
 use Rattle.image.proofs.FormLaws.{bytes-cases}
-use Rattle.planes.proofs.RoundTrip.{Small, InRange, agree-in-range, agree-trans, decode-encode, encode-agree, encode-back}
+use Rattle.planes.proofs.RoundTrip.{Small, agree-in-range, agree-trans, decode-encode, encode-agree, encode-back}
+use Rattle.planes.specs.inner.InRange.{InRange}
 use Rattle.planes.specs.Bytes.{decode, encode, tightAt}
 use Rattle.image.specs.Format.{hasPart, odd, sized, hasSize}
 use Rattle.planes.specs.Picture.{Agree, Pic}

@@ -17,7 +17,7 @@ use Rattle.laws.specs.Puts.{puts}
 use Rattle.laws.specs.Span.{span}
 use Rattle.laws.specs.declared.Answer.{Answer}
 use Rattle.image.specs.Record.{recordOf}
-use Rattle.planes.proofs.RoundTrip.{InRange}
+use Rattle.planes.specs.inner.InRange.{InRange}
 use Rattle.planes.specs.Bytes.{encode, sampleBytes, samplesOf}
 use Rattle.planes.specs.Picture.{Pic}
 use Rattle.props.proofs.ChainLaws.{along-end, along-step, entries-none, entries-step, fold-step}
@@ -35,7 +35,7 @@ use Rattle.transform.specs.Run.{clapRun, imirRun, irotRun}
 use Rattle.resample.specs.Run.{isclRun}
 use Rattle.chains.proofs.AfterLaws.{Shows, after-bytes}
 use Rattle.chains.specs.Chain.{Drawn, drawnAfter, scaled}
-use Rattle.chains.specs.inner.Apply.{Buffers, Ended, Ready, Roomy, buffers, bytesIn, chainBytes, crossed, draws, lies, lying, movedOn, recordAfter, stepRun, wroteOf}
+use Rattle.chains.specs.inner.Apply.{Ended, Finished, Roomy, draws, recordAfter, stepRun, wroteOf}
 use Rattle.chains.specs.inner.ChainPlan.{moves}
 
 -- ---- pictures and their records along a chain
@@ -97,13 +97,6 @@ chain-carried output spare flag (e ∷ es) P l d k fits q o s =
 
 -- ---- the loop
 
--- so many entries are left from a place on, and the record lies here
-pub record Going (s : List ℕ) (flag : Bool) (end d f : List ℕ) (left next : ℕ) (here : Bool) (size : ℕ) (output spare : List ℕ) : Type 0 where
-  pub ready : Ready s left next flag here size output spare
-  pub same : chainBytes s left next flag (lying here size output spare) ≡ end
-  pub long : length output ≡ length d
-  pub other : length spare ≡ length f
-
 -- the record of an entry that draws, and of one that does not
 drawn-is : (flag : Bool) (e : PropertyEntry) (bs b : List ℕ) → draws flag e ≡ true → pick (applies flag e) (recordAfter (e .property) bs) (done bs) ≡ done b → recordAfter (e .property) bs ≡ done b
 unfolding draws
@@ -117,7 +110,7 @@ other-is (Property.Irot k) bs e = cc
 other-is (Property.Imir k) bs e = cc
 other-is (Property.Iscl k) bs e = cc
 
-skipped-is : (flag : Bool) (e : PropertyEntry) (bs : List ℕ) → draws flag e ≡ false → pick (applies flag e) (recordAfter (e .property) bs) (done bs) ≡ done bs
+pub skipped-is : (flag : Bool) (e : PropertyEntry) (bs : List ℕ) → draws flag e ≡ false → pick (applies flag e) (recordAfter (e .property) bs) (done bs) ≡ done bs
 unfolding draws pick
 skipped-is flag e bs = go (applies flag e)
   where
@@ -126,7 +119,7 @@ skipped-is flag e bs = go (applies flag e)
     go false q = refl
 
 -- what an operation answers and writes where there is room
-step-wrote : (p : Property) (bs b d : List ℕ) (a : Answer) (e : List ℕ) → recordAfter p bs ≡ done b → length b ≤ length d
+pub step-wrote : (p : Property) (bs b d : List ℕ) (a : Answer) (e : List ℕ) → recordAfter p bs ≡ done b → length b ≤ length d
     → (a ≡ answerOf (stepRun p bs (length d))) × (e ≡ written (stepRun p bs (length d)) d)
     → (wroteOf a ≡ length b) × (take (length b) e ≡ b) × (length e ≡ length d)
 unfolding answerOf written wroteOf stepRun
@@ -137,149 +130,6 @@ step-wrote p bs b d a e q l h =
       ap (take (length b)) w ∙ take-at b _ (length b) refl,
       ap length w ∙ length-append b _ ∙ omega (arith, length-drop (length b) d),
     )
-
-module _ (s : List ℕ) (flag : Bool) (end d f : List ℕ) (left next : ℕ) (here : Bool) (size : ℕ) (output spare : List ℕ)
-    (g : Going s flag end d f left next here size output spare) (x : EntryAt) (some : 0 < left) (at : entryAt s next ≡ done x) where
-  abbrev bs : List ℕ
-  bs = lying here size output spare
-
-  -- the entry, and what is left after it
-  abbrev split : (rest : List PropertyEntry) × (entriesAt (left - 1) s (x .next) ≡ done rest) × (g .ready .entries ≡ x .entry ∷ rest)
-  split = entries-step left s next (g .ready .entries) x some (g .ready .read) at
-
-  abbrev room : Roomy (length output) (length spare) flag (x .entry ∷ split .0) bs
-  room = rw (← split .2) (g .ready .room)
-
-  onward : (b : List ℕ) → pick (applies flag (x .entry)) (recordAfter (x .entry .property) bs) (done bs) ≡ done b → chainBytes s (left - 1) (x .next) flag b ≡ end
-  unfolding chainBytes
-  onward b q =
-      let k = along-step recordAfter flag left s next (g .ready .entries) bs (g .ready .read) x b some at q in
-      ap bytesIn (then-done _ (k .1) ∙ sym (k .2) ∙ sym (then-done _ (g .ready .read))) ∙ g .same
-
-  pub going-skipped : draws flag (x .entry) ≡ false → Going s flag end d f (left - 1) (x .next) here size output spare
-  unfolding Roomy lies
-  going-skipped t =
-      let q = skipped-is flag (x .entry) bs t in
-      let r = room in
-      let i : r .0 ≡ bs = done-same _ bs (sym (r .1) ∙ q) in
-      record {
-        ready = record {
-          entries = split .0;
-          read = split .1;
-          side = g .ready .side ∙ ap (lies flag) (split .2) ∙ pick-false _ _ _ t;
-          first = g .ready .first;
-          other = g .ready .other;
-          room = rw (← i) (r .4);
-        };
-        same = onward bs q;
-        long = g .long;
-        other = g .other;
-      }
-
-  -- an entry that draws: its record lies on the other side
-  going-drawn : draws flag (x .entry) ≡ true → (b : List ℕ) → recordAfter (x .entry .property) bs ≡ done b → (size′ : ℕ) (output′ spare′ : List ℕ) → size′ ≡ length b
-      → lying (not here) size′ output′ spare′ ≡ b → length output′ ≡ length output → length spare′ ≡ length spare → Going s flag end d f (left - 1) (x .next) (not here) size′ output′ spare′
-  unfolding Roomy lies draws
-  going-drawn t b q size′ output′ spare′ n h o p =
-      let r = room in
-      let w = pick-true _ (recordAfter (x .entry .property) bs) (done bs) (and-true _ _ t .0) ∙ q in
-      let i : r .0 ≡ b = done-same _ b (sym (r .1) ∙ w) in
-      record {
-        ready = record {
-          entries = split .0;
-          read = split .1;
-          side = ap not (g .ready .side ∙ ap (lies flag) (split .2) ∙ pick-true _ _ _ t) ∙ not-not (lies flag (split .0));
-          first = rw (n, ← i, o) (r .2);
-          other = rw (n, ← i, p) (r .3);
-          room = rw (h, ← i, o, p) (r .4);
-        };
-        same = rw h (onward b w);
-        long = o ∙ g .long;
-        other = p ∙ g .other;
-      }
-    where
-      not-not : (t : Bool) → not (not t) ≡ t
-      not-not true = refl
-      not-not false = refl
-
-  -- the next record, and that it has room on both sides
-  following : draws flag (x .entry) ≡ true → (b : List ℕ) × (recordAfter (x .entry .property) bs ≡ done b) × (length b ≤ length output) × (length b ≤ length spare)
-  unfolding Roomy
-  following t = let r = room in (r .0, drawn-is flag (x .entry) bs (r .0) t (r .1), r .2, r .3)
-
-  -- from output into the spare
-  pub going-over : draws flag (x .entry) ≡ true → here ≡ true → (a : Answer) (e : List ℕ)
-      → (a ≡ answerOf (stepRun (x .entry .property) (take size output) (length spare))) × (e ≡ written (stepRun (x .entry .property) (take size output) (length spare)) spare)
-      → Going s flag end d f (left - 1) (x .next) (not here) (wroteOf a) output e
-  unfolding lying
-  going-over t i a e h =
-      let v = following t in
-      let q : recordAfter (x .entry .property) (take size output) ≡ done (v .0) = ap (λ (z : Bool). recordAfter (x .entry .property) (lying z size output spare)) (sym i) ∙ v .1 in
-      let w = step-wrote (x .entry .property) (take size output) (v .0) spare a e q (v .3) h in
-      going-drawn t (v .0) (v .1) (wroteOf a) output e (w .0) (ap (λ (z : Bool). lying (not z) (wroteOf a) output e) i ∙ ap (λ (n : ℕ). take n e) (w .0) ∙ w .1) refl (w .2)
-
-  -- from the spare into output
-  pub going-back : draws flag (x .entry) ≡ true → here ≡ false → (a : Answer) (e : List ℕ)
-      → (a ≡ answerOf (stepRun (x .entry .property) (take size spare) (length output))) × (e ≡ written (stepRun (x .entry .property) (take size spare) (length output)) output)
-      → Going s flag end d f (left - 1) (x .next) (not here) (wroteOf a) e spare
-  unfolding lying
-  going-back t i a e h =
-      let v = following t in
-      let q : recordAfter (x .entry .property) (take size spare) ≡ done (v .0) = ap (λ (z : Bool). recordAfter (x .entry .property) (lying z size output spare)) (sym i) ∙ v .1 in
-      let w = step-wrote (x .entry .property) (take size spare) (v .0) output a e q (v .2) h in
-      going-drawn t (v .0) (v .1) (wroteOf a) e spare (w .0) (ap (λ (z : Bool). lying (not z) (wroteOf a) e spare) i ∙ ap (λ (n : ℕ). take n e) (w .0) ∙ w .1) (w .2) refl
-
--- the two ways across
-module _ (p : Property) (here : Bool) (size : ℕ) (output spare : List ℕ) (n : ℕ) (e : List ℕ) where
-  pub crossed-over : here ≡ true → n ≡ wroteOf (answerOf (stepRun p (take size output) (length spare))) → e ≡ written (stepRun p (take size output) (length spare)) spare
-      → crossed p here size output spare ≡ buffers (record { size = n; inside = false }) output e
-  unfolding crossed buffers
-  crossed-over i a b = rw (i, a, b)
-
-  pub crossed-back : here ≡ false → n ≡ wroteOf (answerOf (stepRun p (take size spare) (length output))) → e ≡ written (stepRun p (take size spare) (length output)) output
-      → crossed p here size output spare ≡ buffers (record { size = n; inside = true }) e spare
-  unfolding crossed buffers
-  crossed-back i a b = rw (i, a, b)
-
-abbrev pub Arrived : List ℕ → Bool → List ℕ → List ℕ → List ℕ → ℕ → ℕ → Buffers → Type 0
-Arrived s flag end d f left next b = Going s flag end d f left next (b .held .inside) (b .held .size) (b .output) (b .spare)
-
-crossing : (s : List ℕ) (flag : Bool) (end d f : List ℕ) (left next : ℕ) (here : Bool) (size : ℕ) (output spare : List ℕ) → Going s flag end d f left next here size output spare
-    → (x : EntryAt) → 0 < left → entryAt s next ≡ done x → draws flag (x .entry) ≡ true → Arrived s flag end d f (left - 1) (x .next) (crossed (x .entry .property) here size output spare)
-unfolding crossed
-crossing s flag end d f left next true size output spare g x some at t = going-over s flag end d f left next true size output spare g x some at t refl _ _ (refl, refl)
-crossing s flag end d f left next false size output spare g x some at t = going-back s flag end d f left next false size output spare g x some at t refl _ _ (refl, refl)
-
--- an entry, whichever it is
-pub going-on : (s : List ℕ) (flag : Bool) (end d f : List ℕ) (left next : ℕ) (b c : Buffers) → Going s flag end d f left next (b .held .inside) (b .held .size) (b .output) (b .spare)
-    → (x : EntryAt) → 0 < left → entryAt s next ≡ done x → c ≡ movedOn flag (x .entry) b
-    → Going s flag end d f (left - 1) (x .next) (c .held .inside) (c .held .size) (c .output) (c .spare)
-unfolding movedOn
-going-on s flag end d f left next b c g x some at e =
-    rw e (by-test (draws flag (x .entry))
-    (λ t. rw (pick-true _ (crossed (x .entry .property) (b .held .inside) (b .held .size) (b .output) (b .spare)) b t) (over t))
-    (λ t. rw (pick-false _ (crossed (x .entry .property) (b .held .inside) (b .held .size) (b .output) (b .spare)) b t) (going-skipped s flag end d f left next _ _ _ _ g x some at t)))
-  where
-    over : draws flag (x .entry) ≡ true → Arrived s flag end d f (left - 1) (x .next) (crossed (x .entry .property) (b .held .inside) (b .held .size) (b .output) (b .spare))
-    over t = crossing s flag end d f left next (b .held .inside) (b .held .size) (b .output) (b .spare) g x some at t
-
--- no entry is left: output begins with the last record
-pub going-ends : (s : List ℕ) (flag : Bool) (end d f : List ℕ) (left next : ℕ) (here : Bool) (size : ℕ) (output spare : List ℕ) → Going s flag end d f left next here size output spare
-    → left ≤ 0 → Ended size end d output f spare
-unfolding chainBytes bytesIn lies lying foldChain
-going-ends s flag end d f left next here size output spare g z =
-    let n = entries-none left s next (g .ready .entries) z (g .ready .read) in
-    let i : here ≡ true = g .ready .side ∙ ap (lies flag) n in
-    let c : take size output ≡ end =
-    sym (ap (λ (t : Bool). lying t size output spare) i)
-    ∙ sym (ap bytesIn (then-done _ (g .ready .read) ∙ along-end recordAfter flag left s next (g .ready .entries) (lying here size output spare) (g .ready .read) z)) ∙ g .same in
-    record {
-      size = sym (ap length (sym c) ∙ length-take-le size output (g .ready .first));
-      begins = c;
-      inside = g .ready .first;
-      output = g .long;
-      spare = g .other;
-    }
 
 -- ---- one operation
 

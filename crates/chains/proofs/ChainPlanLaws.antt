@@ -3,13 +3,14 @@ use mathlib.Core.Bool.{Bool, _&&_, false, not, true}
 use mathlib.Core.List.{List, [], _∷_}
 use mathlib.Core.Path.{_∙_, _≡_, ap, ap₂, refl, sym}
 use Prim.Native.Nat.{max, ℕ}
-use Rattle.laws.proofs.Order.{pick-false, pick-true}
-use Rattle.laws.proofs.Out.{Holds, Same, alike, andThen-done, both, done-holds, done-same, holds-done, pick-holds, then-holds, then-same}
+use Rattle.laws.proofs.Order.{by-test}
+use Rattle.laws.proofs.Out.{Holds, Same, alike, both, done-holds, done-same, holds-done, pick-holds, same-left, then-both, then-holds, then-same}
 use Rattle.laws.specs.Out.{Out, andThen, done}
 use Rattle.laws.specs.Pick.{pick}
 use Rattle.image.specs.Sound.{FormSound}
 use Rattle.image.specs.declared.format.Form.{Form}
-use Rattle.planes.proofs.RoundTrip.{InRange, length-encode}
+use Rattle.planes.specs.inner.InRange.{InRange}
+use Rattle.planes.proofs.RoundTrip.{length-encode}
 use Rattle.planes.specs.Bytes.{sizeOf}
 use Rattle.planes.specs.Picture.{Pic}
 use Rattle.props.proofs.ChainLaws.{Applied, fold-same}
@@ -20,8 +21,7 @@ use Rattle.transform.specs.Chain.{picAfter}
 use Rattle.chains.proofs.AfterLaws.{Formed, after-form, after-sound, after-in-range}
 use Rattle.chains.specs.Chain.{Drawn, firstDrawn, chainDrawn, drawnAfter, scaled}
 use Rattle.chains.specs.declared.chain_plan.ChainPlan.{ChainPlan}
-use Rattle.chains.specs.inner.Apply.{draws, lies}
-use Rattle.chains.specs.inner.ChainPlan.{chainPlanAfter, chainPlanOf, formAfter, moves, chainPlanStart}
+use Rattle.chains.specs.inner.ChainPlan.{begins, chainPlanAfter, chainPlanOf, chainPlanStart, formAfter, shownAfter}
 
 -- a course and what is drawn
 pub record Leads (c : ChainPlan) (d : Drawn) : Type 0 where
@@ -80,45 +80,33 @@ plan-sound p c k = then-holds FormSound _ (formAfter p (c .form)) _ (after-sound
 
 -- ---- where the last record ends
 
--- as many swaps along the list as before it
-turned-over : (d l x : Bool) → pick l (pick d (not x) x) (not (pick d (not x) x)) ≡ pick (pick d (not l) l) x (not x)
-unfolding pick
-turned-over true true true = refl
-turned-over true true false = refl
-turned-over true false true = refl
-turned-over true false false = refl
-turned-over false true true = refl
-turned-over false true false = refl
-turned-over false false true = refl
-turned-over false false false = refl
+-- a plan with the other side
+unfoldable otherSide : ChainPlan → ChainPlan
+otherSide c = record { form = c .form; longest = c .longest; even = not (c .even); shown = c .shown }
 
--- an entry swaps where it draws
-even-step : (flag : Bool) (e : PropertyEntry) (c b : ChainPlan) → pick (applies flag e) (chainPlanAfter (e .property) c) (done c) ≡ done b → b .even ≡ pick (draws flag e) (not (c .even)) (c .even)
-unfolding draws pick chainPlanAfter
-even-step flag e c b = go (applies flag e)
-  where
-    go : (t : Bool) → pick t (andThen (formAfter (e .property) (c .form)) (λ m.
-        done (record { form = m; longest = max (c .longest) (sizeOf m); even = pick (moves (e .property)) (not (c .even)) (c .even) }))) (done c) ≡ done b
-        → b .even ≡ pick (t && moves (e .property)) (not (c .even)) (c .even)
-    go true q = let a = andThen-done _ _ b q in sym (ap (λ (k : ChainPlan). k .even) (done-same _ b (a .2)))
-    go false q = sym (ap (λ (k : ChainPlan). k .even) (done-same c b q))
+unfoldable OtherSide : ChainPlan → ChainPlan → Type 0
+OtherSide c d = d ≡ otherSide c
 
-pub plan-even : (flag : Bool) (es : List PropertyEntry) (c b : ChainPlan) → foldChain chainPlanAfter flag es c ≡ done b → b .even ≡ pick (lies flag es) (c .even) (not (c .even))
-unfolding foldChain lies pick
-plan-even flag [] c b q = sym (ap (λ (k : ChainPlan). k .even) (done-same c b q))
-plan-even flag (e ∷ es) c b q =
-    let a = andThen-done _ _ b q in
-    let i = plan-even flag es (a .0) b (a .2) in
-    i ∙ ap (λ (x : Bool). pick (lies flag es) x (not x)) (even-step flag e c (a .0) (a .1)) ∙ turned-over (draws flag e) (lies flag es) (c .even)
+not-over : (t e : Bool) → pick t (not (not e)) (not e) ≡ not (pick t (not e) e)
+unfolding pick not
+not-over true e = refl
+not-over false e = refl
 
--- a whole chain
-pub lies-even : (flag : Bool) (es : List PropertyEntry) (m : Form) (b : ChainPlan) → chainPlanOf es flag m ≡ done b → b .even ≡ lies flag es
-unfolding chainPlanOf chainPlanStart
-lies-even flag es m b q = plan-even flag es _ b q ∙ go (lies flag es)
-  where
-    go : (t : Bool) → pick t true (not true) ≡ t
-    go true = pick-true _ _ _ refl
-    go false = pick-false _ _ _ refl
+other-after : (p : Property) (c d : ChainPlan) → Any p → OtherSide c d → Same OtherSide (chainPlanAfter p c) (chainPlanAfter p d)
+unfolding OtherSide otherSide chainPlanAfter
+other-after p c d i e =
+    rw e (then-both (λ m. Unit {0}) OtherSide (formAfter p (c .form)) _ _ (done-holds _ _ (λ m q. tt))
+    (λ m q. both (ap (λ (z : Bool). record { form = m; longest = max (c .longest) (sizeOf m); even = z; shown = shownAfter p (c .form) (c .shown) }) (not-over (begins p (c .form) (c .shown)) (c .even)))))
+
+-- a plan that begins where it says ends in output
+pub plan-lands : (flag : Bool) (es : List PropertyEntry) (m : Form) (b : ChainPlan) → chainPlanOf es flag m ≡ done b
+    → (d : ChainPlan) × (foldChain chainPlanAfter flag es (record { form = m; longest = sizeOf m; even = b .even; shown = false }) ≡ done d) × (d .even ≡ true)
+unfolding chainPlanOf chainPlanStart OtherSide otherSide
+plan-lands flag es m b q = by-test (b .even)
+    (λ t. rw t (b, q, t))
+    (λ t.
+    let o = same-left OtherSide _ _ (fold-same OtherSide Any chainPlanAfter chainPlanAfter other-after flag es (all-any flag es) _ (record { form = m; longest = sizeOf m; even = false; shown = false }) refl) b q in
+    rw t (o .0, o .1, ap (λ (k : ChainPlan). k .even) (o .2) ∙ ap not t))
 
 -- ---- the loop over a chain's entries
 

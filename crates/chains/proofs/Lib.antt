@@ -1,3 +1,5 @@
 pub mod AfterLaws
 pub mod ApplyLaws
 pub mod ChainPlanLaws
+pub mod StageLaws
+pub mod GoingLaws

@@ -1,16 +1,29 @@
 // The chain on a composed record, to and fro between the two lent buffers.
 ghost use mathlib.Core.Path.{_≡_};
+ghost use mathlib.Core.Bool.{false, not, true};
 ghost use Prim.Native.Nat.{_-_, _≤_};
 ghost use mathlib.Core.List.{_++_};
 ghost use lib.ListN.{length, take, replicate};
 ghost use Rattle.laws.specs.Out.{answerOf, written};
-ghost use Rattle.chains.specs.inner.Apply.{draws, lying, Ready, chainBytes, wroteOf, stepRun, buffers, movedOn, Ended, Finished};
+ghost use Rattle.laws.specs.Puts.{puts};
+ghost use Rattle.image.specs.Sound.{FormSound};
+ghost use Rattle.planes.specs.Bytes.{sizeOf};
+ghost use Rattle.sight.specs.Sight.{sightAfter};
+ghost use Rattle.sight.specs.inner.Bounded.{Bounded};
+ghost use Rattle.chains.specs.inner.ChainPlan.{formAfter};
+ghost use Rattle.chains.specs.inner.Apply.{draws, lying, recordAfter, Ready, chainBytes, bytesIn, wroteOf, stepRun, entryBytes, stageBytes, recordIn, settledIn, sightHere, stageStart, stageDrawn, Gives, HeldAfter, StageSound, Staged, Able, Drawable, Planned, Arrived, Ended, Finished};
+use crate::chain_plan::form_after;
+use crate::chain_plan::is_held;
 use crate::chain_plan::is_move;
+use image::Form;
+use image::FormRead;
 use laws::Answer;
 use props::Chain;
 use props::EntryRead;
 use props::Property;
 use props::PropertyEntry;
+use sight::Sight;
+use sight::SightRead;
 
 // A record after a property. Refusals: the record's, the property's, 17.
 fn draw_step(record: &[u8], property: Property, out: &mut [u8]) -> Answer
@@ -65,57 +78,187 @@ pub struct Current {
     pub inside: bool,
 }
 
-// The record after an entry: an entry that draws moves it to the other buffer.
+// What a chain has reached: the record in a buffer, of form `from`, or what a sight shows of it, of another form.
+pub struct Stage {
+    pub current: Current,
+    pub from: Form,
+    pub form: Form,
+    pub sight: Sight,
+    pub shown: bool,
+}
+
+// The composed record, as it lies.
+fn stage_start(m: Form, first: Current) -> Stage
+    ensures { λ r. ⌜ r ≡ stageStart m first ⌝ }
+{
+    Stage {
+        current: first,
+        from: m,
+        form: m,
+        sight: Sight::new(m.width, m.height),
+        shown: false,
+    }
+}
+
+// What a sight shows of the record at the start of one buffer, drawn into another. Answers its length.
+fn show_into(from: &[u8], t: Stage, to: &mut [u8]) -> usize
+    requires { ⌜ StageSound t (take (t .current .size) (now from)) × (t .shown ≡ true) × (t .current .size ≤ length (now from)) × (sizeOf (t .form) ≤ length (now to)) ⌝ }
+    ensures { λ r. ⌜ (r ≡ sizeOf (t .form)) × (now (to .exit) ≡ puts (now (to .entry)) 0 (stageBytes t (take (t .current .size) (now (from .entry))))) ⌝ }
+{
+    let current = t.current;
+    let record = &from[..current.size];
+    view::draw_sight(to, record, planes::tight(t.from), t.form, t.sight)
+}
+
+// A record that was drawn.
+fn stage_drawn(t: Stage, size: usize, form: Form) -> Stage
+    ensures { λ r. ⌜ r ≡ stageDrawn t size form ⌝ }
+{
+    let old = t.current;
+    let current = Current {
+        size,
+        inside: !old.inside,
+    };
+    let sight = t.sight;
+    Stage {
+        current,
+        from: form,
+        form,
+        sight,
+        shown: false,
+    }
+}
+
+// What is shown is drawn into the other buffer.
+fn settle(t: Stage, output: &mut [u8], spare: &mut [u8]) -> Stage
+    requires { ⌜ Staged t (now output) (now spare) ⌝ }
+    ensures { λ r. ⌜ Arrived (stageBytes t (recordIn t (now (output .entry)) (now (spare .entry)))) (now (output .entry)) (now (spare .entry)) r (now (output .exit)) (now (spare .exit))
+        × (r .shown ≡ false) × (r .form ≡ t .form) × (r .current .inside ≡ settledIn t) ⌝ }
+{
+    if t.shown {
+        let current = t.current;
+        if current.inside {
+            return stage_drawn(t, show_into(output, t, spare), t.form);
+        }
+        return stage_drawn(t, show_into(spare, t, output), t.form);
+    }
+    t
+}
+
+// The form after a property that is not refused.
+fn next_form(m: Form, property: Property) -> Form
+    requires { ⌜ FormSound m ⌝ }
+    ensures { λ r. ⌜ Gives (formAfter property m) r ⌝ }
+{
+    match form_after(m, property) {
+        FormRead::Form(n) => n,
+        FormRead::Refused(_) => m,
+    }
+}
+
+// The sight after a property that is not refused.
+fn next_sight(s: Sight, property: Property) -> Sight
+    requires { ⌜ Bounded (s .area) ⌝ }
+    ensures { λ r. ⌜ Gives (sightAfter property s) r ⌝ }
+{
+    match s.after(property) {
+        SightRead::Sight(u) => u,
+        SightRead::Refused(_) => s,
+    }
+}
+
+// The sight from which a stage goes on.
+fn sight_here(t: Stage) -> Sight
+    ensures { λ r. ⌜ r ≡ sightHere t ⌝ }
+{
+    if t.shown {
+        return t.sight;
+    }
+    let m = t.form;
+    Sight::new(m.width, m.height)
+}
+
+// A property that a sight can hold.
+fn hold(t: Stage, property: Property) -> Stage
+    requires { ⌜ FormSound (t .form) × Bounded (sightHere t .area) ⌝ }
+    ensures { λ r. ⌜ HeldAfter property t r ⌝ }
+{
+    let current = t.current;
+    let from = t.from;
+    Stage {
+        current,
+        from,
+        form: next_form(t.form, property),
+        sight: next_sight(sight_here(t), property),
+        shown: true,
+    }
+}
+
+// A property drawn into the other buffer.
+fn draw_property(t: Stage, property: Property, output: &mut [u8], spare: &mut [u8]) -> Stage
+    requires { ⌜ Drawable property t (now output) (now spare) ⌝ }
+    ensures { λ r. ⌜ Arrived (bytesIn (recordAfter property (recordIn t (now (output .entry)) (now (spare .entry))))) (now (output .entry)) (now (spare .entry)) r (now (output .exit)) (now (spare .exit))
+        × (r .shown ≡ false) × Gives (formAfter property (t .form)) (r .form) × (r .current .inside ≡ not (t .current .inside)) ⌝ }
+{
+    let m = next_form(t.form, property);
+    let current = t.current;
+    if current.inside {
+        return stage_drawn(t, draw_into(output, current.size, property, spare), m);
+    }
+    stage_drawn(t, draw_into(spare, current.size, property, output), m)
+}
+
+// The next stage: a property that a sight can hold is drawn with those after it, any other at once.
 fn apply_entry(
-    held: Current,
+    t: Stage,
     entry: PropertyEntry,
     essential_only: bool,
     output: &mut [u8],
     spare: &mut [u8],
-) -> Current
-    requires { ⌜ (held .size ≤ length (now output)) × (held .size ≤ length (now spare)) ⌝ }
-    ensures { λ r. ⌜ buffers r (now (output .exit)) (now (spare .exit)) ≡ movedOn «essential_only» entry (buffers held (now (output .entry)) (now (spare .entry))) ⌝ }
+) -> Stage
+    requires { ⌜ Able «essential_only» entry t (now output) (now spare) ⌝ }
+    ensures { λ r. ⌜ Arrived (bytesIn (entryBytes «essential_only» entry (stageBytes t (recordIn t (now (output .entry)) (now (spare .entry)))))) (now (output .entry)) (now (spare .entry)) r (now (output .exit)) (now (spare .exit))
+        × Planned «essential_only» entry t r ⌝ }
 {
     if is_drawn(entry, essential_only) {
         let property = entry.property;
-        if held.inside {
-            return Current {
-                size: draw_into(output, held.size, property, spare),
-                inside: false,
-            };
+        if is_held(property, t.form) {
+            return hold(t, property);
         }
-        return Current {
-            size: draw_into(spare, held.size, property, output),
-            inside: true,
-        };
+        let u = settle(t, output, spare);
+        return draw_property(u, property, output, spare);
     }
-    held
+    t
 }
 
-// A chain that was judged, on a record that lies so that the last record ends in output. Answers its length.
+// A chain that was judged, on a record of a form that lies so that the last record ends in output. Answers its length.
 fn apply_chain(
     s: &[u8],
     chain: Chain,
     essential_only: bool,
+    m: Form,
     output: &mut [u8],
     spare: &mut [u8],
     first: Current,
 ) -> usize
-    requires { ⌜ Ready (now s) (chain .count) (chain .first) «essential_only» (first .inside) (first .size) (now output) (now spare) ⌝ }
+    requires { ⌜ Ready (now s) (chain .count) (chain .first) «essential_only» (stageStart m first) (now output) (now spare) ⌝ }
     ensures { λ r. ⌜ Ended r (chainBytes (now (s .entry)) (chain .count) (chain .first) «essential_only» (lying (first .inside) (first .size) (now (output .entry)) (now (spare .entry)))) (now (output .entry)) (now (output .exit)) (now (spare .entry)) (now (spare .exit)) ⌝ }
 {
     let mut next = chain.first;
     let mut left = chain.count;
-    let mut held = first;
+    let mut t = stage_start(m, first);
     while left > 0 {
         let EntryRead::Read(e) = props::read_entry(s, next) else {
-            return held.size;
+            let current = t.current;
+            return current.size;
         };
-        held = apply_entry(held, e.entry, essential_only, output, spare);
+        t = apply_entry(t, e.entry, essential_only, output, spare);
         next = e.next;
         left -= 1;
     }
-    held.size
+    let u = settle(t, output, spare);
+    let current = u.current;
+    current.size
 }
 
 // Zeros from a place on.
@@ -128,19 +271,20 @@ fn clear(out: &mut [u8], from: usize)
     }
 }
 
-// The chain on a composed record: the last record at the start of output, zero past it, and zero all over the spare.
+// The chain on a composed record of a form: the last record at the start of output, zero past it, and zero all over the spare.
 pub fn finish_scene(
     s: &[u8],
     chain: Chain,
     essential_only: bool,
+    m: Form,
     output: &mut [u8],
     spare: &mut [u8],
     first: Current,
 ) -> Answer
-    requires { ⌜ Ready (now s) (chain .count) (chain .first) «essential_only» (first .inside) (first .size) (now output) (now spare) ⌝ }
+    requires { ⌜ Ready (now s) (chain .count) (chain .first) «essential_only» (stageStart m first) (now output) (now spare) ⌝ }
     ensures { λ r. ⌜ Finished r (chainBytes (now (s .entry)) (chain .count) (chain .first) «essential_only» (lying (first .inside) (first .size) (now (output .entry)) (now (spare .entry)))) (now (output .entry)) (now (output .exit)) (now (spare .entry)) (now (spare .exit)) ⌝ }
 {
-    let size = apply_chain(s, chain, essential_only, output, spare, first);
+    let size = apply_chain(s, chain, essential_only, m, output, spare, first);
     clear(output, size);
     clear(spare, 0);
     Answer::Wrote(size)

@@ -1,5 +1,5 @@
-// Where a chain leads, by forms alone: the form it ends with, the longest record on the way, and whether it draws an
-// even number of times.
+// Where a chain leads, by forms alone: the form it ends with, the longest record on the way, whether it draws an even number of
+// times, and whether its last drawing goes on.
 ghost use mathlib.Core.Path.{_≡_};
 ghost use mathlib.Core.Bool.{not};
 ghost use Rattle.laws.specs.Out.{done, andThen};
@@ -7,7 +7,7 @@ ghost use Rattle.laws.specs.Pick.{pick};
 ghost use Rattle.image.specs.Sound.{FormSound};
 ghost use Rattle.props.specs.Chain.{applies, entriesAt};
 ghost use Rattle.props.specs.inner.Judged.{Judged};
-ghost use Rattle.chains.specs.inner.ChainPlan.{formAfter, moves, chainPlanStart, chainPlanAfter, chainPlanOf, chainPlanOut};
+ghost use Rattle.chains.specs.inner.ChainPlan.{formAfter, moves, scales, isEven, isHeld, begins, shownAfter, chainPlanStart, chainPlanAfter, chainPlanOf, chainPlanOut};
 ghost use Rattle.image.specs.Format.{formOut};
 use image::Form;
 use image::FormRead;
@@ -23,6 +23,7 @@ pub struct ChainPlan {
     pub form: Form,
     pub longest: usize,
     pub even: bool,
+    pub shown: bool,
 }
 
 pub enum ChainPlanRead {
@@ -43,6 +44,50 @@ pub(crate) fn is_move(property: Property) -> bool
     }
 }
 
+fn is_scaling(property: Property) -> bool
+    ensures { λ r. ⌜ r ≡ scales property ⌝ }
+{
+    match property {
+        Property::Other => false,
+        Property::Clap(_) => false,
+        Property::Irot(_) => false,
+        Property::Imir(_) => false,
+        Property::Iscl(_) => true,
+    }
+}
+
+// Whether no halved side is odd.
+fn is_even(m: Form) -> bool
+    ensures { λ r. ⌜ r ≡ isEven m ⌝ }
+{
+    let f = m.format;
+    !f.needs_444(image::is_odd(m.width), image::is_odd(m.height))
+}
+
+// Whether a sight can hold what a property makes of a form. A mirror moves the chroma of an odd side otherwise than its pixels.
+pub(crate) fn is_held(property: Property, m: Form) -> bool
+    ensures { λ r. ⌜ r ≡ isHeld property m ⌝ }
+{
+    image::both(!is_scaling(property), is_even(m))
+}
+
+// Whether a property begins a drawing.
+fn begins_drawing(property: Property, m: Form, shown: bool) -> bool
+    ensures { λ r. ⌜ r ≡ begins property m shown ⌝ }
+{
+    image::both(is_move(property), !image::both(shown, is_held(property, m)))
+}
+
+// Whether a drawing goes on after a property.
+fn shown_after(property: Property, m: Form, shown: bool) -> bool
+    ensures { λ r. ⌜ r ≡ shownAfter property m shown ⌝ }
+{
+    if is_move(property) {
+        return is_held(property, m);
+    }
+    shown
+}
+
 fn flip(b: bool, over: bool) -> bool
     ensures { λ r. ⌜ r ≡ pick over (not b) b ⌝ }
 {
@@ -53,7 +98,7 @@ fn flip(b: bool, over: bool) -> bool
 }
 
 // The form after a property. Refusals: a clap's, an iscl's.
-fn form_after(m: Form, property: Property) -> FormRead
+pub(crate) fn form_after(m: Form, property: Property) -> FormRead
     requires { ⌜ FormSound m ⌝ }
     ensures { λ r. ⌜ formOut r ≡ formAfter property m ⌝ }
 {
@@ -85,6 +130,7 @@ impl ChainPlan {
             form: m,
             longest: planes::record_size(m),
             even: true,
+            shown: false,
         }
     }
 
@@ -98,7 +144,8 @@ impl ChainPlan {
             FormRead::Form(m) => ChainPlanRead::ChainPlan(ChainPlan {
                 form: m,
                 longest: numbers::max(self.longest, planes::record_size(m)),
-                even: flip(self.even, is_move(property)),
+                even: flip(self.even, begins_drawing(property, self.form, self.shown)),
+                shown: shown_after(property, self.form, self.shown),
             }),
         }
     }

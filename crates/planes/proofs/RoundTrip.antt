@@ -26,6 +26,7 @@ use Rattle.image.specs.declared.format.Part.the-variants.{Alpha, Cb, Cr, Luma}
 use Rattle.image.specs.declared.record.Plane.{Plane}
 use Rattle.planes.proofs.ByteLaws.{length-sampleBytes, length-samplesOf, sample-one, sample-two}
 use Rattle.planes.specs.Bytes.{decode, encode, headBytes, placed, planeBytes, planeHead, planeSize, rowBytes, rowsBytes, sampleAt, sampleBytes, sampleIn, samplesOf, sizeOf, tightAt}
+use Rattle.planes.specs.inner.InRange.{InRange}
 use Rattle.planes.specs.Picture.{Agree, Pic}
 
 -- ---- how long a tight record is, by its form alone
@@ -297,12 +298,6 @@ agree-trans P Q R a b =
       form = a .form ∙ b .form;
       reads = λ p h x y i j. a .reads p h x y i j ∙ b .reads p (ap (λ (m : Form). hasPart (m .format) p) (sym e) ∙ h) x y (rw (← e) i) (rw (← e) j);
     }
-
--- a picture of a sound form whose samples fit their bytes
-pub record InRange (P : Pic) : Type 0 where
-  pub sound : FormSound (P .form)
-  pub small : (p : Part) → hasPart (P .form .format) p ≡ true → (x y : ℕ) → x < columnsOf (P .form) p → y < rowsOf (P .form) p
-      → P .at p x y < 256 ^ bytesOf (P .form .format)
 
 pub agree-in-range : (P Q : Pic) → Agree P Q → InRange P → InRange Q
 agree-in-range P Q a k =

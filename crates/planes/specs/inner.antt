@@ -2,3 +2,4 @@
 pub mod Line
 pub mod Promoted
 pub mod Even
+pub mod InRange

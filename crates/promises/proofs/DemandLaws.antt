@@ -14,7 +14,7 @@ use Rattle.image.proofs.RecordLaws.{on-number}
 use Rattle.image.specs.Format.{topOf}
 use Rattle.image.specs.Sound.{FormSound, SizeSound}
 use Rattle.image.specs.Tray.{recordsIn}
-use Rattle.planes.proofs.RoundTrip.{InRange}
+use Rattle.planes.specs.inner.InRange.{InRange}
 use Rattle.planes.specs.Picture.{Pic}
 use Rattle.fill.specs.declared.Colour.{Colour}
 use Rattle.props.proofs.ChainLaws.{Applied}

@@ -27,7 +27,7 @@ use Rattle.image.specs.declared.format.Part.the-variants.{Alpha, Cb, Cr, Luma}
 use Rattle.image.specs.declared.format.PixelFormat.{PixelFormat}
 use Rattle.image.specs.declared.record.Frame.{Frame}
 use Rattle.planes.proofs.ByteLaws.{data-bytes, sample-small}
-use Rattle.planes.proofs.RoundTrip.{InRange}
+use Rattle.planes.specs.inner.InRange.{InRange}
 use Rattle.planes.specs.Bytes.{decode, pictureIn, sampleIn}
 use Rattle.planes.specs.Picture.{Pic, full, pixel, promote}
 use Rattle.fill.specs.declared.Colour.{Colour}

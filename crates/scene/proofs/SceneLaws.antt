@@ -26,7 +26,8 @@ use Rattle.image.specs.declared.format.Form.{Form}
 use Rattle.image.specs.declared.record.Frame.{Frame}
 use Rattle.image.specs.inner.Frames.{framesFrom}
 use Rattle.image.specs.inner.Placed.{Sound}
-use Rattle.planes.proofs.RoundTrip.{InRange, length-encode}
+use Rattle.planes.specs.inner.InRange.{InRange}
+use Rattle.planes.proofs.RoundTrip.{length-encode}
 use Rattle.planes.specs.Bytes.{decode, encode, sizeOf}
 use Rattle.planes.specs.Picture.{Pic}
 use Rattle.fill.specs.declared.Colour.{Colour}
@@ -51,7 +52,9 @@ use Rattle.overlay.specs.Overlay.{overlayPic}
 use Rattle.overlay.specs.Run.{composed, fillFor}
 use Rattle.overlay.specs.inner.Block.{PlanSound}
 use Rattle.chains.proofs.ApplyLaws.{Carried, chain-carried}
-use Rattle.chains.proofs.ChainPlanLaws.{Leads, lies-even, plan-drawn}
+use Rattle.chains.proofs.ChainPlanLaws.{Leads, plan-drawn, plan-lands}
+use Rattle.chains.proofs.StageLaws.{plain-bytes, stage-at}
+use Rattle.chains.proofs.GoingLaws.{start-lands}
 use Rattle.scene.proofs.ComposedLaws.{grid-in-range, overlay-in-range, record-in-range}
 use Rattle.chains.specs.Chain.{Drawn, chainDrawn, firstDrawn}
 use Rattle.scene.specs.Room.{longestOf}
@@ -59,7 +62,7 @@ use Rattle.scene.specs.Scene.{gridDrawn, gridScene, outputOf, overlayDra
 use Rattle.scene.specs.Transforms.{recordDrawn, transformsRun}
 use Rattle.chains.specs.declared.apply.Current.{Current}
 use Rattle.chains.specs.declared.chain_plan.ChainPlan.{ChainPlan}
-use Rattle.chains.specs.inner.Apply.{Finished, Ready, bytesIn, chainBytes, lies, lying, recordAfter}
+use Rattle.chains.specs.inner.Apply.{Finished, Ready, bytesIn, chainBytes, lying, recordAfter, stageStart}
 use Rattle.chains.specs.inner.ChainPlan.{chainPlanOf, currentFor, currentOf}
 
 -- ---- what is answered and written
@@ -91,7 +94,9 @@ record Planned (es : List PropertyEntry) (flag : Bool) (P : Pic) (m : Form) (out
   over : drawn .longest ≤ output
   under : drawn .longest ≤ spare
   size : h .size ≡ sizeOf m
-  side : h .inside ≡ lies flag es
+  plan : ChainPlan
+  planned : chainPlanOf es flag m ≡ done plan
+  side : h .inside ≡ plan .even
 
 module _ (es : List PropertyEntry) (flag : Bool) (P : Pic) (k : InRange P) (m : Form) (same : m ≡ P .form) (output spare : ℕ) where
   by-forms : Same Leads (chainPlanOf es flag m) (chainDrawn es flag P)
@@ -132,7 +137,9 @@ module _ (es : List PropertyEntry) (flag : Bool) (P : Pic) (k : InRange P) (m : 
         over = rw (← d .2 .longest) (ltb-false _ _ (b .0));
         under = rw (← d .2 .longest) (ltb-false _ _ (c .0));
         size = sym (ap (λ (z : Current). z .size) i);
-        side = sym (ap (λ (z : Current). z .inside) i) ∙ lies-even flag es m (a .0) (a .1);
+        plan = a .0;
+        planned = a .1;
+        side = sym (ap (λ (z : Current). z .inside) i);
       }
 
   module _ (h : Current) (p : Planned es flag P m output spare h) where
@@ -177,15 +184,23 @@ module _ (s : List ℕ) (g : Chain) (judged : Judged s g) (flag : Bool) (P : Pic
   ends-with bs i = ap bytesIn (then-done _ (judged .read) ∙ ap (λ (b : List ℕ). foldChain recordAfter flag es b) i ∙ carried .ends)
 
   ready-with : (d f : List ℕ) → length d ≡ length output → length f ≡ length spare → lying (h .inside) (h .size) d f ≡ encode P
-      → Ready s (g .count) (g .first) flag (h .inside) (h .size) d f
-  ready-with d f i j b = record {
-    entries = es;
-    read = judged .read;
-    side = planned .side;
-    first = rw (i, size-is) first-output;
-    other = rw (j, size-is) first-spare;
-    room = rw (i, j, b) (carried .room);
-  }
+      → Ready s (g .count) (g .first) flag (stageStart m h) d f
+  unfolding stageStart
+  ready-with d f i j b =
+      let z : sizeOf m ≡ length (encode P) = ap sizeOf same ∙ sym (length-encode P) in
+      record {
+        entries = es;
+        read = judged .read;
+        staged = record {
+          sound = stage-at P k _ b (stageStart m h) same same refl;
+          first = rw (i, size-is) first-output;
+          other = rw (j, size-is) first-spare;
+          long = rw (i, z) first-output;
+          broad = rw (j, z) first-spare;
+        };
+        lands = start-lands flag es m h (planned .plan) (planned .side) (plan-lands flag es m (planned .plan) (planned .planned));
+        room = rw (i, j, plain-bytes (stageStart m h) _ refl ∙ b) (carried .room);
+      }
 
   -- the buffers once it is drawn: in output, or in the spare
   module _ (d : List ℕ) where
@@ -197,10 +212,10 @@ module _ (s : List ℕ) (g : Chain) (judged : Judged s g) (flag : Bool) (P : Pic
     unfolding lying
     lies-spare t i = ap (λ (z : Bool). lying z (h .size) output d) t ∙ ap (take (h .size)) i ∙ begins spare first-spare
 
-    pub ready-output : h .inside ≡ true → d ≡ puts output 0 (encode P) → Ready s (g .count) (g .first) flag (h .inside) (h .size) d spare
+    pub ready-output : h .inside ≡ true → d ≡ puts output 0 (encode P) → Ready s (g .count) (g .first) flag (stageStart m h) d spare
     ready-output t i = ready-with d spare (ap length i ∙ length-puts output 0 (encode P)) refl (lies-output t i)
 
-    pub ready-spare : h .inside ≡ false → d ≡ puts spare 0 (encode P) → Ready s (g .count) (g .first) flag (h .inside) (h .size) output d
+    pub ready-spare : h .inside ≡ false → d ≡ puts spare 0 (encode P) → Ready s (g .count) (g .first) flag (stageStart m h) output d
     ready-spare t i = ready-with output d refl (ap length i ∙ length-puts spare 0 (encode P)) (lies-spare t i)
 
     -- what the call then comes to

@@ -50,10 +50,18 @@ pub fn grid_scene(
                     CurrentRead::Current(held) => {
                         if held.inside {
                             grid::draw_grid(output, tray, t);
-                            return finish_scene(chain, c, essential_only, output, spare, held);
+                            return finish_scene(
+                                chain,
+                                c,
+                                essential_only,
+                                form,
+                                output,
+                                spare,
+                                held,
+                            );
                         }
                         grid::draw_grid(spare, tray, t);
-                        finish_scene(chain, c, essential_only, output, spare, held)
+                        finish_scene(chain, c, essential_only, form, output, spare, held)
                     }
                 }
             }
@@ -98,10 +106,18 @@ pub fn overlay_scene(
                     CurrentRead::Current(held) => {
                         if held.inside {
                             overlay::draw_overlay(output, body, tray, premultiplied, plan, colour);
-                            return finish_scene(chain, c, essential_only, output, spare, held);
+                            return finish_scene(
+                                chain,
+                                c,
+                                essential_only,
+                                form,
+                                output,
+                                spare,
+                                held,
+                            );
                         }
                         overlay::draw_overlay(spare, body, tray, premultiplied, plan, colour);
-                        finish_scene(chain, c, essential_only, output, spare, held)
+                        finish_scene(chain, c, essential_only, form, output, spare, held)
                     }
                 }
             }

@@ -35,10 +35,18 @@ pub fn apply_transforms(
                     CurrentRead::Current(held) => {
                         if held.inside {
                             transform::tighten(record, fr, output);
-                            return finish_scene(chain, c, essential_only, output, spare, held);
+                            return finish_scene(
+                                chain,
+                                c,
+                                essential_only,
+                                form,
+                                output,
+                                spare,
+                                held,
+                            );
                         }
                         transform::tighten(record, fr, spare);
-                        finish_scene(chain, c, essential_only, output, spare, held)
+                        finish_scene(chain, c, essential_only, form, output, spare, held)
                     }
                 }
             }

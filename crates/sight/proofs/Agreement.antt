@@ -32,7 +32,7 @@ use Rattle.sight.proofs.Steps.{place-across, place-down, place-in}
 use Rattle.sight.proofs.Stops.{sight-not-18}
 use Rattle.sight.proofs.Turns.{back-in, back-once, crop-back, crop-height, crop-inside, crop-width, mirror-back, mirror-height, mirror-width, turn-back, turn-height, turn-width, unmirror-in, unturn-in}
 use Rattle.transform.specs.Chain.{NotIscl, chainPic, picAfter}
-use Rattle.sight.specs.inner.Seen.{PlaceAgrees, Seen}
+use Rattle.sight.specs.inner.Seen.{View, PlaceAgrees, Seen}
 use Rattle.sight.specs.Sight.{back, backFrom, exchange, finalHeight, finalWidth, highOf, sourcePlace, sightAfter, sightOf, thenCrop, thenMirror, thenTurn, whole, wideOf}
 use Rattle.sight.specs.declared.Sight.{Sight}
 
@@ -49,12 +49,6 @@ shows-then P Q R w h w′ h′ b c e u v i k =
       even = v .even;
       reads = λ p o x y l m. v .reads p (u .parts p ∙ o) x y l m ∙ u .reads p o _ _ (i x y l m .0) (i x y l m .1) ∙ ap (λ (t : Place). pixel P p (t .x) (t .y)) (sym (k x y l m));
     }
-
--- Q is what P shows to the sight
-pub record View (P Q : Pic) (s : Sight) : Type 0 where
-  pub inside : Inside (s .area) (P .form .width) (P .form .height)
-  pub turns : s .turns < 4
-  pub shows : Shows P Q (finalWidth s) (finalHeight s) (back s)
 
 -- one more of anything that shows Q by the sight's own size
 view-then : (P Q R : Pic) (s u : Sight) (c : ℕ → ℕ → Place) → View P Q s → Inside (u .area) (P .form .width) (P .form .height) → u .turns < 4
@@ -115,7 +109,7 @@ inside-as : {w h w′ h′ : ℕ} (r : CropRect) → w ≡ w′ → h ≡ h′ �
 inside-as r p q i = rw (← p, ← q) i
 
 -- an entry that the sight does not refuse 18
-after-same : (P : Pic) (scale : Iscl → Pic → Out Pic) (e : Property) (Q : Pic) (s : Sight) → View P Q s → (sightAfter e s ≡ refused (reason 18) → ⊥) → Same (View P) (picAfter scale e Q) (sightAfter e s)
+pub after-same : (P : Pic) (scale : Iscl → Pic → Out Pic) (e : Property) (Q : Pic) (s : Sight) → View P Q s → (sightAfter e s ≡ refused (reason 18) → ⊥) → Same (View P) (picAfter scale e Q) (sightAfter e s)
 unfolding picAfter sightAfter
 after-same P scale Property.Other Q s v n = both v
 after-same P scale (Property.Clap c) Q s v n =
@@ -153,7 +147,7 @@ fold-same-but R stop f g k flag (e ∷ es) a b r n =
 -- ---- whole chains
 
 -- a picture as it is
-view-whole : (P : Pic) → Even (P .form) → 1 ≤ P .form .width → 1 ≤ P .form .height → View P P (whole (P .form .width) (P .form .height))
+pub view-whole : (P : Pic) → Even (P .form) → 1 ≤ P .form .width → 1 ≤ P .form .height → View P P (whole (P .form .width) (P .form .height))
 unfolding whole finalWidth finalHeight wideOf highOf sideways swaps back backFrom exchange unturn quarterOf pick
 view-whole P ev w h =
     record {

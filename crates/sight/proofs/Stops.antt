@@ -69,6 +69,9 @@ after-not (Property.Irot k) s n = done-not _
 after-not (Property.Imir k) s n = done-not _
 after-not (Property.Iscl k) s n = absurd n
 
+pub after-not-18 : (p : Property) (s : Sight) → NotIscl p → sightAfter p s ≡ refused (reason 18) → ⊥
+after-not-18 p s n = after-not p s n
+
 chain-not : (flag : Bool) (es : List PropertyEntry) → Applied NotIscl flag es → (s : Sight) → NotPoint (foldChain sightAfter flag es s)
 unfolding foldChain Applied pick
 chain-not flag [] n s = done-not s

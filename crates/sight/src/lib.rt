@@ -178,7 +178,7 @@ impl Sight {
     }
 
     // After a property. Refusals: a clap's, 18 an iscl.
-    fn after(self, property: Property) -> SightRead
+    pub fn after(self, property: Property) -> SightRead
         requires { ⌜ Bounded (self .area) ⌝ }
         ensures { λ r. ⌜ sightOut r ≡ sightAfter property self ⌝ }
     {

@@ -7,7 +7,8 @@ use native.Mathlib.Omega.{arith}
 use borrow.Author.Tests.{eq-eqb, ne-eqb}
 use Rattle.laws.proofs.Order.{by-equal}
 use Rattle.laws.specs.Pick.{pick}
-use Rattle.planes.proofs.RoundTrip.{InRange, agree-self, agree-sym, agree-in-range, agree-trans}
+use Rattle.planes.specs.inner.InRange.{InRange}
+use Rattle.planes.proofs.RoundTrip.{agree-self, agree-sym, agree-in-range, agree-trans}
 use Rattle.image.specs.Format.{cover, halfX, halfY, hasPart}
 use Rattle.planes.specs.Picture.{Agree, Pic, full, pixel, promote}
 use Rattle.image.specs.Sound.{FormSound}

@@ -8,9 +8,12 @@ use Rattle.laws.specs.Out.{Out, andThen, answerOf, done, fitted, refused, writt
 use Rattle.laws.specs.Pick.{pick}
 use Rattle.laws.specs.declared.Answer.{Answer}
 use Rattle.laws.specs.declared.Answer.the-variants.{Refused, Wrote}
-use Rattle.planes.specs.Bytes.{decode, encode}
+use Rattle.planes.specs.Bytes.{decode, encode, sizeOf, tightAt}
+use Rattle.planes.specs.Picture.{Pic}
+use Rattle.planes.specs.inner.InRange.{InRange}
 use Rattle.image.specs.Format.{odd}
 use Rattle.image.specs.Record.{recordOf}
+use Rattle.image.specs.declared.format.Form.{Form}
 use Rattle.sizes.specs.Aperture.{resolveOf}
 use Rattle.props.specs.Chain.{applies, entriesAt, foldChain}
 use Rattle.sizes.specs.Scale.{scaleOf}
@@ -19,7 +22,13 @@ use Rattle.props.specs.declared.entry.PropertyEntry.{PropertyEntry}
 use Rattle.resample.specs.Run.{areaBytes}
 use Rattle.transform.specs.Run.{turnBytes}
 use Rattle.transform.specs.Turn.{crop, mirror, quarterOf}
-use Rattle.chains.specs.inner.ChainPlan.{moves}
+use Rattle.sight.specs.Sight.{sightAfter, whole}
+use Rattle.sight.specs.inner.Seen.{View}
+use Rattle.sight.specs.declared.Sight.{Sight}
+use Rattle.view.specs.inner.View.{Shown, shown}
+use Rattle.chains.specs.inner.ChainPlan.{begins, chainPlanAfter, formAfter, moves, shownAfter}
+use Rattle.chains.specs.declared.chain_plan.ChainPlan.{ChainPlan}
+use Rattle.chains.specs.declared.apply.Stage.{Stage}
 use Rattle.chains.specs.declared.apply.Current.{Current}
 
 -- what an operation writes of a record, where there is room
@@ -45,11 +54,6 @@ lying false n output spare = take n spare
 unfoldable pub draws : Bool → PropertyEntry → Bool
 draws essentialOnly e = applies essentialOnly e && moves (e .property)
 
--- where the record must lie so that the last drawing ends in output
-unfoldable pub lies : Bool → List PropertyEntry → Bool
-lies essentialOnly [] = true
-lies essentialOnly (e ∷ es) = pick (draws essentialOnly e) (not (lies essentialOnly es)) (lies essentialOnly es)
-
 -- every record on the way from bs has room in output and in the spare
 unfoldable pub Roomy : ℕ → ℕ → Bool → List PropertyEntry → List ℕ → Type 0
 Roomy output spare essentialOnly [] bs = Unit {0}
@@ -57,14 +61,98 @@ Roomy output spare essentialOnly (e ∷ es) bs =
     (b : List ℕ) × (pick (applies essentialOnly e) (recordAfter (e .property) bs) (done bs) ≡ done b)
     × (length b ≤ output) × (length b ≤ spare) × Roomy output spare essentialOnly es b
 
+-- ---- what a chain has reached: a record in a buffer, or what a sight shows of it
+
+-- what is answered where a step is not refused
+unfoldable pub Gives : {A : Type 0} → Out A → A → Type 0
+Gives {A} o r = (n : A) → o ≡ done n → r ≡ n
+
+-- where the record lies once what is shown is drawn
+unfoldable pub settledIn : Stage → Bool
+settledIn t = pick (t .shown) (not (t .current .inside)) (t .current .inside)
+
+-- the record in a buffer
+abbrev pub recordIn : Stage → List ℕ → List ℕ → List ℕ
+recordIn t output spare = lying (t .current .inside) (t .current .size) output spare
+
+abbrev pub stagePic : Stage → List ℕ → Pic
+stagePic t bs = decode bs (tightAt (t .from) 0)
+
+-- the record that is reached
+unfoldable pub stageBytes : Stage → List ℕ → List ℕ
+stageBytes t bs = pick (t .shown) (encode (shown (t .form) (t .sight) (stagePic t bs))) bs
+
+-- a picture that a sight shows of P
+pub record Showing (P : Pic) (t : Stage) : Type 0 where
+  pub pic : Pic
+  pub inRange : InRange pic
+  pub form : pic .form ≡ t .form
+  pub view : View P pic (t .sight)
+  pub shown : Shown (P .form) (t .form) (t .sight)
+
+-- the record bs is a picture's, and what is shown of it is a picture
+pub record StageSound (t : Stage) (bs : List ℕ) : Type 0 where
+  pub inRange : InRange (stagePic t bs)
+  pub bytes : bs ≡ encode (stagePic t bs)
+  pub plain : t .shown ≡ false → t .form ≡ t .from
+  pub shows : t .shown ≡ true → Showing (stagePic t bs) t
+
+-- the same of two buffers, each with room for both records
+pub record Staged (t : Stage) (output spare : List ℕ) : Type 0 where
+  pub sound : StageSound t (recordIn t output spare)
+  pub first : t .current .size ≤ length output
+  pub other : t .current .size ≤ length spare
+  pub long : sizeOf (t .form) ≤ length output
+  pub broad : sizeOf (t .form) ≤ length spare
+
+-- an entry on the record that is reached
+abbrev pub entryBytes : Bool → PropertyEntry → List ℕ → Out (List ℕ)
+entryBytes essentialOnly e bs = pick (applies essentialOnly e) (recordAfter (e .property) bs) (done bs)
+
+-- it is not refused, and there is room for what it makes
+pub record Able (essentialOnly : Bool) (e : PropertyEntry) (t : Stage) (output spare : List ℕ) : Type 0 where
+  pub staged : Staged t output spare
+  pub next : List ℕ
+  pub made : entryBytes essentialOnly e (stageBytes t (recordIn t output spare)) ≡ done next
+  pub long : length next ≤ length output
+  pub broad : length next ≤ length spare
+
+-- a property on the record in a buffer is not refused, and there is room for what it makes
+pub record Drawable (p : Property) (t : Stage) (output spare : List ℕ) : Type 0 where
+  pub staged : Staged t output spare
+  pub drawn : t .shown ≡ false
+  pub next : List ℕ
+  pub made : recordAfter p (recordIn t output spare) ≡ done next
+  pub long : length next ≤ length output
+  pub broad : length next ≤ length spare
+
+-- the form, side and kind of the next stage are the plan's
+pub record Planned (essentialOnly : Bool) (e : PropertyEntry) (t u : Stage) : Type 0 where
+  pub form : Gives (pick (applies essentialOnly e) (formAfter (e .property) (t .form)) (done (t .form))) (u .form)
+  pub side : settledIn u ≡ pick (applies essentialOnly e && begins (e .property) (t .form) (t .shown)) (not (settledIn t)) (settledIn t)
+  pub kind : u .shown ≡ pick (applies essentialOnly e) (shownAfter (e .property) (t .form) (t .shown)) (t .shown)
+
+-- a stage and its buffers, d and f before, with the bytes bs reached
+pub record Arrived (bs d f : List ℕ) (t : Stage) (output spare : List ℕ) : Type 0 where
+  pub staged : Staged t output spare
+  pub bytes : stageBytes t (recordIn t output spare) ≡ bs
+  pub long : length output ≡ length d
+  pub broad : length spare ≡ length f
+
+-- where a plan from a stage leads: output has the last record
+pub record Lands (essentialOnly : Bool) (es : List PropertyEntry) (t : Stage) : Type 0 where
+  pub longest : ℕ
+  pub plan : ChainPlan
+  pub run : foldChain chainPlanAfter essentialOnly es (record { form = t .form; longest = longest; even = settledIn t; shown = t .shown }) ≡ done plan
+  pub even : plan .even ≡ true
+
 -- a chain of so many entries from a place on can be drawn
-pub record Ready (s : List ℕ) (count next : ℕ) (essentialOnly here : Bool) (size : ℕ) (output spare : List ℕ) : Type 0 where
+pub record Ready (s : List ℕ) (count next : ℕ) (essentialOnly : Bool) (t : Stage) (output spare : List ℕ) : Type 0 where
   pub entries : List PropertyEntry
   pub read : entriesAt count s next ≡ done entries
-  pub side : here ≡ lies essentialOnly entries
-  pub first : size ≤ length output
-  pub other : size ≤ length spare
-  pub room : Roomy (length output) (length spare) essentialOnly entries (lying here size output spare)
+  pub staged : Staged t output spare
+  pub lands : Lands essentialOnly entries t
+  pub room : Roomy (length output) (length spare) essentialOnly entries (stageBytes t (recordIn t output spare))
 
 -- the bytes that a chain of so many entries ends with; none where it is refused
 unfoldable pub bytesIn : Out (List ℕ) → List ℕ
@@ -79,27 +167,24 @@ unfoldable pub wroteOf : Answer → ℕ
 wroteOf (Wrote n) = n
 wroteOf (Refused r) = 0
 
--- the two buffers, and which of them begins with the record
-pub record Buffers : Type 0 where
-  pub held : Current
-  pub output : List ℕ
-  pub spare : List ℕ
+-- the composed record, as it lies
+unfoldable pub stageStart : Form → Current → Stage
+stageStart m h = record { current = h; from = m; form = m; sight = whole (m .width) (m .height); shown = false }
 
-unfoldable pub buffers : Current → List ℕ → List ℕ → Buffers
-buffers h output spare = record { held = h; output = output; spare = spare }
+-- a record that was drawn into the other buffer
+unfoldable pub stageDrawn : Stage → ℕ → Form → Stage
+stageDrawn t size m = record { current = record { size = size; inside = not (t .current .inside) }; from = m; form = m; sight = t .sight; shown = false }
 
--- the record after a property, in the other buffer
-unfoldable pub crossed : Property → Bool → ℕ → List ℕ → List ℕ → Buffers
-crossed p true size output spare =
-    let o = stepRun p (take size output) (length spare) in
-    record { held = record { size = wroteOf (answerOf o); inside = false }; output = output; spare = written o spare }
-crossed p false size output spare =
-    let o = stepRun p (take size spare) (length output) in
-    record { held = record { size = wroteOf (answerOf o); inside = true }; output = written o output; spare = spare }
+-- the sight from which it goes on
+unfoldable pub sightHere : Stage → Sight
+sightHere t = pick (t .shown) (t .sight) (whole (t .form .width) (t .form .height))
 
--- after an entry
-unfoldable pub movedOn : Bool → PropertyEntry → Buffers → Buffers
-movedOn essentialOnly e b = pick (draws essentialOnly e) (crossed (e .property) (b .held .inside) (b .held .size) (b .output) (b .spare)) b
+-- what a sight can hold more
+unfoldable pub stageHeld : Stage → Form → Sight → Stage
+stageHeld t m s = record { current = t .current; from = t .from; form = m; sight = s; shown = true }
+
+unfoldable pub HeldAfter : Property → Stage → Stage → Type 0
+HeldAfter p t r = (m : Form) (s : Sight) → formAfter p (t .form) ≡ done m → sightAfter p (sightHere t) ≡ done s → r ≡ stageHeld t m s
 
 -- a chain was drawn: output, which was d and is e, begins with the bytes; both buffers are as long as they were
 pub record Ended (n : ℕ) (bs d e f g : List ℕ) : Type 0 where

@@ -1,11 +1,11 @@
 -- Where a chain leads, by forms alone: what is known before anything is drawn.
-use mathlib.Core.Bool.{Bool, false, not, true}
+use mathlib.Core.Bool.{Bool, _&&_, false, not, true}
 use mathlib.Core.List.{List}
 use Prim.Native.Nat.{max, ℕ}
 use lib.Dec.{ltb}
 use Rattle.laws.specs.Out.{Out, andThen, done, refuse, refused}
 use Rattle.laws.specs.Pick.{pick}
-use Rattle.image.specs.Format.{sized}
+use Rattle.image.specs.Format.{needs444, odd, sized}
 use Rattle.image.specs.declared.format.Form.{Form}
 use Rattle.planes.specs.Bytes.{sizeOf}
 use Rattle.sizes.specs.Aperture.{resolveOf}
@@ -36,20 +36,49 @@ moves (Property.Irot k) = true
 moves (Property.Imir k) = true
 moves (Property.Iscl k) = true
 
+-- a scaling
+unfoldable pub scales : Property → Bool
+scales Property.Other = false
+scales (Property.Clap c) = false
+scales (Property.Irot k) = false
+scales (Property.Imir k) = false
+scales (Property.Iscl k) = true
+
+-- no halved side is odd
+unfoldable pub isEven : Form → Bool
+isEven m = not (needs444 (m .format) (odd (m .width)) (odd (m .height)))
+
+-- whether a sight can hold what a property makes of a form: a mirror moves the chroma of an odd side otherwise than its pixels
+unfoldable pub isHeld : Property → Form → Bool
+isHeld p m = not (scales p) && isEven m
+
+-- whether a property that draws begins a drawing: one that a sight can hold is drawn with those before it
+unfoldable pub begins : Property → Form → Bool → Bool
+begins p m shown = moves p && not (shown && isHeld p m)
+
+-- whether what is reached is what a sight shows, not drawn yet
+unfoldable pub shownAfter : Property → Form → Bool → Bool
+shownAfter p m shown = pick (moves p) (isHeld p m) shown
+
 -- the composed form, no drawing on the way
 unfoldable pub chainPlanStart : Form → ChainPlan
-chainPlanStart m = record { form = m; longest = sizeOf m; even = true }
+chainPlanStart m = record { form = m; longest = sizeOf m; even = true; shown = false }
 
--- one property more: the longest record so far, and whether an even number of properties drew
+-- one property more: the longest record so far, and whether the drawings are even in number
 unfoldable pub chainPlanAfter : Property → ChainPlan → Out ChainPlan
 chainPlanAfter p c =
     andThen (formAfter p (c .form)) (λ m.
-    done (record { form = m; longest = max (c .longest) (sizeOf m); even = pick (moves p) (not (c .even)) (c .even) }))
+    done (record {
+      form = m;
+      longest = max (c .longest) (sizeOf m);
+      even = pick (begins p (c .form) (c .shown)) (not (c .even)) (c .even);
+      shown = shownAfter p (c .form) (c .shown);
+    }))
 
 unfoldable pub chainPlanOf : List PropertyEntry → Bool → Form → Out ChainPlan
 chainPlanOf es essentialOnly m = foldChain chainPlanAfter essentialOnly es (chainPlanStart m)
 
--- 17 output or spare shorter than the longest record; else the composed record, in output where an even number of properties draw
+-- 17 output or spare shorter than the longest record; else the composed record, in output where the drawings are even in number
 unfoldable pub currentFor : ℕ → ℕ → Form → ChainPlan → Out Current
 currentFor output spare m c =
     refuse (ltb output (c .longest)) 17 (refuse (ltb spare (c .longest)) 17 (done (record { size = sizeOf m; inside = c .even })))

@@ -9,6 +9,7 @@ use Rattle.planes.specs.inner.Even.{Even}
 use Rattle.image.specs.declared.format.Part.{Part}
 use Rattle.sizes.specs.Sound.{Inside}
 use Rattle.transform.specs.Place.{Place}
+use Rattle.transform.specs.inner.Shows.{Shows}
 use Rattle.sight.specs.Sight.{back, finalHeight, finalWidth}
 use Rattle.sight.specs.declared.Sight.{Sight}
 
@@ -26,6 +27,12 @@ pub record Seen (P Q : Pic) (s : Sight) : Type 0 where
       → Covers (Q .form .format) p cx cy x y → Q .at p cx cy ≡ pixel P p (back s x y .x) (back s x y .y)
   pub once : (x y u v : ℕ) → x < Q .form .width → y < Q .form .height → u < Q .form .width → v < Q .form .height
       → back s x y ≡ back s u v → (x ≡ u) × (y ≡ v)
+
+-- Q is what P shows to the sight, pixel by pixel
+pub record View (P Q : Pic) (s : Sight) : Type 0 where
+  pub inside : Inside (s .area) (P .form .width) (P .form .height)
+  pub turns : s .turns < 4
+  pub shows : Shows P Q (finalWidth s) (finalHeight s) (back s)
 
 -- a final place that names the place l of P: every sample that covers it is what P reads there
 pub record NamesPlace (P Q : Pic) (x y : ℕ) (l : Place) : Type 0 where

@@ -1,19 +1,20 @@
 use mathlib.Core.Path.{_∙_, ap, sym}
 use borrow.Author.Needs.{needs}
 use Rattle.laws.proofs.Out.{holds-done, then-done, then-refused}
+use Rattle.image.specs.Format.{formOut}
 use Rattle.image.specs.Sound.{FormSound}
 use Rattle.chains.proofs.AfterLaws.{after-sound}
 use Rattle.chains.proofs.chain_plan.ChainPlan.after.Statement.{statement}
 use Rattle.chains.specs.inner.ChainPlan.{chainPlanAfter}
-use Rattle.image.specs.Format.{formOut}
 use Rattle.chains.proofs.chain_plan.ChainPlan.after.Tie as tie
 use Rattle.chains.proofs.chain_plan.ChainPlan.after.Reads as reads
 use Rattle.chains.proofs.chain_plan.ChainPlan.after.Lts as lts
-use Rattle.planes.proofs.record_size.Reads as record-size-reads
+use Rattle.chains.proofs.chain_plan.begins_drawing.Reads as begins-drawing-reads
 use Rattle.chains.proofs.chain_plan.flip.Reads as flip-reads
 use Rattle.chains.proofs.chain_plan.form_after.Reads as form-after-reads
-use Rattle.chains.proofs.chain_plan.is_move.Reads as is-move-reads
+use Rattle.chains.proofs.chain_plan.shown_after.Reads as shown-after-reads
 use Rattle.numbers.proofs.max.Reads as max-reads
+use Rattle.planes.proofs.record_size.Reads as record-size-reads
 
 form-after-requires : tie.Need-form-after-requires
 form-after-requires c κs = search needs
@@ -25,33 +26,37 @@ enum-known-m : tie.Need-enum-known-m
 enum-known-m c = search needs
 
 record-size-requires : tie.Need-record-size-requires
-record-size-requires c κs = holds-done FormSound _ _ (after-sound _ _ (c .before .before .before .before .pre)) (sym (c .before .before .before .form-after .ensures) ∙ ap formOut (c .before .m .given .1))
+record-size-requires c κs =
+    let start = c .before .before .before .before in
+    let form-after = c .before .before .before .form-after in
+    holds-done FormSound _ _ (after-sound _ _ (start .pre)) (sym (form-after .ensures) ∙ ap formOut (c .before .m .given .1))
 
 max-requires : tie.Need-max-requires
 max-requires c κs = search needs
 
-is-move-requires : tie.Need-is-move-requires
-is-move-requires c κs = search needs
+begins-drawing-requires : tie.Need-begins-drawing-requires
+begins-drawing-requires c κs = search needs
 
 flip-requires : tie.Need-flip-requires
 flip-requires c κs = search needs
 
+shown-after-requires : tie.Need-shown-after-requires
+shown-after-requires c κs = search needs
+
 returns : tie.Need-returns
 unfolding chainPlanAfter
-returns c = sym (then-refused _ (sym (c .before .before .before .form-after .ensures) ∙ ap formOut (c .before .e .given .1)))
+returns c =
+    let form-after = c .before .before .before .form-after in
+    sym (then-refused _ (sym (form-after .ensures) ∙ ap formOut (c .before .e .given .1)))
 
 returns-2 : tie.Need-returns-2
 unfolding chainPlanAfter
 returns-2 c =
-    let m = c .before .before .before .before .before .m in
-    let form-after = c .before .before .before .before .before .before .before .form-after in
-    sym (then-done _ (sym (form-after .ensures) ∙ ap formOut (m .given .1))
-    ∙ simp (
-      sym (c .before .before .before .record-size .ensures),
-      sym (c .before .before .max .ensures),
-      sym (c .before .is-move .ensures),
-      sym (c .flip .ensures),
-    ))
+    let form-after = c .before .before .before .before .before .before .before .before .form-after in
+    let m = c .before .before .before .before .before .before .m in
+    let record-size = c .before .before .before .before .record-size in
+    let max = c .before .before .before .max in
+    sym (then-done _ (sym (form-after .ensures) ∙ ap formOut (m .given .1)) ∙ simp (sym (record-size .ensures), sym (max .ensures), sym (c .before .before .begins-drawing .ensures), sym (c .before .flip .ensures), sym (c .shown-after .ensures)))
 
 pub after-spec : {M : Type 1} → statement M
 after-spec =
@@ -62,7 +67,8 @@ after-spec =
     enum-known-m
     record-size-requires
     max-requires
-    is-move-requires
+    begins-drawing-requires
     flip-requires
+    shown-after-requires
     returns
     returns-2)
