@@ -8,3 +8,4 @@ pub mod SameLaws
 pub mod AgreeLaws
 pub mod MeanLaws
 pub mod SmallLaws
+pub mod LevelLaws

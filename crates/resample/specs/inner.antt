@@ -3,3 +3,4 @@ pub mod Redraw
 pub mod Sums
 pub mod Kept
 pub mod Depths
+pub mod Levels

@@ -2,6 +2,7 @@
 mod area;
 mod attach;
 mod depth;
+mod levels;
 mod nearest;
 mod write;
 

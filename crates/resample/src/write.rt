@@ -6,7 +6,7 @@ ghost use Rattle.laws.specs.Out.{answerOf, written, fitted};
 ghost use Rattle.laws.specs.Puts.{puts};
 ghost use Rattle.planes.specs.Bytes.{decode, planeBytes, encode};
 ghost use Rattle.image.specs.inner.Placed.{Sound};
-ghost use Rattle.resample.specs.inner.Redraw.{rowOf, rasterAt, rasterRow, rasterOf, rasterBytes, redrawn, RuleFits, RuleRowFits, AxisFits, RasterFits, RedrawFits};
+ghost use Rattle.resample.specs.inner.Redraw.{rowOf, hasSteps, rasterAt, rasterRow, rasterOf, rasterBytes, redrawn, RuleFits, RuleRowFits, AxisFits, RasterFits, RedrawFits};
 use crate::area::Foot;
 use crate::depth::Depths;
 use image::Form;
@@ -86,8 +86,8 @@ fn row_sample(plane: &[u8], r: Raster, row: RowRule, x: usize) -> u16
     }
 }
 
-// Writes a row of the new plane, and returns the place past it.
-fn write_row(out: &mut [u8], at: usize, plane: &[u8], r: Raster, row: RowRule) -> usize
+// Writes a row of the new plane sample by sample, and returns the place past it.
+fn write_samples(out: &mut [u8], at: usize, plane: &[u8], r: Raster, row: RowRule) -> usize
     requires { ⌜ RasterFits (now plane) r × RuleRowFits row (r .across) (r .down .from) × (at + r .across .to * r .«to_bytes» ≤ length (now out)) ⌝ }
     ensures { λ e. ⌜ (e ≡ at + r .across .to * r .«to_bytes») × (now (out .exit) ≡ puts (now (out .entry)) at (rasterRow (now (plane .entry)) r row)) ⌝ }
 {
@@ -102,8 +102,39 @@ fn write_row(out: &mut [u8], at: usize, plane: &[u8], r: Raster, row: RowRule) -
     i
 }
 
-// Writes the rows of the new plane, and returns the place past them.
-fn write_rows(out: &mut [u8], at: usize, plane: &[u8], r: Raster) -> usize
+// Whether the samples of a row stand so many samples apart, and are kept as they are.
+fn has_steps(r: Raster, depths: Depths) -> bool
+    requires { ⌜ 1 ≤ r .across .to ⌝ }
+    ensures { λ b. ⌜ b ≡ hasSteps r depths ⌝ }
+{
+    let across = r.across;
+    image::both(
+        image::both(depths.old == depths.new, r.bytes == r.to_bytes),
+        across.from % across.to == 0,
+    )
+}
+
+// Writes a row of the new plane in the way that suits it, and returns the place past it.
+fn write_row(out: &mut [u8], at: usize, plane: &[u8], r: Raster, row: RowRule) -> usize
+    requires { ⌜ RasterFits (now plane) r × RuleRowFits row (r .across) (r .down .from) × (at + r .across .to * r .«to_bytes» ≤ length (now out)) ⌝ }
+    ensures { λ e. ⌜ (e ≡ at + r .across .to * r .«to_bytes») × (now (out .exit) ≡ puts (now (out .entry)) at (rasterRow (now (plane .entry)) r row)) ⌝ }
+{
+    let across = r.across;
+    match row {
+        RowRule::Near(k) => {
+            if has_steps(r, k.depths) {
+                let step = across.from / across.to * r.bytes;
+                let from = k.y * r.stride;
+                return turns::write_apart(out, at, plane, r.bytes, from, step, across.to);
+            }
+            write_samples(out, at, plane, r, row)
+        }
+        RowRule::Area(_) => write_samples(out, at, plane, r, row),
+    }
+}
+
+// Writes the rows of the new plane row by row, and returns the place past them.
+fn write_each(out: &mut [u8], at: usize, plane: &[u8], r: Raster) -> usize
     requires { ⌜ RasterFits (now plane) r × RuleFits (r .rule) (r .across) (r .down) × (at + r .down .to * (r .across .to * r .«to_bytes») ≤ length (now out)) ⌝ }
     ensures { λ e. ⌜ (e ≡ at + r .down .to * (r .across .to * r .«to_bytes»)) × (now (out .exit) ≡ puts (now (out .entry)) at (rasterBytes (now (plane .entry)) r)) ⌝ }
 {
@@ -116,6 +147,23 @@ fn write_rows(out: &mut [u8], at: usize, plane: &[u8], r: Raster) -> usize
         y += 1;
     }
     i
+}
+
+// Writes the rows of the new plane in the way that suits them, and returns the place past them.
+fn write_rows(out: &mut [u8], at: usize, plane: &[u8], r: Raster) -> usize
+    requires { ⌜ RasterFits (now plane) r × RuleFits (r .rule) (r .across) (r .down) × (at + r .down .to * (r .across .to * r .«to_bytes») ≤ length (now out)) ⌝ }
+    ensures { λ e. ⌜ (e ≡ at + r .down .to * (r .across .to * r .«to_bytes»)) × (now (out .exit) ≡ puts (now (out .entry)) at (rasterBytes (now (plane .entry)) r)) ⌝ }
+{
+    let rule = r.rule;
+    match rule {
+        Rule::Near(depths) => {
+            if crate::levels::has_table(r, depths) {
+                return crate::levels::write_levels(out, at, plane, r, depths);
+            }
+            write_each(out, at, plane, r)
+        }
+        Rule::Area => write_each(out, at, plane, r),
+    }
 }
 
 // A plane of a picture, and what is made of it for a picture of another form.

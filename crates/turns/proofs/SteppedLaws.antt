@@ -5,7 +5,7 @@ use Prim.Native.Nat.{_%_, _*_, _+_, _-_, _<_, _≤_, suc, ℕ}
 use native.Mathlib.Nat.{add-mul, suc-mul}
 use native.Mathlib.Omega.{arith}
 use lib.ListN.{getD, length, set}
-use Rattle.laws.proofs.Order.{positive}
+use Rattle.laws.proofs.Order.{by-order, positive}
 use Rattle.laws.proofs.Puts.{puts-append}
 use Rattle.laws.proofs.Span.{span-cong, span-end, span-shift, span-split}
 use Rattle.laws.specs.Pick.{pick}
@@ -105,3 +105,7 @@ row-inside d b from n ok some =
     let k : suc (n - 1) ≡ n = omega arith in
     let e : (n - 1) * b + b ≡ n * b = omega (arith, suc-mul (n - 1) b, ap (λ (x : ℕ). x * b) k) in
     (omega (arith, ok .inside 0 l), omega (arith, ok .behind (n - 1) (omega arith)))
+
+-- a sample that has not one byte has two
+pub two-bytes : {d : List ℕ} {b from f g n : ℕ} → SteppedFits d b from f g n → (b ≡ 1 → ⊥) → b ≡ 2
+two-bytes {b = b} k h = by-order b 2 (λ l. absurd (h (omega (arith, l, k .positive)))) (λ l. omega (arith, l, k .bounded))

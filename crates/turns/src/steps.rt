@@ -33,3 +33,23 @@ pub(crate) fn write_steps(
     }
     at + n * bytes
 }
+
+// Writes n samples at `at`, from the one at `from` on, each so many bytes ahead of the last, and returns the place past
+// them. Chosen once a row: the loop is compiled for one byte and for two.
+pub fn write_apart(
+    out: &mut [u8],
+    at: usize,
+    plane: &[u8],
+    bytes: usize,
+    from: usize,
+    step: usize,
+    n: usize,
+) -> usize
+    requires { ⌜ SteppedFits (now plane) bytes from step 0 n × (at + n * bytes ≤ length (now out)) ⌝ }
+    ensures { λ r. ⌜ (r ≡ at + n * bytes) × (now (out .exit) ≡ puts (now (out .entry)) at (stepped (now (plane .entry)) bytes from step 0 n)) ⌝ }
+{
+    if bytes == 1 {
+        return write_steps(out, at, plane, 1, from, step, 0, n);
+    }
+    write_steps(out, at, plane, 2, from, step, 0, n)
+}

@@ -1,8 +1,9 @@
 -- What the writer draws: a picture of another form whose samples a rule works out from another's, plane by plane.
-use mathlib.Core.Bool.{false, true}
+use mathlib.Core.Bool.{Bool, _&&_, false, true}
 use mathlib.Core.List.{List}
 use mathlib.Core.Path.{_≡_}
-use Prim.Native.Nat.{_*_, _+_, _<_, _^_, _≤_, ℕ}
+use Prim.Native.Nat.{_%_, _*_, _+_, _<_, _^_, _≤_, ℕ}
+use lib.Dec.{eqb}
 use lib.ListN.{length}
 use Rattle.laws.specs.Span.{span}
 use Rattle.planes.specs.Bytes.{sampleIn, samplesOf}
@@ -17,6 +18,7 @@ use Rattle.resample.specs.inner.Sums.{FootIn}
 use Rattle.resample.specs.Depth.{levelOf}
 use Rattle.resample.specs.inner.Depths.{DepthsFit}
 use Rattle.resample.specs.Nearest.{nearPlace}
+use Rattle.resample.specs.declared.depth.Depths.{Depths}
 use Rattle.resample.specs.declared.write.Axis.{Axis}
 use Rattle.resample.specs.declared.write.Raster.{Raster}
 use Rattle.resample.specs.declared.write.RowRule.{RowRule}
@@ -65,6 +67,10 @@ rasterRow d r row = samplesOf (r .«to_bytes») (rasterAt d r row) (r .across .t
 
 unfoldable pub rasterBytes : List ℕ → Raster → List ℕ
 rasterBytes d r = span (λ y. rasterRow d r (rowOf (r .rule) (r .down) y)) 0 (r .down .to)
+
+-- whether the samples of a row stand so many samples apart, and are kept as they are
+unfoldable pub hasSteps : Raster → Depths → Bool
+hasSteps r k = (eqb (k .old) (k .new) && eqb (r .bytes) (r .«to_bytes»)) && eqb (r .across .from % r .across .to) 0
 
 -- ---- what drawing asks
 

@@ -1,97 +1,102 @@
-use mathlib.Core.List.{List, _++_}
-use mathlib.Core.Path.{_∙_, _≡_, ap, refl, sym}
-use Prim.Native.Nat.{_+_, _-_, _<_, _≤_, ℕ}
-use lib.ListN.{length}
-use borrow.Author.Needs.{needs}
+use mathlib.Core.Path.{_∙_, ap, sym}
+use Prim.Native.Nat.{_*_, _+_, ℕ}
+use native.Mathlib.Omega.{arith}
 use denote.Ref.{now}
-use Rattle.laws.proofs.Span.{span-end, span-step}
-use Rattle.laws.proofs.Writing.{Writing, writing-as, writing-done, writing-fits, writing-run, writing-start}
+use borrow.Author.Needs.{needs}
 use Rattle.laws.specs.Puts.{puts}
-use Rattle.laws.specs.Span.{span}
-use Rattle.planes.proofs.ByteLaws.{length-sampleBytes}
-use Rattle.planes.specs.Bytes.{sampleBytes, samplesOf}
-use Rattle.resample.proofs.RedrawLaws.{length-rasterRow}
+use Rattle.resample.proofs.LevelLaws.{apart-small, apart-step, near-row, row-apart}
 use Rattle.resample.proofs.write.write_row.Statement.{statement}
-use Rattle.resample.specs.inner.Redraw.{rasterAt, rasterRow}
+use Rattle.resample.specs.inner.Redraw.{rasterRow}
 use Rattle.resample.proofs.write.write_row.Tie as tie
 use Rattle.resample.proofs.write.write_row.Reads as reads
 use Rattle.resample.proofs.write.write_row.Lts as lts
-use Rattle.planes.proofs.put_sample.Reads as put-sample-reads
-use Rattle.resample.proofs.write.row_sample.Reads as row-sample-reads
+use Rattle.resample.proofs.write.has_steps.Reads as has-steps-reads
+use Rattle.resample.proofs.write.write_samples.Reads as write-samples-reads
+use Rattle.turns.proofs.write_apart.Reads as write-apart-reads
 
-abbrev Inv-loop : tie.InvT-loop
-Inv-loop out₀ at plane r row n i₀ x₀ out i x = (n ≡ r .across .to) × Writing out₀ at (rasterRow plane r row) out i (span (λ u. sampleBytes (r .«to_bytes») (rasterAt plane r row u)) x (r .across .to))
+enum-known-row : tie.Need-enum-known-row
+enum-known-row c = search needs
 
-abbrev μ-loop : tie.MeasureT-loop
-μ-loop out₀ at plane r row n i₀ x₀ out i x = n - x
+has-steps-requires : tie.Need-has-steps-requires
+has-steps-requires c κs = search needs
 
--- sample x of the row
-module _ (c : tie.In-loop Inv-loop μ-loop) where
-  abbrev item : ℕ → List ℕ
-  item u = sampleBytes (c .before .before .before .before .before .args .r .«to_bytes») (rasterAt (now (c .before .before .before .before .before .args .plane)) (c .before .before .before .before .before .args .r) (c .before .before .before .before .before .args .row) u)
+div-step : tie.Need-div-step
+div-step c = search needs
 
-  left : c .before .loop .x < c .before .before .before .before .before .args .r .across .to
-  left = rw (c .before .loop .inv .0) at (c .loop-test .taken)
+mul-step : tie.Need-mul-step
+mul-step c =
+    let start = c .before .before .before .before .before .before .before .before .before .before in
+    omega (arith, apart-step (start .args .r) (start .pre .0 .across .old) (start .pre .0 .bounded))
 
-  step : span item (c .before .loop .x) (c .before .before .before .before .before .args .r .across .to) ≡ item (c .before .loop .x) ++ span item (c .before .loop .x + 1) (c .before .before .before .before .before .args .r .across .to)
-  step = span-step item (c .before .loop .x) (c .before .before .before .before .before .args .r .across .to) left
+mul-from : tie.Need-mul-from
+mul-from c =
+    let start = c .before .before .before .before .before .before .before .before .before .before .before .before in
+    let row = c .before .before .before .before .before .before .before .row in
+    let has-steps = c .before .before .before .before .before .has-steps in
+    let if1 = c .before .before .before .before .if1 in
+    omega (arith, apart-small _ _ _ (row-apart (now (start .args .plane)) (start .args .r) (row .given .0 .0) _ _ (omega arith) (start .pre .0) (start .pre .1) (row .given .1) (has-steps .ensures) (if1 .taken)) (start .pre .0 .across .made))
 
-  long : length (item (c .before .loop .x)) ≡ c .before .before .before .before .before .args .r .«to_bytes»
-  long = length-sampleBytes (c .before .before .before .before .before .args .r .«to_bytes») _ (c .before .before .before .before .before .pre .0 .toPositive) (c .before .before .before .before .before .pre .0 .toBounded)
+write-apart-requires : tie.Need-write-apart-requires
+write-apart-requires c κs =
+    let start = c .before .before .before .before .before .before .before .before .before .before .before .before .before in
+    let row = c .before .before .before .before .before .before .before .before .row in
+    let has-steps = c .before .before .before .before .before .before .has-steps in
+    let if1 = c .before .before .before .before .before .if1 in
+    let a = row-apart (now (start .args .plane)) (start .args .r) (row .given .0 .0) _ _ (omega arith) (start .pre .0) (start .pre .1) (row .given .1) (has-steps .ensures) (if1 .taken) in (a .fits, rw (a .bytes) (start .pre .2))
 
-  room : c .before .loop .i + c .before .before .before .before .before .args .r .«to_bytes» ≤ length (c .before .loop .out)
-  room = rw (← long) (writing-fits (item (c .before .loop .x)) _ (writing-as (c .before .loop .inv .1) step))
+same-length : tie.Need-same-length
+same-length c = search needs
 
-loop-holds : tie.Need-loop-holds Inv-loop μ-loop
-unfolding rasterRow samplesOf
-loop-holds c = (refl, writing-start _ _ _ (rw (length-rasterRow (now (c .before .before .before .args .plane)) (c .before .before .before .args .r) (c .before .before .before .args .row) (c .before .before .before .pre .0)) (c .before .before .before .pre .2)))
-
-row-sample-requires : tie.Need-row-sample-requires Inv-loop μ-loop
-row-sample-requires c κs = (c .before .before .before .before .before .before .pre .0, c .before .before .before .before .before .before .pre .1, left ((c .before)))
-
-put-sample-requires : tie.Need-put-sample-requires Inv-loop μ-loop
-put-sample-requires c κs = (c .before .before .before .before .before .before .before .pre .0 .toPositive, c .before .before .before .before .before .before .before .pre .0 .toBounded, room ((c .before .before)))
-
-add-x : tie.Need-add-x Inv-loop μ-loop
-add-x c = search needs
-
-loop-less : tie.Need-loop-less Inv-loop μ-loop
-loop-less c = search needs
-
-loop-again : tie.Need-loop-again Inv-loop μ-loop
-loop-again c =
-    let in-loop = c .before .before .before .before .before in
-    let loop = in-loop .before .loop in
-    let start = in-loop .before .before .before .before .before in (
-      loop .inv .0,
-      writing-run (item in-loop (loop .x)) (writing-as (loop .inv .1) (step in-loop))
-          (c .before .before .put-sample .ensures .0 ∙ ap (λ (k : ℕ). loop .i + k) (sym (long in-loop)))
-          (c .before .before .put-sample .ensures .1
-          ∙ ap (λ (v : ℕ). puts (loop .out) (loop .i) (sampleBytes (start .args .r .«to_bytes») v)) (c .before .before .before .row-sample .ensures)),
-    )
-
-same-length : tie.Need-same-length Inv-loop μ-loop
-same-length c = c .before .loop .inv .1 .long
-
-returns : tie.Need-returns Inv-loop μ-loop
+returns : tie.Need-returns
 returns c =
-    let start = c .before .before .before .before .before in
-    let w = writing-done (writing-as (c .before .loop .inv .1) (span-end _ _ _ (rw (c .before .loop .inv .0) at (c .loop-test .left)))) in (
-      w .0 ∙ ap (λ (k : ℕ). start .args .at + k) (length-rasterRow (now (start .args .plane)) (start .args .r) (start .args .row) (start .pre .0)),
-      w .1,
-    )
+    let start = c .before .before .before .before .before .before .before .before .before .before .before .before .before .before .before .before in
+    let row = c .before .before .before .before .before .before .before .before .before .before .before .row in
+    let has-steps = c .before .before .before .before .before .before .before .before .before .has-steps in
+    let if1 = c .before .before .before .before .before .before .before .before .if1 in
+    let a = row-apart (now (start .args .plane)) (start .args .r) (row .given .0 .0) _ _ (omega arith) (start .pre .0) (start .pre .1) (row .given .1) (has-steps .ensures) (if1 .taken) in (c .before .before .write-apart .ensures .0 ∙ ap (λ (b : ℕ). start .args .at + start .args .r .across .to * b) (a .bytes), c .before .before .write-apart .ensures .1 ∙ ap (puts (now (start .args .out)) (start .args .at)) (a .row) ∙ ap (λ q. puts (now (start .args .out)) (start .args .at) (rasterRow (now (start .args .plane)) (start .args .r) q)) (sym (row .given .1)))
+
+write-samples-requires : tie.Need-write-samples-requires
+write-samples-requires c κs =
+    let start = c .before .before .before .before .before .before .before .before .before in
+    let row = c .before .before .before .before .row in
+    (start .pre .0, near-row _ _ _ _ (row .given .1) (start .pre .1), start .pre .2)
+
+enum-told : tie.Need-enum-told
+enum-told c = search needs
+
+write-samples-requires-2 : tie.Need-write-samples-requires-2
+write-samples-requires-2 c κs = search needs
+
+same-length-2 : tie.Need-same-length-2
+same-length-2 c = search needs
+
+returns-2 : tie.Need-returns-2
+returns-2 c =
+    let row = c .before .before .before .before .before .before .before .row in
+    rw (row .given .1) (c .before .before .write-samples .ensures)
+
+same-length-3 : tie.Need-same-length-3
+same-length-3 c = search needs
+
+returns-3 : tie.Need-returns-3
+returns-3 c = search needs
 
 pub write-row-spec : {M : Type 1} → statement M
 write-row-spec =
     tie.close
     (tie.spec
-    Inv-loop
-    μ-loop
-    loop-holds
-    row-sample-requires
-    put-sample-requires
-    add-x
-    loop-less
-    loop-again
+    enum-known-row
+    has-steps-requires
+    div-step
+    mul-step
+    mul-from
+    write-apart-requires
     same-length
-    returns)
+    returns
+    write-samples-requires
+    enum-told
+    write-samples-requires-2
+    same-length-2
+    returns-2
+    same-length-3
+    returns-3)
