@@ -5,44 +5,23 @@ use Prim.Native.Nat.{_*_, _+_, _<_, _^_, _≤_, ℕ}
 use native.Mathlib.Nat.{add-mul, mul-assoc, mul-le-mul-right}
 use native.Mathlib.Omega.{arith}
 use lib.Dec.{eqb}
-use lib.ListN.{length}
+use lib.Ieee.{down}
 use lib.Pow.{high}
 use borrow.Author.Tests.{eq-eqb, ne-eqb}
 use Rattle.laws.proofs.Order.{by-equal, item-within, pick-false, pick-true, positive}
 use Rattle.image.proofs.FormLaws.{row-le, size-le}
-use Rattle.planes.specs.Bytes.{planeHead, planeSize, sizeOf, tightAt}
 use Rattle.image.specs.Format.{bytesOf, columnsOf, hasPart, rowSize, rowsOf}
 use Rattle.image.specs.Record.{planeOf}
 use Rattle.image.specs.Sound.{FormSound}
 use Rattle.image.specs.declared.format.Form.{Form}
 use Rattle.image.specs.declared.format.Part.{Part}
-use Rattle.image.specs.declared.format.Part.the-variants.{Alpha, Cb, Cr, Luma}
-use Rattle.image.specs.declared.record.Plane.{Plane}
+use Rattle.planes.specs.Bytes.{sizeOf, tightAt}
+use Rattle.paste.proofs.HeadedLaws.{part-end}
 use Rattle.grid.proofs.CellLaws.{visible-within}
-use Rattle.paste.proofs.HeadedLaws.{beginOf, tight-part}
 use Rattle.grid.specs.Cell.{cellOf, noCell, visibleOf}
 use Rattle.grid.specs.declared.cell.Cell.{Cell}
 
--- a part's bytes end inside the record
-begin-size : (m : Form) (p : Part) → beginOf m p + planeSize m p ≤ sizeOf m
-unfolding beginOf sizeOf
-begin-size m Luma = omega arith
-begin-size m Cb = omega arith
-begin-size m Cr = omega arith
-begin-size m Alpha = omega arith
-
 module _ (c t : Form) (okc : FormSound c) (p : Part) (has : hasPart (c .format) p ≡ true) (same : bytesOf (t .format) ≡ bytesOf (c .format)) (column row : ℕ) where
-  -- a part's plane
-  pub to-start : planeOf (tightAt c 0) p .start ≡ beginOf c p + length (planeHead c p)
-  to-start = ap (λ (q : Plane). q .start) (tight-part c p has)
-
-  pub to-stride : planeOf (tightAt c 0) p .stride ≡ rowSize c p
-  to-stride = ap (λ (q : Plane). q .stride) (tight-part c p has)
-
-  to-end : planeOf (tightAt c 0) p .start + rowsOf c p * rowSize c p ≤ sizeOf c
-  unfolding planeSize
-  to-end = let b : planeSize c p ≡ length (planeHead c p) + rowsOf c p * rowSize c p = pick-true _ _ _ has in omega (arith, to-start, begin-size c p)
-
   module _ (showsX : visibleOf (columnsOf c p) (columnsOf t p) column ≡ 0 → ⊥) (showsY : visibleOf (rowsOf c p) (rowsOf t p) row ≡ 0 → ⊥) where
     -- the rows above, and the columns before
     pub above-le : (y : ℕ) → y < visibleOf (rowsOf c p) (rowsOf t p) row → row * rowsOf t p * rowSize c p + y * rowSize c p + rowSize c p ≤ rowsOf c p * rowSize c p
@@ -66,7 +45,7 @@ module _ (c t : Form) (okc : FormSound c) (p : Part) (has : hasPart (c .format) 
     before-small = omega (arith, before-le, row-le c okc p)
 
     pub start-small : planeOf (tightAt c 0) p .start + row * rowsOf t p * rowSize c p + column * rowSize t p ≤ sizeOf c
-    start-small = let p₀ = positive (visibleOf (rowsOf c p) (rowsOf t p) row) showsY in omega (arith, above-le 0 (omega arith), before-le, to-end)
+    start-small = let p₀ = positive (visibleOf (rowsOf c p) (rowsOf t p) row) showsY in omega (arith, above-le 0 (omega arith), before-le, part-end c p has)
 
     -- the cell
     pub cell-is : cellOf c t column row p
@@ -76,7 +55,7 @@ module _ (c t : Form) (okc : FormSound c) (p : Part) (has : hasPart (c .format) 
 
     pub writes-le : (y : ℕ) → y < visibleOf (rowsOf c p) (rowsOf t p) row
         → planeOf (tightAt c 0) p .start + (row * rowsOf t p * rowSize c p + column * rowSize t p) + y * rowSize c p + visibleOf (columnsOf c p) (columnsOf t p) column * bytesOf (c .format) ≤ sizeOf c
-    writes-le y l = omega (arith, above-le y l, before-le, to-end)
+    writes-le y l = omega (arith, above-le y l, before-le, part-end c p has)
 
 -- the numbers as they are worked out
 module _ (c t : Form) (okc : FormSound c) (p : Part) (has : hasPart (c .format) p ≡ true) (same : bytesOf (t .format) ≡ bytesOf (c .format)) (column row start stride wide high bytes across down : ℕ)

@@ -7,23 +7,9 @@ ghost use Rattle.planes.specs.Bytes.{encode, planeBytes, planeSize, sizeOf};
 ghost use Rattle.image.specs.Sound.{FormSound};
 ghost use Rattle.image.specs.declared.format.Part.{Part};
 ghost use Rattle.grid.specs.Mosaic.{canvasBytes};
-ghost use Rattle.grid.specs.inner.Stored.{anyPic, evenPic, underPic};
+ghost use Rattle.grid.specs.inner.Stored.{anyPic, underPic};
 use image::Form;
 use image::Part;
-
-// A plane of one sample at `at`, if the picture has it, and the place past it.
-fn paint_plane(out: &mut [u8], at: usize, form: Form, part: Part, v: u16) -> usize
-    requires { ⌜ FormSound form × (at + planeSize form part ≤ length (now out)) ⌝ }
-    ensures { λ r. ⌜ (r ≡ at + planeSize form part) × (now (out .exit) ≡ puts (now (out .entry)) at (planeBytes (evenPic form v) part)) ⌝ }
-{
-    let f = form.format;
-    if f.has(part) {
-        let a = planes::write_plane_head(out, at, form, part);
-        let n = f.columns(form.width, part) * f.rows(form.height, part);
-        return planes::fill_row(out, a, f.bytes_per_sample(), v, n);
-    }
-    at
-}
 
 // The canvas: samples 0, alpha at top, and a header that says that alpha number.
 pub fn paint_canvas(out: &mut [u8], canvas: Form, shown: u32)
@@ -31,11 +17,7 @@ pub fn paint_canvas(out: &mut [u8], canvas: Form, shown: u32)
     ensures { λ r. ⌜ now (out .exit) ≡ puts (now (out .entry)) 0 (canvasBytes canvas shown) ⌝ }
 {
     let f = canvas.format;
-    let a = planes::write_head(out, 0, canvas.with_alpha(shown));
-    let b = paint_plane(out, a, canvas, Part::Luma, 0);
-    let c = paint_plane(out, b, canvas, Part::Cb, 0);
-    let d = paint_plane(out, c, canvas, Part::Cr, 0);
-    paint_plane(out, d, canvas, Part::Alpha, f.top());
+    paste::paint_canvas(out, canvas.with_alpha(shown), canvas, 0, 0, 0, f.top());
 }
 
 // A plane's numbers at `at`, if the picture has it, and the place past its samples, which stay as they are.
@@ -61,5 +43,5 @@ pub(crate) fn outline_canvas(out: &mut [u8], canvas: Form)
     let b = outline_plane(out, a, canvas, Part::Luma);
     let c = outline_plane(out, b, canvas, Part::Cb);
     let d = outline_plane(out, c, canvas, Part::Cr);
-    paint_plane(out, d, canvas, Part::Alpha, f.top());
+    paste::paint_plane(out, d, canvas, Part::Alpha, f.top());
 }

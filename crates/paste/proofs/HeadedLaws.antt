@@ -2,7 +2,7 @@
 use mathlib.Core.Bool.{Bool, false, true}
 use mathlib.Core.List.{List, [], _++_, append-assoc}
 use mathlib.Core.Path.{_∙_, _≡_, ap, ap₂, refl, sym}
-use Prim.Native.Nat.{_*_, _+_, ℕ}
+use Prim.Native.Nat.{_*_, _+_, _≤_, ℕ}
 use native.Mathlib.Omega.{arith}
 use lib.Dec.{eqb}
 use lib.ListN.{length, length-append}
@@ -17,7 +17,7 @@ use Rattle.image.specs.declared.format.Part.the-variants.{Alpha, Cb, Cr, Luma}
 use Rattle.image.specs.declared.record.Frame.{Frame}
 use Rattle.image.specs.declared.record.Plane.{Plane}
 use Rattle.planes.proofs.RoundTrip.{length-planeBytes, placed-none, placed-some, plane-some}
-use Rattle.planes.specs.Bytes.{headBytes, placed, planeBytes, planeHead, planeSize, rowBytes, rowsBytes, tightAt}
+use Rattle.planes.specs.Bytes.{headBytes, placed, planeBytes, planeHead, planeSize, rowBytes, rowsBytes, sizeOf, tightAt}
 use Rattle.planes.specs.Picture.{Pic}
 use Rattle.paste.specs.Stored.{headed}
 
@@ -132,3 +132,18 @@ onPart-other P p q f x y e = pick-false _ _ _ e
 -- where a part's rows begin
 pub part-start : (m : Form) (p : Part) → hasPart (m .format) p ≡ true → planeOf (tightAt m 0) p .start ≡ beginOf m p + length (planeHead m p)
 part-start m p h = ap (λ (q : Plane). q .start) (tight-part m p h)
+
+pub part-stride : (m : Form) (p : Part) → hasPart (m .format) p ≡ true → planeOf (tightAt m 0) p .stride ≡ rowSize m p
+part-stride m p h = ap (λ (q : Plane). q .stride) (tight-part m p h)
+
+-- a part's bytes end inside the record
+begin-size : (m : Form) (p : Part) → beginOf m p + planeSize m p ≤ sizeOf m
+unfolding beginOf sizeOf
+begin-size m Luma = omega arith
+begin-size m Cb = omega arith
+begin-size m Cr = omega arith
+begin-size m Alpha = omega arith
+
+pub part-end : (m : Form) (p : Part) → hasPart (m .format) p ≡ true → planeOf (tightAt m 0) p .start + rowsOf m p * rowSize m p ≤ sizeOf m
+unfolding planeSize
+part-end m p h = let b : planeSize m p ≡ length (planeHead m p) + rowsOf m p * rowSize m p = pick-true _ _ _ h in omega (arith, part-start m p h, begin-size m p)

@@ -3,3 +3,4 @@ pub mod SourceLaws
 pub mod StoreLaws
 pub mod HeadedLaws
 pub mod RectLaws
+pub mod EvenLaws

@@ -1,6 +1,7 @@
 -- Tiles stored one after the other.
 use mathlib.Core.List.{List}
 use Prim.Native.Nat.{_%_, _/_, suc, zero, ℕ}
+use lib.Dec.{T}
 use Rattle.image.specs.Format.{topOf}
 use Rattle.image.specs.declared.format.Form.{Form}
 use Rattle.image.specs.declared.format.Part.{Part}
@@ -8,9 +9,6 @@ use Rattle.image.specs.declared.format.Part.the-variants.{Alpha, Cb, Cr, Luma}
 use Rattle.image.specs.declared.format.PixelFormat.{PixelFormat}
 use Rattle.planes.specs.Picture.{Pic}
 use Rattle.grid.specs.Cell.{storeTile}
-
-unfoldable pub evenPic : Form → ℕ → Pic
-evenPic m v = record { form = m; at = λ p x y. v }
 
 -- one plane's samples, whatever they are
 unfoldable pub anyPic : Form → (ℕ → ℕ → ℕ) → Pic

@@ -4,12 +4,13 @@ use native.Mathlib.Omega.{arith}
 use borrow.Author.Needs.{needs}
 use Rattle.laws.proofs.Order.{mul-below}
 use Rattle.image.proofs.FormLaws.{columns-le, height-le, rows-le, width-le}
-use Rattle.planes.specs.Bytes.{tightAt}
 use Rattle.image.specs.Format.{bytesOf, columnsOf, rowsOf}
 use Rattle.image.specs.Record.{planeOf}
 use Rattle.image.specs.declared.record.Frame.{Frame}
 use Rattle.image.specs.declared.record.Plane.{Plane}
-use Rattle.grid.proofs.CellFits.{cell-low, cell-narrow, tile-row-le, to-stride, worked-above, worked-at, worked-before, worked-cell}
+use Rattle.planes.specs.Bytes.{tightAt}
+use Rattle.paste.proofs.HeadedLaws.{part-stride}
+use Rattle.grid.proofs.CellFits.{cell-low, cell-narrow, tile-row-le, worked-above, worked-at, worked-before, worked-cell}
 use Rattle.grid.proofs.cell.cell_of.Statement.{statement}
 use Rattle.grid.specs.Cell.{noCell, visibleOf}
 use Rattle.grid.proofs.cell.cell_of.Tie as tie
@@ -147,7 +148,7 @@ mul-above-2 c =
       worked-above (start .args .to .form) (start .args .tile) (start .pre .1) (start .args .part) (start .pre .3) (start .pre .4) (start .args .column)
           (start .args .row) (c .plane .result .start) (c .plane .result .stride) (columns .result) (rows .result)
           (bytesOf (start .args .tile .format)) (visible .result) (visible2 .result) (ap (λ (q : Plane). q .start) (to c))
-          (ap (λ (q : Plane). q .stride) (to c) ∙ to-stride _ (start .args .tile) (start .pre .1) _ (start .pre .3) (start .pre .4) 0 0) (wide else2)
+          (ap (λ (q : Plane). q .stride) (to c) ∙ part-stride _ _ (start .pre .3)) (wide else2)
           (high else2) refl (across else2) (down else2) (c .before .before .if1 .left) (if2 .left),
     )
 
@@ -175,7 +176,7 @@ mul-before-2 c =
       worked-before (start .args .to .form) (start .args .tile) (start .pre .1) (start .args .part) (start .pre .3) (start .pre .4)
           (start .args .column) (start .args .row) (c .before .plane .result .start) (c .before .plane .result .stride) (columns .result)
           (rows .result) (c .bytes-per-sample .result) (visible .result) (visible2 .result) (ap (λ (q : Plane). q .start) (to (c .before)))
-          (ap (λ (q : Plane). q .stride) (to (c .before)) ∙ to-stride _ (start .args .tile) (start .pre .1) _ (start .pre .3) (start .pre .4) 0 0)
+          (ap (λ (q : Plane). q .stride) (to (c .before)) ∙ part-stride _ _ (start .pre .3))
           (wide else2) (high else2) (c .bytes-per-sample .ensures) (across else2) (down else2) (if1 .left) (if2 .left),
     )
 
@@ -194,12 +195,12 @@ add-t17 c =
       worked-above (start .args .to .form) (start .args .tile) (start .pre .1) (start .args .part) (start .pre .3) (start .pre .4) (start .args .column)
           (start .args .row) (c .before .plane .result .start) (c .before .plane .result .stride) (columns .result) (rows .result)
           (c .bytes-per-sample .result) (visible .result) (visible2 .result) (ap (λ (q : Plane). q .start) (to (c .before)))
-          (ap (λ (q : Plane). q .stride) (to (c .before)) ∙ to-stride _ (start .args .tile) (start .pre .1) _ (start .pre .3) (start .pre .4) 0 0)
+          (ap (λ (q : Plane). q .stride) (to (c .before)) ∙ part-stride _ _ (start .pre .3))
           (wide else2) (high else2) (c .bytes-per-sample .ensures) (across else2) (down else2) (if1 .left) (if2 .left),
       worked-before (start .args .to .form) (start .args .tile) (start .pre .1) (start .args .part) (start .pre .3) (start .pre .4)
           (start .args .column) (start .args .row) (c .before .plane .result .start) (c .before .plane .result .stride) (columns .result)
           (rows .result) (c .bytes-per-sample .result) (visible .result) (visible2 .result) (ap (λ (q : Plane). q .start) (to (c .before)))
-          (ap (λ (q : Plane). q .stride) (to (c .before)) ∙ to-stride _ (start .args .tile) (start .pre .1) _ (start .pre .3) (start .pre .4) 0 0)
+          (ap (λ (q : Plane). q .stride) (to (c .before)) ∙ part-stride _ _ (start .pre .3))
           (wide else2) (high else2) (c .bytes-per-sample .ensures) (across else2) (down else2) (if1 .left) (if2 .left),
     )
 
@@ -220,7 +221,7 @@ add-t20 c =
       worked-at (start .args .to .form) (start .args .tile) (start .pre .1) (start .args .part) (start .pre .3) (start .pre .4) (start .args .column)
           (start .args .row) (plane .result .start) (plane .result .stride) (columns .result) (rows .result) (c .before .bytes-per-sample .result)
           (visible .result) (visible2 .result) (ap (λ (q : Plane). q .start) (to after-plane))
-          (ap (λ (q : Plane). q .stride) (to after-plane) ∙ to-stride _ (start .args .tile) (start .pre .1) _ (start .pre .3) (start .pre .4) 0 0)
+          (ap (λ (q : Plane). q .stride) (to after-plane) ∙ part-stride _ _ (start .pre .3))
           (wide else2) (high else2) (c .before .bytes-per-sample .ensures) (across else2) (down else2) (if1 .left) (if2 .left),
       start .pre .5,
     )
@@ -240,7 +241,7 @@ returns-3 c =
     worked-cell (start .args .to .form) (start .args .tile) (start .pre .1) (start .args .part) (start .pre .3) (start .pre .4) (start .args .column)
     (start .args .row) (plane .result .start) (plane .result .stride) (columns .result) (rows .result) (c .before .bytes-per-sample .result)
     (visible .result) (visible2 .result) (ap (λ (q : Plane). q .start) (to after-plane))
-    (ap (λ (q : Plane). q .stride) (to after-plane) ∙ to-stride _ (start .args .tile) (start .pre .1) _ (start .pre .3) (start .pre .4) 0 0)
+    (ap (λ (q : Plane). q .stride) (to after-plane) ∙ part-stride _ _ (start .pre .3))
     (wide else2) (high else2) (c .before .bytes-per-sample .ensures) (across else2) (down else2) (if1 .left) (if2 .left)
 
 pub cell-of-spec : {M : Type 1} → statement M

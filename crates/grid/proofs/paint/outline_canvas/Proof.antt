@@ -7,14 +7,14 @@ use Rattle.laws.proofs.Puts.{length-puts}
 use Rattle.laws.specs.Puts.{puts}
 use Rattle.image.specs.declared.format.Part.the-variants.{Alpha}
 use Rattle.planes.specs.Bytes.{planeBytes, sizeOf}
+use Rattle.paste.specs.inner.Even.{evenPic}
 use Rattle.grid.proofs.PaintLaws.{coloursOf, under-written}
 use Rattle.grid.proofs.paint.outline_canvas.Statement.{statement}
-use Rattle.grid.specs.inner.Stored.{evenPic}
 use Rattle.grid.proofs.paint.outline_canvas.Tie as tie
 use Rattle.grid.proofs.paint.outline_canvas.Reads as reads
 use Rattle.grid.proofs.paint.outline_canvas.Lts as lts
 use Rattle.grid.proofs.paint.outline_plane.Reads as outline-plane-reads
-use Rattle.grid.proofs.paint.paint_plane.Reads as paint-plane-reads
+use Rattle.paste.proofs.paint_plane.Reads as paint-plane-reads
 use Rattle.image.proofs.format.PixelFormat.top.Reads as top-reads
 use Rattle.planes.proofs.write_head.Reads as write-head-reads
 

@@ -12,12 +12,12 @@ use Rattle.planes.proofs.ByteLaws.{length-samplesOf}
 use Rattle.image.proofs.FormLaws.{bytes-few}
 use Rattle.planes.specs.Bytes.{planeBytes, planeHead, samplesOf}
 use Rattle.image.specs.Format.{bytesOf, columnsOf, hasPart, rowsOf}
-use Rattle.grid.proofs.PaintLaws.{even-none, even-some, length-even-plane, plane-small}
-use Rattle.grid.proofs.paint.paint_plane.Statement.{statement}
-use Rattle.grid.specs.inner.Stored.{evenPic}
-use Rattle.grid.proofs.paint.paint_plane.Tie as tie
-use Rattle.grid.proofs.paint.paint_plane.Reads as reads
-use Rattle.grid.proofs.paint.paint_plane.Lts as lts
+use Rattle.paste.proofs.EvenLaws.{even-none, even-some, length-even-plane, plane-small}
+use Rattle.paste.proofs.paint.paint_plane.Statement.{statement}
+use Rattle.paste.specs.inner.Even.{evenPic}
+use Rattle.paste.proofs.paint.paint_plane.Tie as tie
+use Rattle.paste.proofs.paint.paint_plane.Reads as reads
+use Rattle.paste.proofs.paint.paint_plane.Lts as lts
 use Rattle.image.proofs.format.PixelFormat.bytes_per_sample.Reads as bytes-per-sample-reads
 use Rattle.image.proofs.format.PixelFormat.columns.Reads as columns-reads
 use Rattle.image.proofs.format.PixelFormat.has.Reads as has-reads
