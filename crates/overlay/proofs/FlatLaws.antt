@@ -20,14 +20,14 @@ use Rattle.image.specs.Sound.{FormSound}
 use Rattle.image.specs.declared.format.Form.{Form}
 use Rattle.image.specs.declared.format.Part.{Part}
 use Rattle.image.specs.declared.format.Part.the-variants.{Alpha}
-use Rattle.planes.proofs.ByteLaws.{samples-same}
-use Rattle.planes.specs.Bytes.{encode, rowBytes, rowsBytes, sampleBytes, samplesOf}
+use Rattle.planes.proofs.RoundTrip.{length-encode}
+use Rattle.planes.specs.Bytes.{encode, rowBytes, rowsBytes, sampleBytes, samplesOf, sizeOf}
 use Rattle.fill.specs.Fill.{fillOf, nclxOf, partOf, ycbcrOf}
 use Rattle.fill.specs.declared.Colour.{Colour}
 use Rattle.fill.specs.declared.Ycbcr.{Ycbcr}
 use Rattle.derived.specs.declared.overlay.Fill.{Fill}
 use Rattle.inputs.specs.Layers.{Layer}
-use Rattle.overlay.specs.Overlay.{overAll, base, backdrop, overlayPic, placeAt, finalSample}
+use Rattle.overlay.specs.Overlay.{backdrop, base, finalSample, overAll, overlayPic, placeAt}
 use Rattle.overlay.specs.Run.{fillPart}
 use Rattle.overlay.specs.inner.Block.{StripeFits}
 
@@ -55,9 +55,6 @@ unfolding samplesOf
 flat-next bytes g start count total h =
     span-split _ start (start + count) total (omega arith) h
     ∙ ap (λ (l : List ℕ). l ++ span (λ q. sampleBytes bytes (g q)) (start + count) total) (span-shift (λ q. sampleBytes bytes (g q)) start count)
-
-pub samples-as : (b b′ : ℕ) (f g : ℕ → ℕ) (n : ℕ) → b ≡ b′ → ((j : ℕ) → j < n → f j ≡ g j) → samplesOf b f n ≡ samplesOf b′ g n
-samples-as b b′ f g n e h = ap (λ (k : ℕ). samplesOf k f n) e ∙ samples-same b′ f g n h
 
 -- a sample of the canvas, where its two quantities were laid from the backdrop
 pub over-place : (top : ℕ) (p : Part) (x y : ℕ) (fill : Part → ℕ) (ls : List Layer) (v w a b : ℕ) → v ≡ backdrop fill p → w ≡ backdrop fill Alpha → a ≡ overAll top p x y ls v → b ≡ overAll top Alpha x y ls w
@@ -93,3 +90,11 @@ drawn-room m s s′ a a′ ls k e f h = rw (e, f) h
 pub drawn-answer : (m : Form) (s s′ : Ycbcr) (a a′ : ℕ) (ls : List Layer) (r : ℕ) (d d′ : List ℕ) → s ≡ s′ → a ≡ a′
     → (r ≡ length (encode (overlayPic m (fillPart s a) ls))) × (d′ ≡ puts d 0 (encode (overlayPic m (fillPart s a) ls))) → (r ≡ length (encode (overlayPic m (fillPart s′ a′) ls))) × (d′ ≡ puts d 0 (encode (overlayPic m (fillPart s′ a′) ls)))
 drawn-answer m s s′ a a′ ls r d d′ e f h = rw (e, f) at h
+
+-- how long the record is, and a fill at most top, by the samples that were worked out
+pub drawn-size : (m : Form) (fill : Part → ℕ) (ls : List Layer) → length (encode (overlayPic m fill ls)) ≡ sizeOf m
+unfolding overlayPic
+drawn-size m fill ls = length-encode (overlayPic m fill ls)
+
+pub drawn-low : (s s′ : Ycbcr) (a a′ t : ℕ) → s ≡ s′ → a ≡ a′ → ((p : Part) → fillPart s′ a′ p ≤ t) → (p : Part) → fillPart s a p ≤ t
+drawn-low s s′ a a′ t e f h p = rw (e, f) (h p)

@@ -7,12 +7,12 @@ use native.Mathlib.Omega.{arith}
 use lib.Arith.{digits-div, digits-mod}
 use borrow.Author.Tests.{le-leb, leb-true, lt-ltb, ltb-true}
 use Rattle.laws.proofs.Order.{and-true, item-within, mul-below, true-and}
+use Rattle.laws.specs.Any.{any}
 use Rattle.laws.specs.Pick.{pick}
 use Rattle.numbers.specs.declared.Offset.{Offset}
 use Rattle.image.specs.Format.{sideOf}
-use Rattle.overlay.specs.inner.Block.{stretchOf}
+use Rattle.opaque.specs.inner.Window.{stretchOf}
 use Rattle.overlay.specs.Overlay.{base, covers, spotAt}
-use Rattle.laws.specs.Any.{any}
 
 -- ---- along one axis
 
@@ -50,11 +50,6 @@ pub base-small : (h : Bool) (c : ℕ) → base h c ≤ 2 * c
 unfolding base
 base-small true c = omega arith
 base-small false c = omega arith
-
-pub step-small : (h : Bool) (n : ℕ) → n * pick h 2 1 ≤ 2 * n
-unfolding pick
-step-small true n = omega arith
-step-small false n = omega arith
 
 -- ---- in rows
 
@@ -110,9 +105,3 @@ module _ (c start count from to r : ℕ) (any : 1 ≤ c) where
 -- a row's number is at most its first sample's
 pub row-small : (r c : ℕ) → 1 ≤ c → r ≤ r * c
 row-small r c h = omega (arith, mul-below r c r 1 (omega arith) h)
-
--- the ends of a stretch
-pub stretch-small : (h : Bool) (o : Offset) (n : ℕ) → (stretchOf h o n .from ≤ o .ahead) × (stretchOf h o n .to ≤ o .ahead + n)
-unfolding stretchOf sideOf
-stretch-small true o n = (omega arith, omega arith)
-stretch-small false o n = (omega arith, omega arith)

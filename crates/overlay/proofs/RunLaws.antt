@@ -28,7 +28,9 @@ use Rattle.derived.specs.Overlay.{overlayOf}
 use Rattle.inputs.proofs.FrameLaws.{frames-from}
 use Rattle.overlay.specs.inner.Block.{PlanSound, layersAt}
 use Rattle.image.specs.inner.Frames.{framesFrom}
-use Rattle.inputs.specs.Layers.{overlayForm, layersOf}
+use Rattle.inputs.specs.Layers.{layersOf, overlayForm, seeThrough}
+use Rattle.opaque.proofs.FitLaws.{form-fits}
+use Rattle.opaque.specs.inner.Laid.{unfit}
 use Rattle.overlay.specs.Overlay.{overlayPic}
 use Rattle.laws.specs.Any.{any}
 use Rattle.inputs.specs.inner.Plan.{planAt, planOf}
@@ -84,19 +86,23 @@ module _ (body tray list : List ℕ) (n at : ℕ) where
           area = k .offsets .canvas .area;
         }
 
-    pub plan-sound : PlanSound body list (planOf body tray list at q)
-    unfolding planOf
-    plan-sound = record { form = form-taken; offsets = k .offsets; list = k .many ∙ sym (k .count) }
-
     pub frames-are : q .frames ≡ framesFrom (q .descriptor .count) tray at
     frames-are = frames-from n tray at (q .frames) (k .frames) ∙ ap (λ (m : ℕ). framesFrom m tray at) (sym (k .count))
+
+    frames-fit : any seeThrough (layersOf body tray list (q .descriptor) 0 (q .frames)) ≡ false → any (unfit (composedForm body tray list q)) (framesFrom (q .descriptor .count) tray at) ≡ false
+    unfolding composedForm
+    frames-fit a = ap (any (unfit (composedForm body tray list q))) (sym frames-are) ∙ form-fits body tray list (q .descriptor) (firstFormat (q .frames)) _ _ _ (q .frames) a (k .depths)
+
+    pub plan-sound : PlanSound body tray list (planOf body tray list at q)
+    unfolding planOf
+    plan-sound = record { form = form-taken; offsets = k .offsets; list = k .many ∙ sym (k .count); fit = frames-fit }
 
 -- what goes on with a plan
 abbrev pub planPic : List ℕ → List ℕ → List ℕ → Colour → Plan → Pic
 planPic body tray list colour plan = overlayPic (plan .form) (fillFor (plan .descriptor .«canvas_fill») (plan .form .format .depth) colour) (layersAt body tray list plan)
 
 pub record Taken (body tray list : List ℕ) (colour : Colour) (room n at : ℕ) (plan : Plan) : Type 0 where
-  pub sound : PlanSound body list plan
+  pub sound : PlanSound body tray list plan
   pub left : overlayRun body tray list colour room
       ≡ refuse (any (alphaAbove tray (topOf (plan .form .format))) (framesFrom n tray at)) 16 (fitted room (encode (planPic body tray list colour plan)))
 

@@ -9,35 +9,37 @@ use lib.ListN.{getD, length, set}
 use lib.Seq.{getD-set-other, getD-set-same}
 use borrow.Author.Tests.{eq-eqb, le-ltb, lt-ltb, ne-eqb}
 use Rattle.laws.proofs.Order.{and-no, by-equal, by-order, by-test, pick-false, pick-true, true-and, within, within-no, within-yes}
+use Rattle.laws.specs.Any.{any}
 use Rattle.laws.specs.Out.{done, refused}
 use Rattle.laws.specs.Pick.{pick}
 use Rattle.laws.specs.declared.Refusal.{Refusal}
 use Rattle.image.proofs.FormLaws.{cover-in, width-le}
 use Rattle.image.proofs.RecordLaws.{sample-inside}
-use Rattle.image.specs.Record.{dataOf, planeOf, recordAt}
-use Rattle.planes.specs.Bytes.{decode}
-use Rattle.planes.specs.inner.Promoted.{promotedIn}
 use Rattle.image.specs.Format.{columnsOf, halfX, halfY, hasPart, rowsOf}
-use Rattle.planes.specs.Picture.{full, pixel}
+use Rattle.image.specs.Record.{dataOf, planeOf, recordAt}
 use Rattle.image.specs.declared.format.Part.{Part}
 use Rattle.image.specs.declared.format.Part.the-variants.{Alpha}
 use Rattle.image.specs.declared.record.Frame.{Frame}
 use Rattle.image.specs.declared.record.Plane.{Plane}
+use Rattle.image.specs.inner.Frames.{framesFrom}
+use Rattle.image.specs.inner.Placed.{InSlice}
+use Rattle.planes.specs.Bytes.{decode}
+use Rattle.planes.specs.Picture.{full, pixel}
+use Rattle.planes.specs.inner.Promoted.{promotedIn}
 use Rattle.derived.specs.Overlay.{placementAt}
 use Rattle.derived.specs.declared.overlay.OverlayDescriptor.{OverlayDescriptor}
 use Rattle.derived.specs.declared.overlay.Placement.{Placement}
 use Rattle.inputs.proofs.BlendLaws.{less-one}
 use Rattle.inputs.proofs.FrameLaws.{from-next, from-refused, tall, wide}
-use Rattle.overlay.proofs.ReachLaws.{line-in, line-out, line-small, row-last, row-mono, spot-inside, spot-step, step-small, stretch-covers, stretch-from}
-use Rattle.image.specs.inner.Placed.{InSlice}
-use Rattle.overlay.specs.inner.Block.{OverRowFits, StripeFits, acrossAt, alphaIn, downAt, layerWith, rowOver, stretchOf}
-use Rattle.image.specs.inner.Frames.{framesFrom}
 use Rattle.inputs.specs.Layers.{Layer, layerOf, layersOf}
-use Rattle.overlay.specs.Overlay.{overAll, alphaOf, base, covers, coversAt, over, overAt, sampleOf, spotAt}
-use Rattle.laws.specs.Any.{any}
+use Rattle.opaque.proofs.WindowLaws.{step-small}
+use Rattle.opaque.specs.declared.axis.Stretch.{Stretch}
+use Rattle.opaque.specs.inner.Window.{stretchOf}
+use Rattle.overlay.proofs.ReachLaws.{line-in, line-out, line-small, row-last, row-mono, spot-inside, spot-step, stretch-covers, stretch-from}
+use Rattle.overlay.specs.Overlay.{alphaOf, base, covers, coversAt, over, overAll, overAt, sampleOf, spotAt}
 use Rattle.overlay.specs.declared.blend.Source.{Source}
-use Rattle.overlay.specs.declared.blend.Stretch.{Stretch}
 use Rattle.overlay.specs.declared.blend.Stripe.{Stripe}
+use Rattle.overlay.specs.inner.Block.{OverRowFits, StripeFits, acrossAt, alphaIn, downAt, layerWith, rowOver}
 
 -- ---- a range of a list
 

@@ -5,12 +5,12 @@ ghost use mathlib.Core.Bool.{_&&_, true};
 ghost use lib.Dec.{eqb, leb, ltb};
 ghost use lib.ListN.{length, getD};
 ghost use Rattle.laws.specs.Pick.{pick};
-ghost use Rattle.image.specs.Format.{sideOf, hasAlpha, bytesOf};
+ghost use Rattle.image.specs.Format.{hasAlpha, bytesOf};
 ghost use Rattle.derived.specs.inner.Sound.{OverlaySound};
 ghost use Rattle.overlay.specs.Overlay.{overColour, overAlpha, over, covers, base, spotAt, overAt, overAll};
 ghost use Rattle.inputs.specs.Layers.{layersOf};
 ghost use Rattle.image.specs.inner.Frames.{framesFrom};
-ghost use Rattle.overlay.specs.inner.Block.{stretchOf, layerWith, acrossAt, downAt, StripeFits, alphaIn, OverRowFits, rowOver};
+ghost use Rattle.overlay.specs.inner.Block.{layerWith, acrossAt, downAt, StripeFits, alphaIn, OverRowFits, rowOver};
 ghost use Rattle.image.specs.inner.Placed.{InSlice};
 use derived::OverlayDescriptor;
 use derived::Placement;
@@ -19,6 +19,8 @@ use image::FrameRead;
 use image::Part;
 use image::PixelFormat;
 use numbers::Offset;
+use opaque::reach;
+use opaque::step_of;
 
 // Colour times opacity under an input's sample m of alpha a.
 fn over_colour(top: u16, m: u16, a: u16, premultiplied: bool, v: u32) -> u32
@@ -70,17 +72,6 @@ fn first_place(half: bool, c: usize) -> usize
         return 2 * c;
     }
     c
-}
-
-// How many samples begin before a place.
-fn before(half: bool, n: usize) -> usize
-    requires { ⌜ n < 2 ^ 40 ⌝ }
-    ensures { λ r. ⌜ r ≡ sideOf half n ⌝ }
-{
-    if half {
-        return (n + 1) / 2;
-    }
-    n
 }
 
 // A run of samples of a plane of the canvas, row after row: so many from the start-th on, in rows of so many columns, of places that
@@ -147,38 +138,12 @@ fn over_row(
     }
 }
 
-// The samples along an axis that an input of a side covers: from, and up to but not including.
-pub(crate) struct Stretch {
-    from: usize,
-    to: usize,
-}
-
-fn reach(half: bool, o: Offset, side: u32) -> Stretch
-    ensures { λ r. ⌜ r ≡ stretchOf half o side ⌝ }
-{
-    let ahead = o.ahead as usize;
-    let behind = o.behind as usize;
-    Stretch {
-        from: before(half, numbers::saturating_sub(ahead, behind)),
-        to: before(half, numbers::saturating_sub(ahead + side as usize, behind)),
-    }
-}
-
 // The spot of an input at a place.
 fn spot(o: Offset, x: usize) -> usize
     requires { ⌜ x < 2 ^ 41 ⌝ }
     ensures { λ r. ⌜ r ≡ spotAt o x ⌝ }
 {
     numbers::saturating_sub(x + o.behind as usize, o.ahead as usize)
-}
-
-fn step_of(half: bool) -> usize
-    ensures { λ r. ⌜ r ≡ pick half 2 1 ⌝ }
-{
-    if half {
-        return 2;
-    }
-    1
 }
 
 // Lays a row of an input over what a stripe has of the plane's row r.

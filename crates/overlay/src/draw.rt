@@ -1,11 +1,19 @@
-// The composed picture, written plane by plane and stripe by stripe.
+// The composed picture: plane by plane and stripe by stripe, or, where no input has alpha, the fill and each input's rows on it.
 ghost use mathlib.Core.Path.{_≡_};
+ghost use mathlib.Core.Bool.{false};
+ghost use mathlib.Core.List.{List};
 ghost use Prim.Native.Nat.{ℕ, _+_, _*_, _<_, _≤_};
 ghost use lib.ListN.{length, getD};
+ghost use Rattle.laws.specs.Any.{any};
 ghost use Rattle.laws.specs.Puts.{puts};
 ghost use Rattle.image.specs.Format.{bytesOf, topOf};
+ghost use Rattle.image.specs.Sound.{FormSound};
+ghost use Rattle.image.specs.declared.format.Part.{Part};
 ghost use Rattle.image.specs.declared.format.Part.the-variants.{Alpha};
-ghost use Rattle.planes.specs.Bytes.{samplesOf, rowsBytes, planeBytes, encode};
+ghost use Rattle.image.specs.inner.Frames.{framesFrom};
+ghost use Rattle.planes.specs.Bytes.{samplesOf, rowsBytes, planeBytes, encode, sizeOf};
+ghost use Rattle.derived.specs.inner.Sound.{OverlaySound};
+ghost use Rattle.opaque.specs.inner.Laid.{unfit};
 ghost use Rattle.overlay.specs.Overlay.{backdrop, unpremultiply, finalSample, placeAt, overlayPic};
 ghost use Rattle.overlay.specs.Run.{fillFor};
 ghost use Rattle.overlay.specs.inner.Block.{acrossAt, downAt, StripeFits, backdropFill, layersAt, PlanSound};
@@ -114,7 +122,7 @@ fn over_block(
     colour: &mut [u32],
     opacity: &mut [u32],
 ) -> usize
-    requires { ⌜ PlanSound (now body) (now premultiplied) plan × (1 ≤ g .top) × StripeFits run × (run .count ≤ length (now colour)) × (run .count ≤ length (now opacity))
+    requires { ⌜ PlanSound (now body) (now tray) (now premultiplied) plan × (1 ≤ g .top) × StripeFits run × (run .count ≤ length (now colour)) × (run .count ≤ length (now opacity))
         × (at + run .count * bytesOf (plan .form .format) ≤ length (now out))
         × ((j : ℕ) → j < run .count → getD (now colour) j 0 ≡ backdrop (backdropFill g) part)
         × ((j : ℕ) → j < run .count → getD (now opacity) j 0 ≡ backdrop (backdropFill g) Alpha) ⌝ }
@@ -155,7 +163,7 @@ fn write_block(
     part: Part,
     run: Stripe,
 ) -> usize
-    requires { ⌜ PlanSound (now body) (now premultiplied) plan × (1 ≤ g .top) × StripeFits run × (run .count ≤ 16384) × (at + run .count * bytesOf (plan .form .format) ≤ length (now out)) ⌝ }
+    requires { ⌜ PlanSound (now body) (now tray) (now premultiplied) plan × (1 ≤ g .top) × StripeFits run × (run .count ≤ 16384) × (at + run .count * bytesOf (plan .form .format) ≤ length (now out)) ⌝ }
     ensures { λ r. ⌜ (r ≡ at + run .count * bytesOf (plan .form .format))
         × (now (out .exit) ≡ puts (now (out .entry)) at (samplesOf (bytesOf (plan .form .format))
         (λ j. placeAt (g .top) (backdropFill g) (layersAt (now (body .entry)) (now (tray .entry)) (now (premultiplied .entry)) plan) part (acrossAt run j) (downAt run j)) (run .count))) ⌝ }
@@ -188,7 +196,7 @@ fn write_rows(
     g: Backdrop,
     part: Part,
 ) -> usize
-    requires { ⌜ PlanSound (now body) (now premultiplied) plan × (g .top ≡ topOf (plan .form .format))
+    requires { ⌜ PlanSound (now body) (now tray) (now premultiplied) plan × (g .top ≡ topOf (plan .form .format))
         × (at + length (rowsBytes (overlayPic (plan .form) (backdropFill g) (layersAt (now body) (now tray) (now premultiplied) plan)) part) ≤ length (now out)) ⌝ }
     ensures { λ r. ⌜ (r ≡ at + length (rowsBytes (overlayPic (plan .form) (backdropFill g) (layersAt (now (body .entry)) (now (tray .entry)) (now (premultiplied .entry)) plan)) part))
         × (now (out .exit) ≡ puts (now (out .entry)) at (rowsBytes (overlayPic (plan .form) (backdropFill g) (layersAt (now (body .entry)) (now (tray .entry)) (now (premultiplied .entry)) plan)) part)) ⌝ }
@@ -228,7 +236,7 @@ fn write_plane(
     g: Backdrop,
     part: Part,
 ) -> usize
-    requires { ⌜ PlanSound (now body) (now premultiplied) plan × (g .top ≡ topOf (plan .form .format))
+    requires { ⌜ PlanSound (now body) (now tray) (now premultiplied) plan × (g .top ≡ topOf (plan .form .format))
         × (at + length (planeBytes (overlayPic (plan .form) (backdropFill g) (layersAt (now body) (now tray) (now premultiplied) plan)) part) ≤ length (now out)) ⌝ }
     ensures { λ r. ⌜ (r ≡ at + length (planeBytes (overlayPic (plan .form) (backdropFill g) (layersAt (now (body .entry)) (now (tray .entry)) (now (premultiplied .entry)) plan)) part))
         × (now (out .exit) ≡ puts (now (out .entry)) at (planeBytes (overlayPic (plan .form) (backdropFill g) (layersAt (now (body .entry)) (now (tray .entry)) (now (premultiplied .entry)) plan)) part)) ⌝ }
@@ -251,7 +259,7 @@ fn write_overlay(
     plan: Plan,
     g: Backdrop,
 ) -> usize
-    requires { ⌜ PlanSound (now body) (now premultiplied) plan × (g .top ≡ topOf (plan .form .format))
+    requires { ⌜ PlanSound (now body) (now tray) (now premultiplied) plan × (g .top ≡ topOf (plan .form .format))
         × (length (encode (overlayPic (plan .form) (backdropFill g) (layersAt (now body) (now tray) (now premultiplied) plan))) ≤ length (now out)) ⌝ }
     ensures { λ r. ⌜ (r ≡ length (encode (overlayPic (plan .form) (backdropFill g) (layersAt (now (body .entry)) (now (tray .entry)) (now (premultiplied .entry)) plan))))
         × (now (out .exit) ≡ puts (now (out .entry)) 0 (encode (overlayPic (plan .form) (backdropFill g) (layersAt (now (body .entry)) (now (tray .entry)) (now (premultiplied .entry)) plan)))) ⌝ }
@@ -263,6 +271,20 @@ fn write_overlay(
     write_plane(out, d, body, tray, premultiplied, plan, g, Part::Alpha)
 }
 
+// The same where no input has alpha, whatever the premultiplied list: the canvas holds the fill, and each input's rows are laid on it.
+fn write_opaque(out: &mut [u8], body: &[u8], tray: &[u8], plan: Plan, g: Backdrop) -> usize
+    requires { ⌜ FormSound (plan .form) × OverlaySound (now body) (plan .descriptor) × ((p : Part) → backdropFill g p ≤ topOf (plan .form .format))
+        × (any (unfit (plan .form)) (framesFrom (plan .descriptor .count) (now tray) (plan .first)) ≡ false) × (sizeOf (plan .form) ≤ length (now out)) ⌝ }
+    ensures { λ r. ⌜ (r ≡ sizeOf (plan .form))
+        × ((list : List ℕ) → now (out .exit) ≡ puts (now (out .entry)) 0 (encode (overlayPic (plan .form) (backdropFill g) (layersAt (now (body .entry)) (now (tray .entry)) list plan)))) ⌝ }
+{
+    let form = plan.form;
+    let c = g.colour;
+    let size = paste::paint_canvas(out, form, form, c.y, c.cb, c.cr, g.alpha);
+    opaque::lay_inputs(out, body, tray, plan.descriptor, plan.first, form);
+    size
+}
+
 // Writes the composed picture's record at the start. A depth that was taken has a fill.
 pub fn draw_overlay(
     out: &mut [u8],
@@ -272,7 +294,7 @@ pub fn draw_overlay(
     plan: Plan,
     colour: Colour,
 ) -> usize
-    requires { ⌜ PlanSound (now body) (now premultiplied) plan
+    requires { ⌜ PlanSound (now body) (now tray) (now premultiplied) plan
         × (length (encode (overlayPic (plan .form) (fillFor (plan .descriptor .«canvas_fill») (plan .form .format .depth) colour) (layersAt (now body) (now tray) (now premultiplied) plan))) ≤ length (now out)) ⌝ }
     ensures { λ r. ⌜ (r ≡ length (encode (overlayPic (plan .form) (fillFor (plan .descriptor .«canvas_fill») (plan .form .format .depth) colour) (layersAt (now (body .entry)) (now (tray .entry)) (now (premultiplied .entry)) plan))))
         × (now (out .exit) ≡ puts (now (out .entry)) 0 (encode (overlayPic (plan .form) (fillFor (plan .descriptor .«canvas_fill») (plan .form .format .depth) colour) (layersAt (now (body .entry)) (now (tray .entry)) (now (premultiplied .entry)) plan)))) ⌝ }
@@ -295,5 +317,8 @@ pub fn draw_overlay(
         alpha: fill::fill_alpha(fill.alpha, f.depth),
         top: f.top(),
     };
-    write_overlay(out, body, tray, premultiplied, plan, g)
+    if plan.alpha {
+        return write_overlay(out, body, tray, premultiplied, plan, g);
+    }
+    write_opaque(out, body, tray, plan, g)
 }

@@ -299,7 +299,7 @@ module _ (body tray chain : List ℕ) (flag : Bool) where
 -- a chain and inputs that were read
 pub record OverlayKnown (body tray chain : List ℕ) (flag : Bool) (list : List ℕ) (colour : Colour) (n at : ℕ) (h : Chain) (plan : Plan) : Type 0 where
   pub judged : Judged chain h
-  pub sound : PlanSound body list plan
+  pub sound : PlanSound body tray list plan
   pub inRange : InRange (planPic body tray list colour plan)
   pub drawn : overlayDrawn body tray chain flag list colour
       ≡ refuse (any (alphaAbove tray (topOf (plan .form .format))) (framesFrom n tray at)) 16 (chainDrawn (judged .entries) flag (planPic body tray list colour plan))

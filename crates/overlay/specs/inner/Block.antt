@@ -1,35 +1,29 @@
 -- What the functions of this crate hand to each other: what the inputs come to, and a stripe of samples, which is a
 -- run of them in a plane of the canvas, row after row.
-use mathlib.Core.Bool.{Bool, true}
+use mathlib.Core.Bool.{Bool, false, true}
 use mathlib.Core.List.{List}
 use mathlib.Core.Path.{_≡_}
-use Prim.Native.Nat.{_%_, _*_, _+_, _-_, _/_, _<_, _^_, _≤_, ℕ}
+use Prim.Native.Nat.{_%_, _*_, _+_, _/_, _<_, _^_, _≤_, ℕ}
 use lib.ListN.{length}
+use Rattle.laws.specs.Any.{any}
 use Rattle.laws.specs.Pick.{pick}
-use Rattle.numbers.specs.declared.Offset.{Offset}
-use Rattle.image.specs.Format.{bytesOf, hasAlpha, sideOf}
-use Rattle.image.specs.Record.{planeOf}
+use Rattle.image.specs.Format.{bytesOf, hasAlpha}
 use Rattle.image.specs.Sound.{FormSound}
 use Rattle.image.specs.declared.format.Part.{Part}
 use Rattle.image.specs.declared.record.Frame.{Frame}
 use Rattle.image.specs.inner.Frames.{framesFrom}
-use Rattle.image.specs.inner.Placed.{Sound}
 use Rattle.planes.specs.Bytes.{decode, sampleIn}
 use Rattle.planes.specs.inner.Promoted.{PromotedFits, promotedIn}
 use Rattle.derived.specs.declared.overlay.Placement.{Placement}
 use Rattle.derived.specs.inner.Sound.{OverlaySound}
 use Rattle.inputs.specs.Layers.{Layer, layersOf}
 use Rattle.inputs.specs.declared.read.Plan.{Plan}
+use Rattle.opaque.specs.inner.Laid.{unfit}
 use Rattle.overlay.specs.Overlay.{base, over}
 use Rattle.overlay.specs.Run.{fillPart}
 use Rattle.overlay.specs.declared.blend.Source.{Source}
-use Rattle.overlay.specs.declared.blend.Stretch.{Stretch}
 use Rattle.overlay.specs.declared.blend.Stripe.{Stripe}
 use Rattle.overlay.specs.declared.draw.Backdrop.{Backdrop}
-
--- ---- what the inputs come to
-
--- ---- 16
 
 -- ---- a stripe of a plane
 
@@ -39,10 +33,6 @@ acrossAt r j = base (r .«half_across») ((r .start + j) % r .columns)
 
 unfoldable pub downAt : Stripe → ℕ → ℕ
 downAt r j = base (r .«half_down») ((r .start + j) / r .columns)
-
--- the samples along an axis that an input of a side covers: from, and up to but not including
-unfoldable pub stretchOf : Bool → Offset → ℕ → Stretch
-stretchOf half o n = record { from = sideOf half (o .ahead - o .behind); to = sideOf half (o .ahead + n - o .behind) }
 
 unfoldable pub layerWith : List ℕ → Frame → Placement → Bool → Layer
 layerWith tray fr place premultiplied = record { pic = decode tray fr; placement = place; premultiplied = premultiplied }
@@ -75,8 +65,9 @@ backdropFill g p = fillPart (g .colour) (g .alpha) p
 abbrev pub layersAt : List ℕ → List ℕ → List ℕ → Plan → List Layer
 layersAt body tray premultiplied q = layersOf body tray premultiplied (q .descriptor) 0 (framesFrom (q .descriptor .count) tray (q .first))
 
--- a plan that was read of a body, with a list as long
-pub record PlanSound (body premultiplied : List ℕ) (q : Plan) : Type 0 where
+-- a plan that was read of a body and a tray, with a list as long; where no input has alpha, each can be laid as it is
+pub record PlanSound (body tray premultiplied : List ℕ) (q : Plan) : Type 0 where
   pub form : FormSound (q .form)
   pub offsets : OverlaySound body (q .descriptor)
   pub list : length premultiplied ≡ q .descriptor .count
+  pub fit : q .alpha ≡ false → any (unfit (q .form)) (framesFrom (q .descriptor .count) tray (q .first)) ≡ false

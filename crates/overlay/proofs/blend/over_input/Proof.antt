@@ -6,19 +6,20 @@ use lib.ListN.{getD, length}
 use borrow.Author.Needs.{needs}
 use denote.Ref.{now}
 use Rattle.laws.specs.Pick.{pick}
+use Rattle.opaque.specs.declared.axis.Stretch.{Stretch}
+use Rattle.opaque.specs.inner.Window.{stretchOf}
 use Rattle.overlay.proofs.ReachLaws.{row-begins}
 use Rattle.overlay.proofs.StripeLaws.{row-shown, rows-begin, rows-end, rows-more}
 use Rattle.overlay.proofs.blend.over_input.Statement.{statement}
-use Rattle.overlay.specs.inner.Block.{acrossAt, downAt, layerWith, stretchOf}
 use Rattle.overlay.specs.Overlay.{overAt}
-use Rattle.overlay.specs.declared.blend.Stretch.{Stretch}
+use Rattle.overlay.specs.inner.Block.{acrossAt, downAt, layerWith}
 use Rattle.overlay.proofs.blend.over_input.Tie as tie
 use Rattle.overlay.proofs.blend.over_input.Reads as reads
 use Rattle.overlay.proofs.blend.over_input.Lts as lts
 use Rattle.overlay.proofs.blend.over_line.Reads as over-line-reads
 use Rattle.numbers.proofs.min.Reads as min-reads
 use Rattle.numbers.proofs.max.Reads as max-reads
-use Rattle.overlay.proofs.blend.reach.Reads as reach-reads
+use Rattle.opaque.proofs.reach.Reads as reach-reads
 
 abbrev Inv-loop : tie.InvT-loop
 Inv-loop acc₀ tray fr place premultiplied part top run columns start end last r₀ acc r =

@@ -1,14 +1,15 @@
 use mathlib.Core.Path.{_∙_, ap}
 use Prim.Native.Nat.{_*_, _+_, _-_, _<_, _≤_}
 use native.Mathlib.Omega.{arith}
-use denote.Ref.{now}
 use borrow.Author.Needs.{needs}
+use denote.Ref.{now}
 use Rattle.laws.proofs.Order.{within}
 use Rattle.image.specs.declared.format.Part.the-variants.{Alpha}
-use Rattle.overlay.proofs.ReachLaws.{base-small, row-small, stretch-small}
-use Rattle.overlay.proofs.StripeLaws.{call-bounds, call-fits, call-over, call-none}
+use Rattle.opaque.proofs.WindowLaws.{stretch-small}
+use Rattle.opaque.specs.declared.axis.Stretch.{Stretch}
+use Rattle.overlay.proofs.ReachLaws.{base-small, row-small}
+use Rattle.overlay.proofs.StripeLaws.{call-bounds, call-fits, call-none, call-over}
 use Rattle.overlay.proofs.blend.over_line.Statement.{statement}
-use Rattle.overlay.specs.declared.blend.Stretch.{Stretch}
 use Rattle.overlay.proofs.blend.over_line.Tie as tie
 use Rattle.overlay.proofs.blend.over_line.Reads as reads
 use Rattle.overlay.proofs.blend.over_line.Lts as lts
@@ -18,9 +19,9 @@ use Rattle.overlay.proofs.blend.first_place.Reads as first-place-reads
 use Rattle.overlay.proofs.blend.over_row.Reads as over-row-reads
 use Rattle.numbers.proofs.min.Reads as min-reads
 use Rattle.numbers.proofs.max.Reads as max-reads
-use Rattle.overlay.proofs.blend.reach.Reads as reach-reads
+use Rattle.opaque.proofs.reach.Reads as reach-reads
 use Rattle.overlay.proofs.blend.spot.Reads as spot-reads
-use Rattle.overlay.proofs.blend.step_of.Reads as step-of-reads
+use Rattle.opaque.proofs.step_of.Reads as step-of-reads
 
 bounds : (c : tie.Then1)
     → let most = c .before .before .before .before .max in

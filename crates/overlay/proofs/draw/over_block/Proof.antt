@@ -5,7 +5,8 @@ use borrow.Author.Needs.{needs}
 use denote.Ref.{now}
 use Rattle.laws.specs.Puts.{puts}
 use Rattle.image.proofs.FormLaws.{bytes-few}
-use Rattle.overlay.proofs.FlatLaws.{over-place, samples-as}
+use Rattle.opaque.proofs.SourceLaws.{samples-as}
+use Rattle.overlay.proofs.FlatLaws.{over-place}
 use Rattle.overlay.proofs.draw.over_block.Statement.{statement}
 use Rattle.overlay.specs.inner.Block.{acrossAt, backdropFill, downAt, layersAt}
 use Rattle.overlay.proofs.draw.over_block.Tie as tie
