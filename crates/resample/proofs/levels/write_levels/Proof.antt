@@ -59,7 +59,9 @@ write-looked-requires c κs =
     let top-at = c .before .before .before .before .before .before .before .before .top-at in
     let fill-table = c .before .before .before .before .before .before .fill-table in
     let loop = c .before .before .before .loop in
-    (start .pre .0, start .pre .3 .across, rw (start .pre .3 .down) (rw (loop .inv .0) at (c .before .before .loop-test .taken)), le-trans (le-of-eq (ap (λ (m : ℕ). m + 1) (top-at .ensures))) (le-trans (table-small (start .args .depths) (start .pre .3 .few)) (le-of-eq (sym (fill-table .ensures .1)))), raster-room _ (start .args .r) (start .pre .0) (loop .inv .1) (rw (loop .inv .0) at (c .before .before .loop-test .taken)))
+    let left = rw (loop .inv .0) at (c .before .before .loop-test .taken) in
+    let few = le-trans (table-small (start .args .depths) (start .pre .3 .few)) (le-of-eq (sym (fill-table .ensures .1))) in
+    (start .pre .0, start .pre .3 .across, rw (start .pre .3 .down) left, le-trans (le-of-eq (ap (λ (m : ℕ). m + 1) (top-at .ensures))) few, raster-room _ (start .args .r) (start .pre .0) (loop .inv .1) left)
 
 add-y : tie.Need-add-y Inv-loop μ-loop
 add-y c = search needs
@@ -75,7 +77,11 @@ loop-again c =
     let top-at2 = c .before .before .before .before .before .before .before .top-at2 in
     let loop = c .before .before .before .before .before .before .loop in
     let loop-test = c .before .before .before .before .before .loop-test in
-    (loop .inv .0, raster-more _ (start .args .r) (start .pre .0) (loop .inv .1) (rw (loop .inv .0) at (loop-test .taken)) _ _ _ (c .before .before .write-looked .ensures .0) (c .before .before .write-looked .ensures .1) (looked-row _ (start .args .r) (start .args .depths) _ _ _ _ (start .pre .0) (start .pre .2) (start .pre .3) (fill-table .ensures .0) (ap (λ (m : ℕ). m + 1) (top-at .ensures)) (top-at2 .ensures) ∙ ap (λ u. rasterRow (now (start .args .plane)) (start .args .r) (rowOf u (start .args .r .down) (loop .y))) (sym (start .pre .1))))
+    let r = start .args .r in
+    let written = c .before .before .write-looked .ensures in
+    let row = looked-row _ r (start .args .depths) _ _ _ _ (start .pre .0) (start .pre .2) (start .pre .3) (fill-table .ensures .0) (ap (λ (m : ℕ). m + 1) (top-at .ensures)) (top-at2 .ensures) in
+    let rule = ap (λ u. rasterRow (now (start .args .plane)) r (rowOf u (r .down) (loop .y))) (sym (start .pre .1)) in
+    (loop .inv .0, raster-more _ r (start .pre .0) (loop .inv .1) (rw (loop .inv .0) at (loop-test .taken)) _ _ _ (written .0) (written .1) (row ∙ rule))
 
 same-length : tie.Need-same-length Inv-loop μ-loop
 same-length c = c .before .loop .inv .1 .long

@@ -58,7 +58,11 @@ loop-again c =
     let loop-test = c .before .before .before .before .before .before .loop-test in
     let sample = c .before .before .before .before .sample in
     let look-up = c .before .before .before .look-up in
-    samples-more _ (λ u. lookOf (now (start .args .table)) (start .args .n) (start .args .top) (sampleIn (now (start .args .plane)) (start .args .r .bytes) (start .args .r .stride) u (start .args .y))) _ (start .pre .0 .toPositive) (start .pre .0 .toBounded) (loop .inv) (loop-test .taken) _ _ _ (c .before .before .put-sample .ensures .0) (c .before .before .put-sample .ensures .1) (look-up .ensures ∙ ap (lookOf (now (start .args .table)) (start .args .n) (start .args .top)) (sample .ensures))
+    let p = start .args in
+    let look = lookOf (now (p .table)) (p .n) (p .top) in
+    let f = start .pre .0 in
+    let put = c .before .before .put-sample .ensures in
+    samples-more _ (λ u. look (sampleIn (now (p .plane)) (p .r .bytes) (p .r .stride) u (p .y))) _ (f .toPositive) (f .toBounded) (loop .inv) (loop-test .taken) _ _ _ (put .0) (put .1) (look-up .ensures ∙ ap look (sample .ensures))
 
 same-length : tie.Need-same-length Inv-loop μ-loop
 same-length c = c .before .loop .inv .long

@@ -53,7 +53,12 @@ returns c =
     let row = c .before .before .before .before .before .before .before .before .before .before .before .row in
     let has-steps = c .before .before .before .before .before .before .before .before .before .has-steps in
     let if1 = c .before .before .before .before .before .before .before .before .if1 in
-    let a = row-apart (now (start .args .plane)) (start .args .r) (row .given .0 .0) _ _ (omega arith) (start .pre .0) (start .pre .1) (row .given .1) (has-steps .ensures) (if1 .taken) in (c .before .before .write-apart .ensures .0 ∙ ap (λ (b : ℕ). start .args .at + start .args .r .across .to * b) (a .bytes), c .before .before .write-apart .ensures .1 ∙ ap (puts (now (start .args .out)) (start .args .at)) (a .row) ∙ ap (λ q. puts (now (start .args .out)) (start .args .at) (rasterRow (now (start .args .plane)) (start .args .r) q)) (sym (row .given .1)))
+    let p = start .args in
+    let a = row-apart (now (p .plane)) (p .r) (row .given .0 .0) _ _ (omega arith) (start .pre .0) (start .pre .1) (row .given .1) (has-steps .ensures) (if1 .taken) in
+    let w = c .before .before .write-apart .ensures in (
+      w .0 ∙ ap (λ (b : ℕ). p .at + p .r .across .to * b) (a .bytes),
+      w .1 ∙ ap (puts (now (p .out)) (p .at)) (a .row) ∙ ap (λ q. puts (now (p .out)) (p .at) (rasterRow (now (p .plane)) (p .r) q)) (sym (row .given .1)),
+    )
 
 write-samples-requires : tie.Need-write-samples-requires
 write-samples-requires c κs =
