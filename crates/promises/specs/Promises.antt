@@ -40,9 +40,9 @@ use Rattle.transform.specs.Place.{Place}
 use Rattle.sight.specs.Carry.{Tracked}
 use Rattle.sight.specs.declared.Sight.{Sight}
 use Rattle.steps_text.specs.Text.{textOf}
-use Rattle.resample.specs.Area.{area, footOf, weighed}
-use Rattle.resample.specs.Depth.{levelOf, rescaled}
-use Rattle.resample.specs.Nearest.{nearest}
+use Rattle.rasters.specs.Area.{area, footOf, weighed}
+use Rattle.rasters.specs.Depth.{levelOf, rescaled}
+use Rattle.rasters.specs.Nearest.{nearest}
 use Rattle.grid.specs.Mosaic.{among}
 use Rattle.grid.specs.Run.{framesIn, gridRun}
 use Rattle.grid.specs.Tiles.{countOf, tilesOf}

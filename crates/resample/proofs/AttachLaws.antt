@@ -24,11 +24,11 @@ use Rattle.image.specs.declared.record.Frame.{Frame}
 use Rattle.image.specs.declared.record.Plane.{Plane}
 use Rattle.resample.specs.Attach.{attachBytes, alphaBytes, alphaKept, keptPart, keptPlane, lumaForm, lumaOf}
 use Rattle.resample.specs.inner.Kept.{KeptFits, Whole}
-use Rattle.resample.specs.Depth.{rescaled, toDepth}
-use Rattle.resample.specs.Nearest.{nearest}
-use Rattle.resample.specs.inner.Redraw.{RedrawFits, RuleFits, acrossOf, downOf, redrawn, rowAt, rowOf, ruleAt}
+use Rattle.rasters.specs.Depth.{rescaled, toDepth}
+use Rattle.rasters.specs.Nearest.{nearest}
+use Rattle.rasters.specs.inner.Redraw.{RedrawFits, RuleFits, acrossOf, downOf, redrawn, rowAt, rowOf, ruleAt}
 use Rattle.resample.specs.Run.{attachRun}
-use Rattle.resample.specs.declared.write.Rule.{Rule}
+use Rattle.rasters.specs.declared.write.Rule.{Rule}
 
 pub length-keptPlane : (s : List ℕ) (q : Plane) → q .start + q .len ≤ length s → length (keptPlane s q) ≡ length (numberBytes (q .stride)) + length (numberBytes (q .len)) + q .len
 unfolding keptPlane

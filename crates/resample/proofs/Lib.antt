@@ -1,11 +1,2 @@
-pub mod FootLaws
-pub mod PlaceLaws
-pub mod RedrawLaws
 pub mod AttachLaws
 pub mod RunLaws
-pub mod DepthLaws
-pub mod SameLaws
-pub mod AgreeLaws
-pub mod MeanLaws
-pub mod SmallLaws
-pub mod LevelLaws

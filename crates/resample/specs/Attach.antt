@@ -16,8 +16,8 @@ use Rattle.image.specs.declared.record.Frame.{Frame}
 use Rattle.image.specs.declared.record.Plane.{Plane}
 use Rattle.planes.specs.Bytes.{decode, headBytes, planeBytes}
 use Rattle.planes.specs.Picture.{Pic}
-use Rattle.resample.specs.Depth.{rescaled}
-use Rattle.resample.specs.Nearest.{nearest}
+use Rattle.rasters.specs.Depth.{rescaled}
+use Rattle.rasters.specs.Nearest.{nearest}
 
 -- the form, and the picture, of the luma alone
 unfoldable pub lumaForm : Form → Form

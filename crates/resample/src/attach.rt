@@ -8,8 +8,6 @@ ghost use Rattle.image.specs.Sound.{FormSound};
 ghost use Rattle.resample.specs.Attach.{lumaForm, keptPlane, keptPart, alphaKept, alphaBytes, attachBytes};
 ghost use Rattle.resample.specs.inner.Kept.{KeptFits, Whole};
 ghost use Rattle.resample.specs.Run.{attachRun};
-use crate::depth::Depths;
-use crate::write::Rule;
 use image::Form;
 use image::Frame;
 use image::FrameRead;
@@ -18,6 +16,8 @@ use image::PixelFormat;
 use image::Plane;
 use laws::Answer;
 use laws::Refusal;
+use rasters::Depths;
+use rasters::Rule;
 
 // The form of a luma plane alone for a picture of a form.
 fn alpha_form(m: Form) -> Form
@@ -106,7 +106,7 @@ fn write_alpha(out: &mut [u8], at: usize, m: Form, t: &[u8], gr: Frame) -> usize
         old: g.depth,
         new: f.depth,
     });
-    crate::write::write_plane(out, at, t, gr, alpha_form(m), rule, Part::Luma)
+    crate::draw::write_plane(out, at, t, gr, alpha_form(m), rule, Part::Luma)
 }
 
 fn alpha_size(m: Form, t: &[u8], gr: Frame) -> usize
