@@ -150,7 +150,7 @@ fn covers(held: Held, f: Foot) -> bool
     256 * held.first <= f.start && f.end <= 256 * held.past
 }
 
-// SumsHeld the columns from a footprint's first one on, unless it lies in those that are held.
+// Holds the columns from a footprint's first one on, unless it lies in those that are held.
 fn hold(sums: &mut [u32], held: Held, plane: &[u8], r: Raster, f: Foot, down: Foot) -> Held
     requires { ⌜ MeansFits (now plane) r down × FootIn f (r .across .from) × SumsHeld (now sums) (now plane) r down held × (1024 ≤ length (now sums)) × (held .first ≤ 2 ^ 30) × (held .past ≤ 2 ^ 30) ⌝ }
     ensures { λ h. ⌜ SumsHeld (now (sums .exit)) (now (plane .entry)) r down h × (h .first ≤ 2 ^ 30) × (h .past ≤ 2 ^ 30) ⌝ }
