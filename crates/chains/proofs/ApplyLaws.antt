@@ -7,7 +7,7 @@ use native.Mathlib.Nat.{le-max-left, le-max-right, le-trans}
 use native.Mathlib.Omega.{arith}
 use lib.ListN.{drop, drop-of-length-le, length, length-append, length-drop, length-replicate, replicate, take}
 use lib.Seq.{length-take-le, take-all, take-at}
-use Rattle.laws.proofs.Order.{and-true, by-test, pick-false, pick-true}
+use Rattle.laws.proofs.Order.{by-test, pick-false, pick-true}
 use Rattle.laws.proofs.Out.{andThen-done, done-same, fitted-room, same-done, then-done}
 use Rattle.laws.proofs.Puts.{puts-split}
 use Rattle.laws.proofs.Span.{span-end, span-step}
@@ -97,11 +97,7 @@ chain-carried output spare flag (e ∷ es) P l d k fits q o s =
 
 -- ---- the loop
 
--- the record of an entry that draws, and of one that does not
-drawn-is : (flag : Bool) (e : PropertyEntry) (bs b : List ℕ) → draws flag e ≡ true → pick (applies flag e) (recordAfter (e .property) bs) (done bs) ≡ done b → recordAfter (e .property) bs ≡ done b
-unfolding draws
-drawn-is flag e bs b t q = sym (pick-true _ _ _ (and-true _ _ t .0)) ∙ q
-
+-- the record of an entry that does not draw
 other-is : (p : Property) (bs : List ℕ) → moves p ≡ false → recordAfter p bs ≡ done bs
 unfolding moves recordAfter
 other-is Property.Other bs e = refl
