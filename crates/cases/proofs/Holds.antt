@@ -8,8 +8,8 @@ use Rattle.laws.specs.Span.{run, span}
 use Rattle.numbers.specs.Field.{bigEndian, fieldAt, offsetOf, onField, signedOf}
 use Rattle.numbers.specs.Number.{groups, lastByte, numberBytes, onNumber, readFrom, readNumber}
 use Rattle.image.specs.Format.{bytesOf, columnsOf, cover, formOf, formatOf, halved, halvesX, halvesY, hasAlpha, hasPart, isDepth, isMono, judgedSize, middleOf, needs444, odd, rowSize, rowsOf, sideOf, sized, topOf, hasSize, withAlpha}
-use Rattle.image.specs.Record.{dataOf, headAt, headOf, partAt, past, planeAt, planeOf, planesAt, recordAt, recordOf}
-use Rattle.image.specs.Tray.{framesAt, takenOf}
+use Rattle.records.specs.Record.{dataOf, headAt, headOf, partAt, past, planeAt, planeOf, planesAt, recordAt, recordOf}
+use Rattle.records.specs.Tray.{framesAt, takenOf}
 use Rattle.planes.specs.Bytes.{decode, encode, headBytes, pictureIn, planeBytes, planeHead, rowBytes, rowsBytes, sampleAt, sampleBytes, sampleIn, samplesOf}
 use Rattle.planes.specs.Picture.{ensure, full, pixel}
 use Rattle.fill.specs.Fill.{fillAlphaOf, fullOf, lumaOf, nclxOf, partOf, tableOf, weightedOf, weightsOf, ycbcrOf}

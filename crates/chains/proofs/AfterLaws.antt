@@ -15,10 +15,10 @@ use Rattle.planes.specs.inner.InRange.{InRange}
 use Rattle.planes.specs.Bytes.{decode, encode, tightAt}
 use Rattle.image.specs.Format.{hasPart, odd, sized, hasSize}
 use Rattle.planes.specs.Picture.{Agree, Pic}
-use Rattle.image.specs.Record.{recordOf}
+use Rattle.records.specs.Record.{recordOf}
 use Rattle.image.specs.Sound.{FormSound}
 use Rattle.image.specs.declared.format.Form.{Form}
-use Rattle.image.specs.declared.record.Frame.{Frame}
+use Rattle.records.specs.declared.record.Frame.{Frame}
 use Rattle.sizes.proofs.ApertureLaws.{resolve-inside}
 use Rattle.sizes.proofs.ScaleLaws.{scale-sound}
 use Rattle.sizes.specs.Aperture.{resolveOf}

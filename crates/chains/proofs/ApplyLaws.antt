@@ -16,7 +16,7 @@ use Rattle.laws.specs.Pick.{pick}
 use Rattle.laws.specs.Puts.{puts}
 use Rattle.laws.specs.Span.{span}
 use Rattle.laws.specs.declared.Answer.{Answer}
-use Rattle.image.specs.Record.{recordOf}
+use Rattle.records.specs.Record.{recordOf}
 use Rattle.planes.specs.inner.InRange.{InRange}
 use Rattle.planes.specs.Bytes.{encode, sampleBytes, samplesOf}
 use Rattle.planes.specs.Picture.{Pic}

@@ -11,11 +11,11 @@ use Rattle.laws.proofs.Out.{Same, both, done-same, same-done, same-left, andThe
 use Rattle.laws.specs.Out.{Out, andThen, done, reason, refused}
 use Rattle.laws.specs.Pick.{pick}
 use Rattle.image.proofs.FormLaws.{height-le, width-le}
-use Rattle.image.proofs.RecordLaws.{whole-sound}
+use Rattle.records.proofs.RecordLaws.{whole-sound}
 use Rattle.image.specs.Format.{halvesX, halvesY, needs444, odd}
-use Rattle.image.specs.Record.{recordOf}
+use Rattle.records.specs.Record.{recordOf}
 use Rattle.image.specs.Sound.{FormSound}
-use Rattle.image.specs.inner.Placed.{Sound}
+use Rattle.records.specs.inner.Placed.{Sound}
 use Rattle.image.specs.declared.format.Form.{Form}
 use Rattle.planes.proofs.PictureLaws.{evenly-if, needs-X, needs-Y, odd-false}
 use Rattle.planes.proofs.RoundTrip.{agree-in-range, agree-sym, encode-agree, length-encode}

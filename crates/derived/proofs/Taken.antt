@@ -12,7 +12,7 @@ use Rattle.numbers.specs.Field.{onField}
 use Rattle.numbers.specs.declared.Cursor.{Cursor}
 use Rattle.numbers.specs.declared.FieldRead.{FieldRead}
 use Rattle.numbers.specs.declared.FieldRead.the-variants.{Field, Short}
-use Rattle.image.proofs.RecordLaws.{judged-sound}
+use Rattle.image.proofs.JudgedLaws.{judged-sound}
 use Rattle.image.specs.Format.{sides}
 use Rattle.image.specs.Sound.{SizeSound}
 use Rattle.derived.proofs.FieldLaws.{field-below, field-read}

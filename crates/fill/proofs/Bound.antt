@@ -14,7 +14,7 @@ use Rattle.laws.proofs.Order.{by-order, pick-both}
 use Rattle.laws.proofs.Out.{Holds, refuse-holds}
 use Rattle.laws.specs.Pick.{pick}
 use Rattle.image.proofs.FormLaws.{top-high}
-use Rattle.image.proofs.RecordLaws.{depth-sound}
+use Rattle.image.proofs.JudgedLaws.{depth-sound}
 use Rattle.image.specs.Format.{isDepth, topAt}
 use Rattle.fill.proofs.NearLaws.{Close, Near, NearPos, near-add, near-div, near-lit, near-more, near-mul, near-over, near-pos, near-raise, near-sub, near-times, near-times-right, near-whole, signed}
 use Rattle.fill.proofs.Rounding.{E, E-pos, W, W-is, W-pos, less, plus}

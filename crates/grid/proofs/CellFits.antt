@@ -11,7 +11,7 @@ use borrow.Author.Tests.{eq-eqb, ne-eqb}
 use Rattle.laws.proofs.Order.{by-equal, item-within, pick-false, pick-true, positive}
 use Rattle.image.proofs.FormLaws.{row-le, size-le}
 use Rattle.image.specs.Format.{bytesOf, columnsOf, hasPart, rowSize, rowsOf}
-use Rattle.image.specs.Record.{planeOf}
+use Rattle.records.specs.Record.{planeOf}
 use Rattle.image.specs.Sound.{FormSound}
 use Rattle.image.specs.declared.format.Form.{Form}
 use Rattle.image.specs.declared.format.Part.{Part}

@@ -17,12 +17,12 @@ use Rattle.laws.specs.Pick.{pick}
 use Rattle.laws.specs.Puts.{puts}
 use Rattle.image.proofs.FormLaws.{columns-some, rows-some}
 use Rattle.image.specs.Format.{as444, bytesOf, columnsOf, halved, halvesX, halvesY, hasPart, isMono, needs444, odd, rowsOf, sideOf, sized, topOf, withAlpha}
-use Rattle.image.specs.Tray.{noFrame}
+use Rattle.records.specs.Tray.{noFrame}
 use Rattle.image.specs.declared.format.Form.{Form}
 use Rattle.image.specs.declared.format.Part.{Part}
 use Rattle.image.specs.declared.format.Part.the-variants.{Alpha, Cb, Cr, Luma}
 use Rattle.image.specs.declared.format.PixelFormat.{PixelFormat}
-use Rattle.image.specs.declared.record.Frame.{Frame}
+use Rattle.records.specs.declared.record.Frame.{Frame}
 use Rattle.planes.proofs.PictureLaws.{needs-colour}
 use Rattle.planes.proofs.RoundTrip.{encode-agree, length-encode}
 use Rattle.planes.specs.Bytes.{decode, encode, headBytes, pictureIn, sizeOf}

@@ -15,15 +15,15 @@ use Rattle.laws.specs.Out.{done}
 use Rattle.laws.specs.Pick.{pick}
 use Rattle.laws.specs.Puts.{Bytes}
 use Rattle.numbers.specs.Number.{readNumber}
-use Rattle.image.proofs.RecordLaws.{on-number, record-sound}
-use Rattle.image.proofs.TrayLaws.{frames-length}
+use Rattle.records.proofs.RecordLaws.{on-number, record-sound}
+use Rattle.records.proofs.TrayLaws.{frames-length}
 use Rattle.image.specs.Format.{hasAlpha, hasSize, sized, withAlpha}
 use Rattle.image.specs.Sound.{FormSound}
-use Rattle.image.specs.Tray.{framesAt, noFrame, takenOf}
+use Rattle.records.specs.Tray.{framesAt, noFrame, takenOf}
 use Rattle.image.specs.declared.format.Form.{Form}
 use Rattle.image.specs.declared.format.PixelFormat.{PixelFormat}
-use Rattle.image.specs.declared.record.Frame.{Frame}
-use Rattle.image.specs.inner.Placed.{Sound}
+use Rattle.records.specs.declared.record.Frame.{Frame}
+use Rattle.records.specs.inner.Placed.{Sound}
 use Rattle.derived.proofs.Taken.{grid-taken}
 use Rattle.derived.specs.Grid.{gridOf}
 use Rattle.derived.specs.declared.grid.GridDescriptor.{GridDescriptor}

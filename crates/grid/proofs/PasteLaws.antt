@@ -10,7 +10,7 @@ use lib.ListN.{length}
 use Rattle.laws.proofs.Order.{and-no, by-equal, by-test, pick-both, pick-false, pick-true, within, within-no}
 use Rattle.laws.specs.Pick.{pick}
 use Rattle.image.specs.Format.{bytesOf, columnsOf, hasPart, rowSize, rowsOf}
-use Rattle.image.specs.Record.{planeOf}
+use Rattle.records.specs.Record.{planeOf}
 use Rattle.image.specs.Sound.{FormSound}
 use Rattle.image.specs.declared.format.Form.{Form}
 use Rattle.image.specs.declared.format.Part.{Part}

@@ -10,15 +10,15 @@ use borrow.Author.Tests.{eqb-false, ne-eqb, not-true}
 use Rattle.laws.proofs.Order.{pick-both, pick-false, pick-true, positive}
 use Rattle.laws.specs.Pick.{pick}
 use Rattle.image.proofs.FormLaws.{bytes-few, columns-le, cover-in, height-le, rows-le, width-le}
-use Rattle.image.proofs.RecordLaws.{sample-inside}
+use Rattle.records.proofs.RecordLaws.{sample-inside}
 use Rattle.image.specs.Format.{as444, bytesOf, columnsOf, cover, halfX, halfY, halved, halvesX, halvesY, hasAlpha, hasPart, isMono, rowSize, rowsOf, sideOf}
-use Rattle.image.specs.Record.{dataOf, planeOf}
+use Rattle.records.specs.Record.{dataOf, planeOf}
 use Rattle.image.specs.Sound.{FormSound}
 use Rattle.image.specs.declared.format.Form.{Form}
 use Rattle.image.specs.declared.format.Part.{Part}
 use Rattle.image.specs.declared.format.Part.the-variants.{Alpha, Cb, Cr, Luma}
 use Rattle.image.specs.declared.format.PixelFormat.{PixelFormat}
-use Rattle.image.specs.declared.record.Frame.{Frame}
+use Rattle.records.specs.declared.record.Frame.{Frame}
 use Rattle.planes.proofs.ByteLaws.{samples-same}
 use Rattle.planes.proofs.PictureLaws.{parts-444}
 use Rattle.planes.specs.Bytes.{decode, sampleAt, sampleIn, samplesOf, tightAt}

@@ -16,10 +16,10 @@ use Rattle.laws.specs.declared.Refusal.{Refusal}
 use Rattle.numbers.specs.Number.{onNumber, readNumber}
 use Rattle.numbers.specs.declared.NumberRead.the-variants.{Malformed, Number}
 use Rattle.image.specs.Format.{hasAlpha, hasSize}
-use Rattle.image.specs.Record.{recordAt}
-use Rattle.image.specs.Tray.{framesAt}
+use Rattle.records.specs.Record.{recordAt}
+use Rattle.records.specs.Tray.{framesAt}
 use Rattle.image.specs.declared.format.Form.{Form}
-use Rattle.image.specs.declared.record.Frame.{Frame}
+use Rattle.records.specs.declared.record.Frame.{Frame}
 use Rattle.derived.specs.Grid.{gridOf}
 use Rattle.derived.specs.declared.grid.GridDescriptor.{GridDescriptor}
 use Rattle.grid.specs.Tiles.{alikeFrom, countOf, judgeOf, sameLayout, spansCanvas, tilesAt, tilesOf}

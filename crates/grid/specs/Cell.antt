@@ -5,7 +5,7 @@ use Prim.Native.Nat.{_*_, _+_, _-_, ℕ}
 use lib.Dec.{eqb, leb}
 use Rattle.laws.specs.Pick.{pick}
 use Rattle.image.specs.Format.{as444, bytesOf, columnsOf, hasPart, rowSize, rowsOf}
-use Rattle.image.specs.Record.{planeOf}
+use Rattle.records.specs.Record.{planeOf}
 use Rattle.image.specs.declared.format.Form.{Form}
 use Rattle.image.specs.declared.format.Part.{Part}
 use Rattle.image.specs.declared.format.Part.the-variants.{Alpha, Cb, Cr, Luma}

@@ -2,8 +2,8 @@
 use mathlib.Core.List.{List}
 use Prim.Native.Nat.{ℕ}
 use Rattle.laws.specs.Out.{Out, andThen, fitted}
-use Rattle.image.specs.Tray.{framesAt, takenOf}
-use Rattle.image.specs.declared.record.Frame.{Frame}
+use Rattle.records.specs.Tray.{framesAt, takenOf}
+use Rattle.records.specs.declared.record.Frame.{Frame}
 use Rattle.planes.specs.Bytes.{encode, pictureIn}
 use Rattle.planes.specs.Picture.{Pic}
 use Rattle.grid.specs.Mosaic.{gridPic}

@@ -7,9 +7,9 @@ use Rattle.laws.specs.Out.{Out, andThen, done, reason, refuse, refused}
 use Rattle.laws.specs.Pick.{pick}
 use Rattle.numbers.specs.Number.{onNumber, readNumber}
 use Rattle.image.specs.Format.{hasAlpha, hasSize, needs444, odd, sized, withAlpha}
-use Rattle.image.specs.Tray.{framesAt}
+use Rattle.records.specs.Tray.{framesAt}
 use Rattle.image.specs.declared.format.Form.{Form}
-use Rattle.image.specs.declared.record.Frame.{Frame}
+use Rattle.records.specs.declared.record.Frame.{Frame}
 use Rattle.derived.specs.Grid.{gridOf}
 use Rattle.derived.specs.declared.grid.GridDescriptor.{GridDescriptor}
 use Rattle.grid.specs.Cell.{tileForm}

@@ -9,9 +9,9 @@ ghost use Rattle.image.specs.Sound.{FormSound};
 ghost use Rattle.grid.specs.Cell.{visibleOf, cellOf, storePart, storeTile, tileForm, tilePic};
 ghost use Rattle.grid.specs.inner.Rows.{FitsCanvas};
 use image::Form;
-use image::Frame;
 use image::Part;
 use paste::Source;
+use records::Frame;
 
 // Along one axis: how many samples of a tile show in the cell of an index.
 pub(crate) fn visible(canvas: usize, tile: usize, i: u32) -> usize

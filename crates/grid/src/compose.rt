@@ -15,9 +15,9 @@ use crate::tiles::TilesRead;
 use crate::tiles::canvas_form;
 use crate::tiles::promotes;
 use crate::tiles::read_tiles;
-use image::FrameRead;
 use laws::Answer;
 use laws::Refusal;
+use records::FrameRead;
 
 // The composed picture at the start of `out`: each tile is read once, in its order in the tray.
 pub fn draw_grid(out: &mut [u8], tray: &[u8], t: Tiles)
@@ -34,7 +34,7 @@ pub fn draw_grid(out: &mut [u8], tray: &[u8], t: Tiles)
     let mut next = t.first;
     let mut i: u32 = 0;
     while i < count {
-        match image::read_record(tray, next) {
+        match records::read_record(tray, next) {
             FrameRead::Refused(e) => {
                 return;
             }

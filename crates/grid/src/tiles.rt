@@ -4,7 +4,7 @@ ghost use Prim.Native.Nat.{_<_};
 ghost use Rattle.laws.specs.Out.{andThen};
 ghost use Rattle.laws.specs.Pick.{pick};
 ghost use Rattle.image.specs.Format.{hasAlpha};
-ghost use Rattle.image.specs.Tray.{framesAt};
+ghost use Rattle.records.specs.Tray.{framesAt};
 ghost use Rattle.grid.specs.Tiles.{promotesOf, canvasForm, spansCanvas, sameLayout, judgeOf, tilesOf, tilesOut};
 ghost use lib.Dec.{eqb};
 ghost use Rattle.grid.specs.inner.Taken.{unlikeOf};
@@ -12,9 +12,9 @@ use crate::cell::tile_form;
 use derived::GridDescriptor;
 use derived::GridRead;
 use image::Form;
-use image::FrameRead;
 use laws::Refusal;
 use numbers::NumberRead;
+use records::FrameRead;
 
 // A grid that was taken: its descriptor, the first tile's form, 1 if a tile has alpha, and where the first record begins.
 pub struct Tiles {
@@ -118,7 +118,7 @@ fn judge_tiles(tray: &[u8], g: GridDescriptor, at: usize, count: u32) -> TilesRe
     requires { ⌜ 0 < count ⌝ }
     ensures { λ r. ⌜ tilesOut r ≡ andThen (framesAt count (now (tray .entry)) at) (judgeOf g at) ⌝ }
 {
-    match image::read_record(tray, at) {
+    match records::read_record(tray, at) {
         FrameRead::Refused(e) => TilesRead::Refused(e),
         FrameRead::Read(first) => {
             let tile = first.form;
@@ -127,7 +127,7 @@ fn judge_tiles(tray: &[u8], g: GridDescriptor, at: usize, count: u32) -> TilesRe
             let mut next = at;
             let mut left = count;
             while left > 0 {
-                match image::read_record(tray, next) {
+                match records::read_record(tray, next) {
                     FrameRead::Refused(e) => {
                         return TilesRead::Refused(e);
                     }

@@ -1,3 +1,2 @@
 pub mod FormLaws
-pub mod RecordLaws
-pub mod TrayLaws
+pub mod JudgedLaws

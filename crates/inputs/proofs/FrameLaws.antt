@@ -16,17 +16,17 @@ use Rattle.laws.specs.Pick.{pick}
 use Rattle.laws.specs.Puts.{Bytes}
 use Rattle.laws.specs.declared.Refusal.{Refusal}
 use Rattle.image.proofs.FormLaws.{bytes-few}
-use Rattle.image.proofs.RecordLaws.{head-sound, part-past, record-sound, sample-inside}
+use Rattle.records.proofs.RecordLaws.{head-sound, part-past, record-sound, sample-inside}
 use Rattle.image.specs.Format.{bytesOf, columnsOf, halved, hasAlpha, hasPart, rowsOf, sideOf}
-use Rattle.image.specs.Record.{dataOf, past, planeOf, planesAt, recordAt}
-use Rattle.image.specs.Tray.{framesAt}
+use Rattle.records.specs.Record.{dataOf, past, planeOf, planesAt, recordAt}
+use Rattle.records.specs.Tray.{framesAt}
 use Rattle.image.specs.declared.format.Form.{Form}
 use Rattle.image.specs.declared.format.Part.{Part}
 use Rattle.image.specs.declared.format.Part.the-variants.{Alpha, Cb, Cr, Luma}
-use Rattle.image.specs.declared.record.Frame.{Frame}
-use Rattle.image.specs.declared.record.Plane.{Plane}
-use Rattle.image.specs.inner.Frames.{framesFrom, onward}
-use Rattle.image.specs.inner.Placed.{InSlice}
+use Rattle.records.specs.declared.record.Frame.{Frame}
+use Rattle.records.specs.declared.record.Plane.{Plane}
+use Rattle.records.specs.inner.Frames.{framesFrom, onward}
+use Rattle.records.specs.inner.Placed.{InSlice}
 use Rattle.planes.proofs.ByteLaws.{sample-small}
 use Rattle.planes.specs.Bytes.{decode, sampleIn}
 use Rattle.inputs.specs.Inputs.{alphaAbove, firstForm}

@@ -12,13 +12,13 @@ use Rattle.laws.proofs.Out.{refuse-no, refuse-yes, then-done, then-refuse, then
 use Rattle.laws.specs.Any.{any}
 use Rattle.laws.specs.Out.{Out, andThen, done, reason, refuse, refused}
 use Rattle.laws.specs.declared.Refusal.{Refusal}
-use Rattle.image.proofs.TrayLaws.{frames-end, frames-left, frames-next, frames-refused}
+use Rattle.records.proofs.TrayLaws.{frames-end, frames-left, frames-next, frames-refused}
 use Rattle.image.specs.Format.{hasAlpha, odd}
-use Rattle.image.specs.Record.{recordAt}
-use Rattle.image.specs.Tray.{framesAt}
+use Rattle.records.specs.Record.{recordAt}
+use Rattle.records.specs.Tray.{framesAt}
 use Rattle.image.specs.declared.format.Form.{Form}
 use Rattle.image.specs.declared.format.PixelFormat.{PixelFormat}
-use Rattle.image.specs.declared.record.Frame.{Frame}
+use Rattle.records.specs.declared.record.Frame.{Frame}
 use Rattle.planes.specs.Bytes.{decode}
 use Rattle.derived.proofs.Taken.{overlay-taken}
 use Rattle.derived.specs.Overlay.{overlayOf, placementAt}

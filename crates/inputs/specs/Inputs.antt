@@ -7,11 +7,11 @@ use lib.ListN.{length}
 use Rattle.laws.specs.Any.{any, anyBelow}
 use Rattle.laws.specs.Out.{Out, andThen, done, refuse}
 use Rattle.image.specs.Format.{hasAlpha}
-use Rattle.image.specs.Tray.{framesAt, noForm}
+use Rattle.records.specs.Tray.{framesAt, noForm}
 use Rattle.image.specs.declared.format.Form.{Form}
 use Rattle.image.specs.declared.format.Part.the-variants.{Alpha}
 use Rattle.image.specs.declared.format.PixelFormat.{PixelFormat}
-use Rattle.image.specs.declared.record.Frame.{Frame}
+use Rattle.records.specs.declared.record.Frame.{Frame}
 use Rattle.planes.specs.Bytes.{decode}
 use Rattle.fill.specs.Fill.{fillAlphaOf}
 use Rattle.derived.specs.Overlay.{overlayOf}

@@ -10,7 +10,7 @@ use Rattle.numbers.specs.declared.Offset.{Offset}
 use Rattle.image.specs.Format.{hasAlpha, isMono, needs444, odd, topOf}
 use Rattle.image.specs.declared.format.Form.{Form}
 use Rattle.image.specs.declared.format.PixelFormat.{PixelFormat}
-use Rattle.image.specs.declared.record.Frame.{Frame}
+use Rattle.records.specs.declared.record.Frame.{Frame}
 use Rattle.planes.specs.Bytes.{decode}
 use Rattle.planes.specs.Picture.{Pic}
 use Rattle.derived.specs.Overlay.{placementAt}

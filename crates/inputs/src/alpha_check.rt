@@ -1,13 +1,13 @@
 // The search for an alpha sample above top.
 ghost use mathlib.Core.Path.{_≡_};
-ghost use Rattle.image.specs.Record.{recordAt};
+ghost use Rattle.records.specs.Record.{recordAt};
 ghost use Rattle.laws.specs.Any.{any};
 ghost use Rattle.inputs.specs.Inputs.{alphaAbove};
-ghost use Rattle.image.specs.inner.Frames.{framesFrom};
+ghost use Rattle.records.specs.inner.Frames.{framesFrom};
 ghost use Rattle.inputs.specs.inner.Summary.{noAlpha, alphaPlaneAt, searchedRows};
-use image::FrameRead;
 use image::Part;
-use image::Plane;
+use records::FrameRead;
+use records::Plane;
 
 // A record's alpha plane and the place past the record. Where there is no alpha, or no record, it has no rows.
 pub(crate) struct AlphaPlane {
@@ -37,7 +37,7 @@ fn no_alpha(end: usize) -> AlphaPlane
 fn alpha_at(tray: &[u8], at: usize) -> AlphaPlane
     ensures { λ r. ⌜ r ≡ alphaPlaneAt at (recordAt (now (tray .entry)) at) ⌝ }
 {
-    match image::read_record(tray, at) {
+    match records::read_record(tray, at) {
         FrameRead::Refused(_) => no_alpha(at),
         FrameRead::Read(fr) => {
             let form = fr.form;

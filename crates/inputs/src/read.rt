@@ -10,11 +10,11 @@ use derived::OverlayDescriptor;
 use derived::OverlayRead;
 use derived::Placement;
 use image::Form;
-use image::FrameRead;
 use image::Part;
 use image::PixelFormat;
 use laws::Refusal;
 use numbers::Offset;
+use records::FrameRead;
 
 // An overlay that was read: its descriptor, where its first record stands, the composed form, and whether an input has alpha.
 pub struct Plan {
@@ -112,7 +112,7 @@ fn read_frames(
         odd_down: image::is_odd(d.output_height),
     };
     while i < count {
-        match image::read_record(tray, at) {
+        match records::read_record(tray, at) {
             FrameRead::Refused(e) => {
                 return PlanRead::Refused(e);
             }
@@ -156,7 +156,7 @@ pub fn read_inputs(
             if premultiplied.len() != count as usize {
                 return PlanRead::Refused(Refusal::COUNT);
             }
-            match image::read_record(tray, first) {
+            match records::read_record(tray, first) {
                 FrameRead::Refused(e) => PlanRead::Refused(e),
                 FrameRead::Read(fr) => {
                     let form = fr.form;

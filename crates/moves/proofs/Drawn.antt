@@ -6,18 +6,18 @@ use Prim.Native.Nat.{_*_, ℕ}
 use Rattle.laws.proofs.Span.{span-cong}
 use Rattle.laws.specs.Pick.{pick}
 use Rattle.image.proofs.FormLaws.{bytes-few}
-use Rattle.image.proofs.RecordLaws.{sample-inside}
+use Rattle.records.proofs.RecordLaws.{sample-inside}
 use Rattle.planes.proofs.RoundTrip.{plane-some}
-use Rattle.image.specs.Record.{dataOf, planeOf}
+use Rattle.records.specs.Record.{dataOf, planeOf}
 use Rattle.planes.specs.Bytes.{decode, planeBytes, planeHead, rowBytes, rowsBytes, sampleBytes, sampleIn, samplesOf}
 use Rattle.image.specs.Format.{bytesOf, columnsOf, cover, halfX, halfY, halved, halvesX, halvesY, hasPart, rowsOf, as444}
 use Rattle.planes.specs.Picture.{Pic, full, pixel, promote}
-use Rattle.image.specs.inner.Placed.{Sound}
+use Rattle.records.specs.inner.Placed.{Sound}
 use Rattle.image.specs.declared.format.Form.{Form}
 use Rattle.image.specs.declared.format.Part.{Part}
 use Rattle.image.specs.declared.format.Part.the-variants.{Alpha, Cb, Cr, Luma}
 use Rattle.image.specs.declared.format.PixelFormat.{PixelFormat}
-use Rattle.image.specs.declared.record.Frame.{Frame}
+use Rattle.records.specs.declared.record.Frame.{Frame}
 use Rattle.moves.specs.inner.Move.{MoveFits, WalkInside, alongFrom, moved, planeAxis, walkAt, walkBytes, walkOf, walkX, walkY}
 use Rattle.moves.specs.declared.walk.Move.{Move}
 use Rattle.moves.specs.declared.walk.Walk.{Walk}

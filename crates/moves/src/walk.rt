@@ -6,15 +6,15 @@ ghost use lib.ListN.{length};
 ghost use Rattle.laws.specs.Pick.{pick};
 ghost use Rattle.laws.specs.Puts.{puts};
 ghost use Rattle.image.specs.Format.{cover};
-ghost use Rattle.image.specs.inner.Placed.{Sound};
+ghost use Rattle.records.specs.inner.Placed.{Sound};
 ghost use Rattle.planes.specs.Bytes.{decode, planeBytes, encode};
 ghost use Rattle.moves.specs.inner.Rows.{Mirrored, courseOf};
 ghost use Rattle.moves.specs.inner.Move.{alongFrom, moved, walkBytes, walkOf, planeAxis, lineOf, rowLine, WalkRowFits, WalkInside, MoveFits};
 use image::Form;
-use image::Frame;
 use image::Part;
 use image::PixelFormat;
 use planes::Line;
+use records::Frame;
 use turns::Course;
 
 // Along one axis: from a place on, forward or back.

@@ -9,12 +9,12 @@ use Rattle.laws.proofs.Order.{or-left, or-right, pick-both}
 use Rattle.laws.specs.Any.{any}
 use Rattle.laws.specs.Out.{done, refused}
 use Rattle.laws.specs.declared.Refusal.{Refusal}
-use Rattle.image.specs.Record.{recordAt}
+use Rattle.records.specs.Record.{recordAt}
 use Rattle.image.specs.declared.format.Form.{Form}
 use Rattle.image.specs.declared.format.Part.{Part}
 use Rattle.image.specs.declared.format.Part.the-variants.{Alpha, Cb, Cr, Luma}
-use Rattle.image.specs.declared.record.Frame.{Frame}
-use Rattle.image.specs.inner.Frames.{framesFrom}
+use Rattle.records.specs.declared.record.Frame.{Frame}
+use Rattle.records.specs.inner.Frames.{framesFrom}
 use Rattle.planes.specs.Bytes.{decode}
 use Rattle.planes.specs.Picture.{Pic}
 use Rattle.paste.proofs.RowLaws.{length-storeRows}

@@ -13,7 +13,7 @@ use Rattle.image.specs.Format.{halfX, halfY, hasPart, topOf}
 use Rattle.image.specs.declared.format.Form.{Form}
 use Rattle.image.specs.declared.format.Part.{Part}
 use Rattle.image.specs.declared.format.Part.the-variants.{Alpha, Cb, Cr, Luma}
-use Rattle.image.specs.declared.record.Frame.{Frame}
+use Rattle.records.specs.declared.record.Frame.{Frame}
 use Rattle.planes.proofs.RoundTrip.{length-encode}
 use Rattle.planes.specs.Bytes.{decode, encode, headBytes, sizeOf}
 use Rattle.planes.specs.Picture.{Pic}

@@ -7,7 +7,7 @@ use native.Mathlib.Omega.{arith}
 use Rattle.laws.proofs.Order.{item-within, positive}
 use Rattle.image.proofs.FormLaws.{row-le, size-le}
 use Rattle.image.specs.Format.{bytesOf, columnsOf, halfX, halfY, hasPart, rowSize, rowsOf}
-use Rattle.image.specs.Record.{planeOf}
+use Rattle.records.specs.Record.{planeOf}
 use Rattle.image.specs.Sound.{FormSound}
 use Rattle.image.specs.declared.format.Form.{Form}
 use Rattle.image.specs.declared.format.Part.{Part}

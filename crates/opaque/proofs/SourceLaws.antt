@@ -14,15 +14,15 @@ use Rattle.laws.proofs.Writing.{writing-none}
 use Rattle.laws.specs.Pick.{pick}
 use Rattle.laws.specs.Puts.{Bytes}
 use Rattle.image.proofs.FormLaws.{bytes-few, cover-in, height-le, width-le}
-use Rattle.image.proofs.RecordLaws.{sample-inside}
+use Rattle.records.proofs.RecordLaws.{sample-inside}
 use Rattle.image.specs.Format.{bytesOf, columnsOf, cover, halfX, halfY, halved, halvesX, halvesY, hasAlpha, hasPart, middleOf, rowsOf, topOf}
-use Rattle.image.specs.Record.{dataOf, planeOf}
+use Rattle.records.specs.Record.{dataOf, planeOf}
 use Rattle.image.specs.declared.format.Form.{Form}
 use Rattle.image.specs.declared.format.Part.{Part}
 use Rattle.image.specs.declared.format.Part.the-variants.{Alpha, Cb, Cr, Luma}
 use Rattle.image.specs.declared.format.PixelFormat.{PixelFormat}
-use Rattle.image.specs.declared.record.Frame.{Frame}
-use Rattle.image.specs.inner.Placed.{Sound}
+use Rattle.records.specs.declared.record.Frame.{Frame}
+use Rattle.records.specs.inner.Placed.{Sound}
 use Rattle.planes.proofs.ByteLaws.{sample-small, samples-same}
 use Rattle.planes.specs.Bytes.{decode, sampleIn, samplesOf}
 use Rattle.planes.specs.Picture.{Pic, full, pixel}

@@ -7,7 +7,7 @@ ghost use lib.ListN.{length};
 ghost use Rattle.laws.specs.Any.{any};
 ghost use Rattle.image.specs.Format.{hasPart};
 ghost use Rattle.image.specs.Sound.{FormSound};
-ghost use Rattle.image.specs.inner.Frames.{framesFrom};
+ghost use Rattle.records.specs.inner.Frames.{framesFrom};
 ghost use Rattle.planes.specs.Bytes.{decode, sizeOf, tightAt};
 ghost use Rattle.derived.specs.inner.Sound.{OverlaySound};
 ghost use Rattle.opaque.specs.inner.Laid.{Lays, PlaceFits, absentOf, layFrames, layInput, layPart, layRows, placeOf, sourceOf, unfit};
@@ -16,11 +16,11 @@ use crate::axis::window_of;
 use derived::OverlayDescriptor;
 use derived::Placement;
 use image::Form;
-use image::Frame;
-use image::FrameRead;
 use image::Part;
 use image::PixelFormat;
 use paste::Source;
+use records::Frame;
+use records::FrameRead;
 
 // The rectangle that an input covers on a plane, in the canvas's record.
 pub(crate) struct Place {
@@ -188,7 +188,7 @@ pub fn lay_inputs(
     let mut at = first;
     let mut i: u32 = 0;
     while i < count {
-        match image::read_record(tray, at) {
+        match records::read_record(tray, at) {
             FrameRead::Refused(_) => {
                 return;
             }

@@ -14,7 +14,7 @@ use Rattle.laws.specs.Out.{done}
 use Rattle.laws.specs.Puts.{puts}
 use Rattle.laws.specs.Span.{span}
 use Rattle.image.proofs.FormLaws.{columns-le, columns-some, rows-le, width-le}
-use Rattle.image.proofs.RecordLaws.{depth-taken}
+use Rattle.image.proofs.JudgedLaws.{depth-taken}
 use Rattle.image.specs.Format.{bytesOf, columnsOf, halfX, halfY, rowsOf, topOf}
 use Rattle.image.specs.Sound.{FormSound}
 use Rattle.image.specs.declared.format.Form.{Form}

@@ -17,7 +17,7 @@ use Rattle.image.specs.Sound.{FormSound}
 use Rattle.image.specs.declared.format.Form.{Form}
 use Rattle.image.specs.declared.format.Part.{Part}
 use Rattle.image.specs.declared.format.Part.the-variants.{Alpha, Cb, Cr, Luma}
-use Rattle.image.specs.declared.record.Frame.{Frame}
+use Rattle.records.specs.declared.record.Frame.{Frame}
 use Rattle.planes.proofs.RoundTrip.{encode-agree}
 use Rattle.planes.specs.Bytes.{encode, headBytes, planeBytes, rowBytes, rowsBytes, sizeOf}
 use Rattle.planes.specs.Picture.{Agree, Pic}

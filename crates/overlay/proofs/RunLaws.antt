@@ -13,21 +13,21 @@ use Rattle.laws.specs.Out.{Out, andThen, done, fitted, reason, refuse, refused}
 use Rattle.laws.specs.declared.Refusal.{Refusal}
 use Rattle.numbers.specs.Number.{onNumber, readNumber}
 use Rattle.numbers.specs.declared.NumberRead.the-variants.{Malformed, Number}
-use Rattle.image.proofs.RecordLaws.{record-sound}
+use Rattle.records.proofs.RecordLaws.{record-sound}
 use Rattle.planes.proofs.RoundTrip.{length-encode}
 use Rattle.planes.specs.Bytes.{encode, sizeOf}
 use Rattle.image.specs.Format.{topOf}
 use Rattle.planes.specs.Picture.{Pic}
 use Rattle.image.specs.Sound.{FormSound}
-use Rattle.image.specs.Tray.{framesAt}
-use Rattle.image.specs.declared.record.Frame.{Frame}
+use Rattle.records.specs.Tray.{framesAt}
+use Rattle.records.specs.declared.record.Frame.{Frame}
 use Rattle.fill.specs.declared.Colour.{Colour}
 use Rattle.derived.proofs.Taken.{overlay-taken}
 use Rattle.derived.specs.inner.Sound.{OverlaySound}
 use Rattle.derived.specs.Overlay.{overlayOf}
 use Rattle.inputs.proofs.FrameLaws.{frames-from}
 use Rattle.overlay.specs.inner.Block.{PlanSound, layersAt}
-use Rattle.image.specs.inner.Frames.{framesFrom}
+use Rattle.records.specs.inner.Frames.{framesFrom}
 use Rattle.inputs.specs.Layers.{layersOf, overlayForm, seeThrough}
 use Rattle.opaque.proofs.FitLaws.{form-fits}
 use Rattle.opaque.specs.inner.Laid.{unfit}

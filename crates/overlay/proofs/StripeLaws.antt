@@ -14,15 +14,15 @@ use Rattle.laws.specs.Out.{done, refused}
 use Rattle.laws.specs.Pick.{pick}
 use Rattle.laws.specs.declared.Refusal.{Refusal}
 use Rattle.image.proofs.FormLaws.{cover-in, width-le}
-use Rattle.image.proofs.RecordLaws.{sample-inside}
+use Rattle.records.proofs.RecordLaws.{sample-inside}
 use Rattle.image.specs.Format.{columnsOf, halfX, halfY, hasPart, rowsOf}
-use Rattle.image.specs.Record.{dataOf, planeOf, recordAt}
+use Rattle.records.specs.Record.{dataOf, planeOf, recordAt}
 use Rattle.image.specs.declared.format.Part.{Part}
 use Rattle.image.specs.declared.format.Part.the-variants.{Alpha}
-use Rattle.image.specs.declared.record.Frame.{Frame}
-use Rattle.image.specs.declared.record.Plane.{Plane}
-use Rattle.image.specs.inner.Frames.{framesFrom}
-use Rattle.image.specs.inner.Placed.{InSlice}
+use Rattle.records.specs.declared.record.Frame.{Frame}
+use Rattle.records.specs.declared.record.Plane.{Plane}
+use Rattle.records.specs.inner.Frames.{framesFrom}
+use Rattle.records.specs.inner.Placed.{InSlice}
 use Rattle.planes.specs.Bytes.{decode}
 use Rattle.planes.specs.Picture.{full, pixel}
 use Rattle.planes.specs.inner.Promoted.{promotedIn}

@@ -9,18 +9,18 @@ ghost use Rattle.image.specs.Format.{hasAlpha, bytesOf};
 ghost use Rattle.derived.specs.inner.Sound.{OverlaySound};
 ghost use Rattle.overlay.specs.Overlay.{overColour, overAlpha, over, covers, base, spotAt, overAt, overAll};
 ghost use Rattle.inputs.specs.Layers.{layersOf};
-ghost use Rattle.image.specs.inner.Frames.{framesFrom};
+ghost use Rattle.records.specs.inner.Frames.{framesFrom};
 ghost use Rattle.overlay.specs.inner.Block.{layerWith, acrossAt, downAt, StripeFits, alphaIn, OverRowFits, rowOver};
-ghost use Rattle.image.specs.inner.Placed.{InSlice};
+ghost use Rattle.records.specs.inner.Placed.{InSlice};
 use derived::OverlayDescriptor;
 use derived::Placement;
-use image::Frame;
-use image::FrameRead;
 use image::Part;
 use image::PixelFormat;
 use numbers::Offset;
 use opaque::reach;
 use opaque::step_of;
+use records::Frame;
+use records::FrameRead;
 
 // Colour times opacity under an input's sample m of alpha a.
 fn over_colour(top: u16, m: u16, a: u16, premultiplied: bool, v: u32) -> u32
@@ -239,7 +239,7 @@ pub(crate) fn over_inputs(
     let mut at = first;
     let mut i: u32 = 0;
     while i < count {
-        match image::read_record(tray, at) {
+        match records::read_record(tray, at) {
             FrameRead::Refused(_) => {
                 return;
             }

@@ -10,7 +10,7 @@ ghost use Rattle.image.specs.Format.{bytesOf, topOf};
 ghost use Rattle.image.specs.Sound.{FormSound};
 ghost use Rattle.image.specs.declared.format.Part.{Part};
 ghost use Rattle.image.specs.declared.format.Part.the-variants.{Alpha};
-ghost use Rattle.image.specs.inner.Frames.{framesFrom};
+ghost use Rattle.records.specs.inner.Frames.{framesFrom};
 ghost use Rattle.planes.specs.Bytes.{samplesOf, rowsBytes, planeBytes, encode, sizeOf};
 ghost use Rattle.derived.specs.inner.Sound.{OverlaySound};
 ghost use Rattle.opaque.specs.inner.Laid.{unfit};

@@ -10,12 +10,12 @@ use borrow.Author.Tests.{eq-eqb}
 use Rattle.laws.proofs.Order.{by-test, pick-false, pick-true}
 use Rattle.laws.specs.Pick.{pick}
 use Rattle.image.specs.Format.{hasPart, rowSize, rowsOf}
-use Rattle.image.specs.Record.{past, planeOf}
+use Rattle.records.specs.Record.{past, planeOf}
 use Rattle.image.specs.declared.format.Form.{Form}
 use Rattle.image.specs.declared.format.Part.{Part}
 use Rattle.image.specs.declared.format.Part.the-variants.{Alpha, Cb, Cr, Luma}
-use Rattle.image.specs.declared.record.Frame.{Frame}
-use Rattle.image.specs.declared.record.Plane.{Plane}
+use Rattle.records.specs.declared.record.Frame.{Frame}
+use Rattle.records.specs.declared.record.Plane.{Plane}
 use Rattle.planes.proofs.RoundTrip.{length-planeBytes, placed-none, placed-some, plane-some}
 use Rattle.planes.specs.Bytes.{headBytes, placed, planeBytes, planeHead, planeSize, rowBytes, rowsBytes, sizeOf, tightAt}
 use Rattle.planes.specs.Picture.{Pic}

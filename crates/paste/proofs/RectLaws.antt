@@ -13,7 +13,7 @@ use Rattle.laws.specs.Puts.{puts}
 use Rattle.laws.specs.Span.{span}
 use Rattle.image.proofs.FormLaws.{bytes-few}
 use Rattle.image.specs.Format.{bytesOf, columnsOf, hasPart, rowSize, rowsOf}
-use Rattle.image.specs.Record.{planeOf}
+use Rattle.records.specs.Record.{planeOf}
 use Rattle.image.specs.declared.format.Form.{Form}
 use Rattle.image.specs.declared.format.Part.{Part}
 use Rattle.planes.proofs.ByteLaws.{length-samplesOf, samples-same}

@@ -13,11 +13,11 @@ use Rattle.laws.proofs.Span.{length-span-all, span-cong}
 use Rattle.laws.specs.Pick.{pick}
 use Rattle.laws.specs.Puts.{puts, Bytes}
 use Rattle.laws.specs.Span.{run, span}
-use Rattle.image.specs.Record.{dataOf}
+use Rattle.records.specs.Record.{dataOf}
 use Rattle.planes.specs.Bytes.{sampleAt, sampleBytes, samplesOf}
 use Rattle.planes.specs.inner.Promoted.{evenBytes}
 use Rattle.planes.specs.inner.Line.{lineBytes, placeOn}
-use Rattle.image.specs.declared.record.Plane.{Plane}
+use Rattle.records.specs.declared.record.Plane.{Plane}
 use Rattle.planes.specs.declared.samples.Line.{Line}
 
 pub sample-one : (bytes v : ℕ) → bytes ≡ 1 → sampleBytes bytes v ≡ v % 256 ∷ []

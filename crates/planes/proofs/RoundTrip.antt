@@ -16,14 +16,14 @@ use Rattle.laws.specs.Pick.{pick}
 use Rattle.numbers.proofs.Number.{at-head, number-at, past-append}
 use Rattle.numbers.specs.Number.{numberBytes, onNumber}
 use Rattle.image.proofs.FormLaws.{bytes-few, height-le, row-le, rows-some, size-le, width-le}
-use Rattle.image.proofs.RecordLaws.{form-taken}
+use Rattle.image.proofs.JudgedLaws.{form-taken}
 use Rattle.image.specs.Format.{bytesOf, columnsOf, hasPart, rowSize, rowsOf}
-use Rattle.image.specs.Record.{dataOf, headAt, headOf, partAt, past, planeAt, planeOf, planesAt, recordAt, recordOf}
+use Rattle.records.specs.Record.{dataOf, headAt, headOf, partAt, past, planeAt, planeOf, planesAt, recordAt, recordOf}
 use Rattle.image.specs.Sound.{FormSound}
 use Rattle.image.specs.declared.format.Form.{Form}
 use Rattle.image.specs.declared.format.Part.{Part}
 use Rattle.image.specs.declared.format.Part.the-variants.{Alpha, Cb, Cr, Luma}
-use Rattle.image.specs.declared.record.Plane.{Plane}
+use Rattle.records.specs.declared.record.Plane.{Plane}
 use Rattle.planes.proofs.ByteLaws.{length-sampleBytes, length-samplesOf, sample-one, sample-two}
 use Rattle.planes.specs.Bytes.{decode, encode, headBytes, placed, planeBytes, planeHead, planeSize, rowBytes, rowsBytes, sampleAt, sampleBytes, sampleIn, samplesOf, sizeOf, tightAt}
 use Rattle.planes.specs.inner.InRange.{InRange}

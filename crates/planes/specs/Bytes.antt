@@ -7,14 +7,14 @@ use Rattle.laws.specs.Pick.{pick}
 use Rattle.laws.specs.Span.{span}
 use Rattle.numbers.specs.Number.{numberBytes}
 use Rattle.image.specs.Format.{bytesOf, hasPart, columnsOf, rowsOf, rowSize}
-use Rattle.image.specs.Record.{dataOf, planeOf, past}
-use Rattle.image.specs.Tray.{noFrame, recordsIn}
+use Rattle.records.specs.Record.{dataOf, planeOf, past}
+use Rattle.records.specs.Tray.{noFrame, recordsIn}
 use Rattle.planes.specs.Picture.{Pic}
 use Rattle.image.specs.declared.format.Part.{Part}
 use Rattle.image.specs.declared.format.Part.the-variants.{Luma, Cb, Cr, Alpha}
 use Rattle.image.specs.declared.format.Form.{Form}
-use Rattle.image.specs.declared.record.Plane.{Plane}
-use Rattle.image.specs.declared.record.Frame.{Frame}
+use Rattle.records.specs.declared.record.Plane.{Plane}
+use Rattle.records.specs.declared.record.Frame.{Frame}
 
 -- ---- what a record shows
 

@@ -6,13 +6,13 @@ ghost use lib.ListN.{length};
 ghost use Rattle.laws.specs.Pick.{pick};
 ghost use Rattle.laws.specs.Puts.{puts};
 ghost use Rattle.image.specs.Format.{cover};
-ghost use Rattle.image.specs.Record.{dataOf};
+ghost use Rattle.records.specs.Record.{dataOf};
 ghost use Rattle.planes.specs.Bytes.{sampleIn, sampleBytes, samplesOf};
 ghost use Rattle.planes.specs.inner.Promoted.{PromotedFits, evenBytes, promotedIn};
 ghost use Rattle.planes.specs.inner.Line.{LineFits, lineBytes};
 use image::Part;
 use image::PixelFormat;
-use image::Plane;
+use records::Plane;
 
 // A plane's own bytes.
 pub fn plane_data(s: &[u8], p: Plane) -> &[u8]

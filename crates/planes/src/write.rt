@@ -7,11 +7,11 @@ ghost use Rattle.laws.specs.Puts.{puts};
 ghost use Rattle.planes.specs.Bytes.{headBytes, placed, planeHead, planeSize, sizeOf, tightAt};
 ghost use Rattle.image.specs.Sound.{FormSound};
 use image::Form;
-use image::Frame;
 use image::Part;
-use image::Plane;
 use laws::Answer;
 use laws::Refusal;
+use records::Frame;
+use records::Plane;
 
 // Writes a record's five first numbers at `at`, and returns the place past them.
 pub fn write_head(out: &mut [u8], at: usize, form: Form) -> usize

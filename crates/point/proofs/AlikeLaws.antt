@@ -13,16 +13,16 @@ use Rattle.numbers.proofs.Number.{read-bounds, read-end, read-large, read-last,
 use Rattle.numbers.specs.Number.{onNumber, readFrom, readNumber}
 use Rattle.numbers.specs.declared.NumberRead.{NumberRead}
 use Rattle.numbers.specs.declared.NumberRead.the-variants.{Malformed, Number}
-use Rattle.image.proofs.RecordLaws.{on-number}
+use Rattle.records.proofs.RecordLaws.{on-number}
 use Rattle.image.specs.Format.{hasPart, rowSize, rowsOf}
-use Rattle.image.specs.Record.{headAt, headOf, partAt, past, planeAt, planesAt, recordAt}
-use Rattle.image.specs.Tray.{framesAt}
+use Rattle.records.specs.Record.{headAt, headOf, partAt, past, planeAt, planesAt, recordAt}
+use Rattle.records.specs.Tray.{framesAt}
 use Rattle.image.specs.declared.format.Form.{Form}
 use Rattle.image.specs.declared.format.Part.{Part}
 use Rattle.image.specs.declared.format.Part.the-variants.{Alpha, Cb, Cr, Luma}
-use Rattle.image.specs.declared.record.Frame.{Frame}
-use Rattle.image.specs.declared.record.Head.{Head}
-use Rattle.image.specs.declared.record.Plane.{Plane}
+use Rattle.records.specs.declared.record.Frame.{Frame}
+use Rattle.records.specs.declared.record.Head.{Head}
+use Rattle.records.specs.declared.record.Plane.{Plane}
 use Rattle.derived.specs.Grid.{gridOf}
 use Rattle.derived.specs.Overlay.{overlayOf}
 use Rattle.props.specs.Chain.{chainAt}

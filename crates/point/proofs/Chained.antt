@@ -11,7 +11,7 @@ use Rattle.laws.specs.Out.{Out, andThen, done, refused}
 use Rattle.laws.specs.Pick.{pick}
 use Rattle.image.proofs.FormLaws.{cover-in}
 use Rattle.image.specs.Format.{Covers, columnsOf, halfX, halfY, hasPart, rowsOf}
-use Rattle.image.specs.Record.{recordOf}
+use Rattle.records.specs.Record.{recordOf}
 use Rattle.image.specs.declared.format.Form.{Form}
 use Rattle.image.specs.declared.format.Part.{Part}
 use Rattle.image.specs.declared.format.PixelFormat.{PixelFormat}

@@ -17,18 +17,18 @@ use Rattle.numbers.specs.Number.{readNumber}
 use Rattle.numbers.specs.declared.NumberRead.the-variants.{Number}
 use Rattle.image.proofs.FormLaws.{like-halved}
 use Rattle.planes.proofs.PictureLaws.{evenX-of, evenY-of, evenly-part, full-pixel, promote-pixel}
-use Rattle.image.proofs.TrayLaws.{frames-length, tray-number}
+use Rattle.records.proofs.TrayLaws.{frames-length, tray-number}
 use Rattle.planes.specs.Bytes.{decode, pictureIn, inputIn}
 use Rattle.image.specs.Format.{columnsOf, cover, halfX, halfY, halved, halvesX, halvesY, hasAlpha, hasPart, isMono, middleOf, rowsOf, sideOf, topOf, as444, needs444, odd, sized, withAlpha}
 use Rattle.planes.specs.Picture.{Pic, full, pixel}
 use Rattle.planes.specs.inner.Even.{Even, Evenly}
 use Rattle.image.specs.Sound.{FormSound}
-use Rattle.image.specs.Tray.{framesAt, noFrame, takenOf, recordsIn}
+use Rattle.records.specs.Tray.{framesAt, noFrame, takenOf, recordsIn}
 use Rattle.image.specs.declared.format.Form.{Form}
 use Rattle.image.specs.declared.format.Part.{Part}
 use Rattle.image.specs.declared.format.Part.the-variants.{Alpha, Cb, Cr, Luma}
 use Rattle.image.specs.declared.format.PixelFormat.{PixelFormat}
-use Rattle.image.specs.declared.record.Frame.{Frame}
+use Rattle.records.specs.declared.record.Frame.{Frame}
 use Rattle.derived.specs.declared.grid.GridDescriptor.{GridDescriptor}
 use Rattle.transform.specs.Place.{Place}
 use Rattle.sight.proofs.Agreement.{covered}

@@ -17,13 +17,13 @@ use Rattle.numbers.specs.Number.{readNumber}
 use Rattle.numbers.specs.declared.NumberRead.the-variants.{Number}
 use Rattle.numbers.specs.declared.Offset.{Offset}
 use Rattle.image.proofs.FormLaws.{top-some}
-use Rattle.image.proofs.TrayLaws.{frames-length, tray-number}
+use Rattle.records.proofs.TrayLaws.{frames-length, tray-number}
 use Rattle.image.specs.Format.{halvesX, halvesY, hasAlpha, isMono, odd, topOf}
-use Rattle.image.specs.Tray.{noFrame, recordsIn, takenOf}
+use Rattle.records.specs.Tray.{noFrame, recordsIn, takenOf}
 use Rattle.image.specs.declared.format.Part.{Part}
 use Rattle.image.specs.declared.format.Part.the-variants.{Alpha, Cb, Cr, Luma}
 use Rattle.image.specs.declared.format.PixelFormat.{PixelFormat}
-use Rattle.image.specs.declared.record.Frame.{Frame}
+use Rattle.records.specs.declared.record.Frame.{Frame}
 use Rattle.planes.proofs.PictureLaws.{evenly-if, needs-X, needs-Y, odd-false}
 use Rattle.planes.specs.Bytes.{decode, inputIn, pictureIn}
 use Rattle.planes.specs.Picture.{pixel}

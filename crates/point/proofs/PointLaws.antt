@@ -16,8 +16,8 @@ use Rattle.numbers.specs.declared.NumberRead.the-variants.{Malformed, Number}
 use Rattle.laws.specs.Puts.{Bytes}
 use Rattle.planes.specs.Bytes.{decode}
 use Rattle.image.specs.Format.{hasAlpha}
-use Rattle.image.specs.Record.{recordAt}
-use Rattle.image.specs.declared.record.Frame.{Frame}
+use Rattle.records.specs.Record.{recordAt}
+use Rattle.records.specs.declared.record.Frame.{Frame}
 use Rattle.derived.proofs.Taken.{overlay-taken}
 use Rattle.derived.specs.Overlay.{placementAt}
 use Rattle.derived.specs.inner.Sound.{OverlaySound}
@@ -40,7 +40,7 @@ use Rattle.grid.proofs.GridLaws.{tiles-taken}
 use Rattle.grid.specs.Tiles.{tilesOf}
 use Rattle.grid.specs.declared.tiles.Tiles.{Tiles}
 use Rattle.inputs.proofs.FrameLaws.{frames-from, from-next, from-refused}
-use Rattle.image.specs.inner.Frames.{framesFrom}
+use Rattle.records.specs.inner.Frames.{framesFrom}
 use Rattle.overlay.specs.Overlay.{covers, spotAt}
 use Rattle.inputs.specs.Layers.{seeThrough, layerOf, layersOf}
 use Rattle.laws.specs.Any.{any}

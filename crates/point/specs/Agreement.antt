@@ -10,9 +10,9 @@ use Rattle.laws.specs.declared.Refusal.{Refusal}
 use Rattle.planes.specs.Bytes.{decode, inputIn}
 use Rattle.image.specs.Format.{hasPart, Covers}
 use Rattle.planes.specs.Picture.{Pic}
-use Rattle.image.specs.Record.{recordOf}
+use Rattle.records.specs.Record.{recordOf}
 use Rattle.image.specs.declared.format.Part.{Part}
-use Rattle.image.specs.declared.record.Frame.{Frame}
+use Rattle.records.specs.declared.record.Frame.{Frame}
 use Rattle.props.specs.Chain.{applies, chainAt}
 use Rattle.props.specs.declared.entry.PropertyEntry.{PropertyEntry}
 use Rattle.transform.specs.Place.{Place}
@@ -23,7 +23,7 @@ use Rattle.sight.specs.declared.Sight.{Sight}
 use Rattle.laws.specs.Any.{any}
 use Rattle.chains.specs.Chain.{Drawn}
 use Rattle.point.specs.Point.{seeThroughFrame}
-use Rattle.image.specs.Tray.{recordsIn}
+use Rattle.records.specs.Tray.{recordsIn}
 use Rattle.point.specs.declared.Named.{Named}
 use Rattle.point.specs.declared.Point.{Point}
 use Rattle.point.specs.declared.Spot.{Spot}

@@ -8,11 +8,11 @@ use Rattle.laws.specs.Pick.{pick}
 use Rattle.numbers.specs.Number.{readNumber}
 use Rattle.numbers.specs.declared.NumberRead.{NumberRead}
 use Rattle.image.specs.Format.{hasPart}
-use Rattle.image.specs.Record.{headAt}
+use Rattle.records.specs.Record.{headAt}
 use Rattle.image.specs.declared.format.Form.{Form}
 use Rattle.image.specs.declared.format.Part.{Part}
 use Rattle.image.specs.declared.format.Part.the-variants.{Alpha, Cb, Cr, Luma}
-use Rattle.image.specs.declared.record.Head.{Head}
+use Rattle.records.specs.declared.record.Head.{Head}
 
 -- the same bytes from a place up to another
 unfoldable pub SameBytes : List ℕ → List ℕ → ℕ → ℕ → Type 0

@@ -5,7 +5,7 @@ use lib.ListN.{length}
 use Rattle.laws.specs.Out.{Out, done, refused}
 use Rattle.laws.specs.Pick.{pick}
 use Rattle.image.specs.Format.{hasAlpha, topOf}
-use Rattle.image.specs.Tray.{recordsIn}
+use Rattle.records.specs.Tray.{recordsIn}
 use Rattle.image.specs.declared.format.Part.{Part}
 use Rattle.image.specs.declared.format.Part.the-variants.{Alpha, Cb, Cr, Luma}
 use Rattle.planes.specs.Bytes.{inputIn}

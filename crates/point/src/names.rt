@@ -3,7 +3,7 @@ ghost use mathlib.Core.Bool.{true};
 ghost use mathlib.Core.Path.{_≡_};
 ghost use Rattle.laws.specs.Pick.{pick};
 ghost use Rattle.derived.specs.inner.Sound.{OverlaySound};
-ghost use Rattle.image.specs.inner.Frames.{framesFrom};
+ghost use Rattle.records.specs.inner.Frames.{framesFrom};
 ghost use Rattle.overlay.specs.Overlay.{covers, spotAt};
 ghost use Rattle.point.specs.Point.{gridNames, liesOver, spotUnder, topmostNamed};
 ghost use Rattle.point.specs.inner.Look.{Tiled, placeIn};
@@ -13,9 +13,9 @@ use crate::Spot;
 use derived::OverlayDescriptor;
 use derived::Placement;
 use grid::Tiles;
-use image::Frame;
-use image::FrameRead;
 use numbers::Offset;
+use records::Frame;
+use records::FrameRead;
 use sight::CanvasPlace;
 
 // The tile that covers a place of the canvas.
@@ -83,7 +83,7 @@ pub(crate) fn name_topmost(
     let mut i: u32 = 0;
     let mut found = Named::Fill;
     while i < count {
-        match image::read_record(tray, at) {
+        match records::read_record(tray, at) {
             FrameRead::Refused(_) => {
                 return found;
             }

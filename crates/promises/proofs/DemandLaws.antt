@@ -10,10 +10,10 @@ use Rattle.laws.specs.Pick.{pick}
 use Rattle.laws.specs.Puts.{Bytes}
 use Rattle.numbers.specs.Number.{lastByte, onNumber, readFrom, readNumber}
 use Rattle.numbers.specs.declared.NumberRead.the-variants.{Number}
-use Rattle.image.proofs.RecordLaws.{on-number}
+use Rattle.records.proofs.RecordLaws.{on-number}
 use Rattle.image.specs.Format.{topOf}
 use Rattle.image.specs.Sound.{FormSound, SizeSound}
-use Rattle.image.specs.Tray.{recordsIn}
+use Rattle.records.specs.Tray.{recordsIn}
 use Rattle.planes.specs.inner.InRange.{InRange}
 use Rattle.planes.specs.Picture.{Pic}
 use Rattle.fill.specs.declared.Colour.{Colour}

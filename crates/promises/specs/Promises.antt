@@ -14,12 +14,12 @@ use Rattle.numbers.specs.Field.{offsetOf}
 use Rattle.numbers.specs.Number.{numberBytes, readNumber}
 use Rattle.numbers.specs.declared.NumberRead.the-variants.{Number}
 use Rattle.image.specs.Format.{Covers, columnsOf, hasAlpha, hasPart, rowsOf, topOf}
-use Rattle.image.specs.Record.{recordOf}
+use Rattle.records.specs.Record.{recordOf}
 use Rattle.image.specs.Sound.{FormSound, SizeSound}
 use Rattle.image.specs.declared.format.Form.{Form}
 use Rattle.image.specs.declared.format.Part.{Part}
 use Rattle.image.specs.declared.format.Part.the-variants.{Alpha}
-use Rattle.image.specs.declared.record.Frame.{Frame}
+use Rattle.records.specs.declared.record.Frame.{Frame}
 use Rattle.image.specs.declared.size.Size.{Size}
 use Rattle.planes.specs.Bytes.{decode, pictureIn, sizeOf}
 use Rattle.planes.specs.Picture.{Agree, Pic, pixel}

@@ -10,16 +10,16 @@ use Rattle.laws.proofs.Order.{mul-below}
 use Rattle.laws.proofs.Span.{length-span-all}
 use Rattle.planes.proofs.ByteLaws.{length-samplesOf}
 use Rattle.image.proofs.FormLaws.{bytes-few, columns-le, columns-some, height-le, rows-le, rows-some, width-le}
-use Rattle.image.proofs.RecordLaws.{sample-inside}
+use Rattle.records.proofs.RecordLaws.{sample-inside}
 use Rattle.planes.proofs.RoundTrip.{plane-some}
-use Rattle.image.specs.Record.{dataOf, planeOf}
+use Rattle.records.specs.Record.{dataOf, planeOf}
 use Rattle.planes.specs.Bytes.{decode, planeBytes, planeHead, rowBytes, rowsBytes, samplesOf}
 use Rattle.image.specs.Format.{hasPart}
-use Rattle.image.specs.inner.Placed.{Sound}
+use Rattle.records.specs.inner.Placed.{Sound}
 use Rattle.image.specs.declared.format.Form.{Form}
 use Rattle.image.specs.declared.format.Part.{Part}
-use Rattle.image.specs.declared.record.Frame.{Frame}
-use Rattle.image.specs.declared.record.Plane.{Plane}
+use Rattle.records.specs.declared.record.Frame.{Frame}
+use Rattle.records.specs.declared.record.Plane.{Plane}
 use Rattle.rasters.proofs.FootLaws.{foot-in, past-in}
 use Rattle.rasters.proofs.PlaceLaws.{near-in}
 use Rattle.rasters.specs.Area.{footOf, pastOf}

@@ -10,18 +10,18 @@ use Rattle.laws.proofs.Out.{then-done, then-refused}
 use Rattle.laws.specs.Out.{done, fitted, refused}
 use Rattle.laws.specs.declared.Refusal.{Refusal}
 use Rattle.numbers.specs.Number.{numberBytes}
-use Rattle.image.proofs.RecordLaws.{length-data, record-lens, whole-sound}
+use Rattle.records.proofs.RecordLaws.{length-data, record-lens, whole-sound}
 use Rattle.planes.proofs.RoundTrip.{length-planeBytes, plane-agree}
-use Rattle.image.specs.Record.{dataOf, planeOf, recordOf}
+use Rattle.records.specs.Record.{dataOf, planeOf, recordOf}
 use Rattle.planes.specs.Bytes.{decode, headBytes, planeBytes, planeSize}
 use Rattle.image.specs.Format.{columnsOf, halved, hasAlpha, hasPart, isMono, rowsOf, sideOf, sized, withAlpha}
 use Rattle.image.specs.Sound.{FormSound}
-use Rattle.image.specs.inner.Placed.{Sound}
+use Rattle.records.specs.inner.Placed.{Sound}
 use Rattle.image.specs.declared.format.Form.{Form}
 use Rattle.image.specs.declared.format.Part.{Part}
 use Rattle.image.specs.declared.format.Part.the-variants.{Alpha, Cb, Cr, Luma}
-use Rattle.image.specs.declared.record.Frame.{Frame}
-use Rattle.image.specs.declared.record.Plane.{Plane}
+use Rattle.records.specs.declared.record.Frame.{Frame}
+use Rattle.records.specs.declared.record.Plane.{Plane}
 use Rattle.resample.specs.Attach.{attachBytes, alphaBytes, alphaKept, keptPart, keptPlane, lumaForm, lumaOf}
 use Rattle.resample.specs.inner.Kept.{KeptFits, Whole}
 use Rattle.rasters.specs.Depth.{rescaled, toDepth}

@@ -12,14 +12,14 @@ use Rattle.laws.specs.Out.{done, fitted, reason, refused}
 use Rattle.laws.specs.Pick.{pick}
 use Rattle.laws.specs.declared.Refusal.{Refusal}
 use Rattle.image.proofs.FormLaws.{columns-le, columns-some, rows-le, rows-some}
-use Rattle.image.proofs.RecordLaws.{whole-sound}
+use Rattle.records.proofs.RecordLaws.{whole-sound}
 use Rattle.image.specs.Format.{columnsOf, halvesX, halvesY, hasAlpha, hasPart, isDepth, isMono, judgedSize, rowsOf, sized, hasSize}
-use Rattle.image.specs.Record.{recordOf}
+use Rattle.records.specs.Record.{recordOf}
 use Rattle.image.specs.Sound.{FormSound, SizeSound}
 use Rattle.image.specs.declared.format.Form.{Form}
 use Rattle.image.specs.declared.format.Part.{Part}
 use Rattle.image.specs.declared.format.Part.the-variants.{Alpha, Cb, Cr, Luma}
-use Rattle.image.specs.declared.record.Frame.{Frame}
+use Rattle.records.specs.declared.record.Frame.{Frame}
 use Rattle.image.specs.declared.size.Size.{Size}
 use Rattle.planes.proofs.RoundTrip.{drawn-as}
 use Rattle.planes.specs.Bytes.{decode, encode}

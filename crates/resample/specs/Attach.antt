@@ -8,12 +8,12 @@ use lib.Dec.{eqb}
 use Rattle.laws.specs.Pick.{pick}
 use Rattle.numbers.specs.Number.{numberBytes}
 use Rattle.image.specs.Format.{hasPart, hasSize, withAlpha}
-use Rattle.image.specs.Record.{dataOf, planeOf}
+use Rattle.records.specs.Record.{dataOf, planeOf}
 use Rattle.image.specs.declared.format.Form.{Form}
 use Rattle.image.specs.declared.format.Part.{Part}
 use Rattle.image.specs.declared.format.Part.the-variants.{Cb, Cr, Luma}
-use Rattle.image.specs.declared.record.Frame.{Frame}
-use Rattle.image.specs.declared.record.Plane.{Plane}
+use Rattle.records.specs.declared.record.Frame.{Frame}
+use Rattle.records.specs.declared.record.Plane.{Plane}
 use Rattle.planes.specs.Bytes.{decode, headBytes, planeBytes}
 use Rattle.planes.specs.Picture.{Pic}
 use Rattle.rasters.specs.Depth.{rescaled}

@@ -6,8 +6,8 @@ use lib.Dec.{eqb}
 use Rattle.laws.specs.Out.{Out, andThen, fitted, refuse}
 use Rattle.laws.specs.Pick.{pick}
 use Rattle.image.specs.Format.{isDepth, judgedSize, hasSize}
-use Rattle.image.specs.Record.{recordOf}
-use Rattle.image.specs.declared.record.Frame.{Frame}
+use Rattle.records.specs.Record.{recordOf}
+use Rattle.records.specs.declared.record.Frame.{Frame}
 use Rattle.planes.specs.Bytes.{decode, encode}
 use Rattle.sizes.specs.Scale.{scaleOf}
 use Rattle.sizes.specs.declared.iscl.Iscl.{Iscl}

@@ -9,15 +9,15 @@ ghost use Rattle.resample.specs.Attach.{lumaForm, keptPlane, keptPart, a
 ghost use Rattle.resample.specs.inner.Kept.{KeptFits, Whole};
 ghost use Rattle.resample.specs.Run.{attachRun};
 use image::Form;
-use image::Frame;
-use image::FrameRead;
 use image::Part;
 use image::PixelFormat;
-use image::Plane;
 use laws::Answer;
 use laws::Refusal;
 use rasters::Depths;
 use rasters::Rule;
+use records::Frame;
+use records::FrameRead;
+use records::Plane;
 
 // The form of a luma plane alone for a picture of a form.
 fn alpha_form(m: Form) -> Form
@@ -150,9 +150,9 @@ pub fn attach_alpha(master: &[u8], alpha: &[u8], out: &mut [u8]) -> Answer
     ensures { λ a. ⌜ (a ≡ answerOf (attachRun (now (master .entry)) (now (alpha .entry)) (length (now (out .entry)))))
         × (now (out .exit) ≡ written (attachRun (now (master .entry)) (now (alpha .entry)) (length (now (out .entry)))) (now (out .entry))) ⌝ }
 {
-    match image::parse_record(master) {
+    match records::parse_record(master) {
         FrameRead::Refused(e) => Answer::Refused(e),
-        FrameRead::Read(f) => match image::parse_record(alpha) {
+        FrameRead::Read(f) => match records::parse_record(alpha) {
             FrameRead::Refused(e) => Answer::Refused(e),
             FrameRead::Read(g) => {
                 if out.len() < attached_size(master, f, alpha, g) {

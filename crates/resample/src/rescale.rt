@@ -4,19 +4,19 @@ ghost use lib.ListN.{length};
 ghost use Rattle.laws.specs.Out.{answerOf, written};
 ghost use Rattle.resample.specs.Run.{depthRun};
 use image::Form;
-use image::FrameRead;
 use image::PixelFormat;
 use laws::Answer;
 use laws::Refusal;
 use rasters::Depths;
 use rasters::Rule;
+use records::FrameRead;
 
 // A record's picture at another depth. Refusals: the record's, 6, 17.
 pub fn rescale_depth(record: &[u8], depth: u32, out: &mut [u8]) -> Answer
     ensures { λ a. ⌜ (a ≡ answerOf (depthRun (now («record» .entry)) depth (length (now (out .entry)))))
         × (now (out .exit) ≡ written (depthRun (now («record» .entry)) depth (length (now (out .entry)))) (now (out .entry))) ⌝ }
 {
-    match image::parse_record(record) {
+    match records::parse_record(record) {
         FrameRead::Refused(e) => Answer::Refused(e),
         FrameRead::Read(f) => {
             if !PixelFormat::is_depth(depth) {

@@ -2,15 +2,15 @@
 ghost use mathlib.Core.Path.{_≡_};
 ghost use lib.ListN.{length};
 ghost use Rattle.laws.specs.Out.{answerOf, fitted, written};
-ghost use Rattle.image.specs.inner.Placed.{Sound};
+ghost use Rattle.records.specs.inner.Placed.{Sound};
 ghost use Rattle.rasters.specs.inner.Redraw.{ScaleFits};
 ghost use Rattle.resample.specs.Run.{areaBytes, isclRun};
-use image::Frame;
-use image::FrameRead;
 use image::Size;
 use image::SizeAnswer;
 use laws::Answer;
 use rasters::Rule;
+use records::Frame;
+use records::FrameRead;
 use sizes::Iscl;
 
 // A record's picture at a size that iscl allows, each sample the mean over its footprint; an unchanged size hands the record back.
@@ -32,7 +32,7 @@ pub fn apply_iscl(record: &[u8], iscl: Iscl, out: &mut [u8]) -> Answer
     ensures { λ a. ⌜ (a ≡ answerOf (isclRun (now («record» .entry)) iscl (length (now (out .entry)))))
         × (now (out .exit) ≡ written (isclRun (now («record» .entry)) iscl (length (now (out .entry)))) (now (out .entry))) ⌝ }
 {
-    match image::parse_record(record) {
+    match records::parse_record(record) {
         FrameRead::Refused(e) => Answer::Refused(e),
         FrameRead::Read(f) => {
             let m = f.form;

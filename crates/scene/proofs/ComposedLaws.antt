@@ -16,16 +16,16 @@ use Rattle.laws.specs.Puts.{Bytes}
 use Rattle.numbers.specs.Number.{onNumber, readNumber}
 use Rattle.numbers.specs.declared.NumberRead.the-variants.{Number}
 use Rattle.image.proofs.FormLaws.{bytes-cases, bytes-few}
-use Rattle.image.proofs.TrayLaws.{frames-length}
+use Rattle.records.proofs.TrayLaws.{frames-length}
 use Rattle.image.specs.Format.{as444, bytesOf, hasPart, middleOf, topOf}
-use Rattle.image.specs.Record.{dataOf, planeOf}
+use Rattle.records.specs.Record.{dataOf, planeOf}
 use Rattle.image.specs.Sound.{FormSound}
-use Rattle.image.specs.Tray.{noForm, noFrame}
+use Rattle.records.specs.Tray.{noForm, noFrame}
 use Rattle.image.specs.declared.format.Form.{Form}
 use Rattle.image.specs.declared.format.Part.{Part}
 use Rattle.image.specs.declared.format.Part.the-variants.{Alpha, Cb, Cr, Luma}
 use Rattle.image.specs.declared.format.PixelFormat.{PixelFormat}
-use Rattle.image.specs.declared.record.Frame.{Frame}
+use Rattle.records.specs.declared.record.Frame.{Frame}
 use Rattle.planes.proofs.ByteLaws.{data-bytes, sample-small}
 use Rattle.planes.specs.inner.InRange.{InRange}
 use Rattle.planes.specs.Bytes.{decode, pictureIn, sampleIn}

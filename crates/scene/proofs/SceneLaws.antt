@@ -19,13 +19,13 @@ use Rattle.laws.specs.declared.Answer.the-variants.{Refused}
 use Rattle.laws.specs.declared.Refusal.{Refusal}
 use Rattle.numbers.specs.Number.{onNumber, readNumber}
 use Rattle.numbers.specs.declared.NumberRead.{NumberRead}
-use Rattle.image.proofs.RecordLaws.{whole-sound}
+use Rattle.records.proofs.RecordLaws.{whole-sound}
 use Rattle.image.specs.Format.{topOf}
-use Rattle.image.specs.Record.{recordOf}
+use Rattle.records.specs.Record.{recordOf}
 use Rattle.image.specs.declared.format.Form.{Form}
-use Rattle.image.specs.declared.record.Frame.{Frame}
-use Rattle.image.specs.inner.Frames.{framesFrom}
-use Rattle.image.specs.inner.Placed.{Sound}
+use Rattle.records.specs.declared.record.Frame.{Frame}
+use Rattle.records.specs.inner.Frames.{framesFrom}
+use Rattle.records.specs.inner.Placed.{Sound}
 use Rattle.planes.specs.inner.InRange.{InRange}
 use Rattle.planes.proofs.RoundTrip.{length-encode}
 use Rattle.planes.specs.Bytes.{decode, encode, sizeOf}

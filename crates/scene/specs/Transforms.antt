@@ -3,7 +3,7 @@ use mathlib.Core.Bool.{Bool}
 use mathlib.Core.List.{List}
 use Prim.Native.Nat.{ℕ}
 use Rattle.laws.specs.Out.{Out, andThen}
-use Rattle.image.specs.Record.{recordOf}
+use Rattle.records.specs.Record.{recordOf}
 use Rattle.planes.specs.Bytes.{decode}
 use Rattle.props.specs.Chain.{chainAt}
 use Rattle.chains.specs.Chain.{Drawn, chainDrawn}

@@ -7,9 +7,9 @@ ghost use Rattle.scene.specs.Transforms.{transformsRun};
 use chains::CurrentRead;
 use chains::finish_scene;
 use chains::plan_scene;
-use image::FrameRead;
 use laws::Answer;
 use props::ChainRead;
+use records::FrameRead;
 
 // Refusals: the record's; the chain's form; the entries' in turn; 17 output or spare shorter than the longest of the tight and step
 // records.
@@ -24,7 +24,7 @@ pub fn apply_transforms(
         × (now (output .exit) ≡ outputOf (transformsRun (now («record» .entry)) (now (chain .entry)) «essential_only» (length (now (output .entry))) (length (now (spare .entry)))) (now (output .entry)))
         × (now (spare .exit) ≡ spareOf (transformsRun (now («record» .entry)) (now (chain .entry)) «essential_only» (length (now (output .entry))) (length (now (spare .entry)))) (now (spare .entry))) ⌝ }
 {
-    match image::parse_record(record) {
+    match records::parse_record(record) {
         FrameRead::Refused(e) => Answer::Refused(e),
         FrameRead::Read(fr) => match props::check_chain(chain, 0) {
             ChainRead::Refused(e) => Answer::Refused(e),

@@ -11,7 +11,7 @@ use Rattle.laws.proofs.Out.{refuse-no, refuse-yes}
 use Rattle.laws.proofs.Span.{span-cong}
 use Rattle.laws.specs.Out.{done, reason, refused}
 use Rattle.laws.specs.declared.Answer.the-variants.{Wrote}
-use Rattle.image.proofs.RecordLaws.{whole-sound}
+use Rattle.records.proofs.RecordLaws.{whole-sound}
 use Rattle.planes.proofs.RoundTrip.{encode-back}
 use Rattle.planes.specs.Bytes.{encode, sampleBytes, samplesOf, sizeOf, tightAt}
 use Rattle.image.specs.Format.{bytesOf, hasPart, isMono}

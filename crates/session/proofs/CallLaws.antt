@@ -12,17 +12,17 @@ use Rattle.laws.proofs.Out.{andThen-done, done-same, refuse-done, then-done}
 use Rattle.laws.specs.Out.{done}
 use Rattle.laws.specs.Pick.{pick}
 use Rattle.image.proofs.FormLaws.{columns-some, rows-some}
-use Rattle.image.proofs.RecordLaws.{whole-sound}
+use Rattle.records.proofs.RecordLaws.{whole-sound}
 use Rattle.image.specs.Format.{columnsOf, hasAlpha, hasPart, hasSize, rowsOf, topOf, withAlpha}
-use Rattle.image.specs.Record.{recordOf}
+use Rattle.records.specs.Record.{recordOf}
 use Rattle.image.specs.Sound.{FormSound}
-use Rattle.image.specs.Tray.{noForm}
+use Rattle.records.specs.Tray.{noForm}
 use Rattle.image.specs.declared.format.Form.{Form}
 use Rattle.image.specs.declared.format.Part.{Part}
 use Rattle.image.specs.declared.format.Part.the-variants.{Alpha, Cb, Cr, Luma}
 use Rattle.image.specs.declared.format.PixelFormat.{PixelFormat}
-use Rattle.image.specs.declared.record.Frame.{Frame}
-use Rattle.image.specs.inner.Placed.{Sound}
+use Rattle.records.specs.declared.record.Frame.{Frame}
+use Rattle.records.specs.inner.Placed.{Sound}
 use Rattle.planes.proofs.RoundTrip.{plane-agree}
 use Rattle.planes.specs.Bytes.{decode, headBytes, planeBytes, sizeOf, tightAt}
 use Rattle.planes.specs.Picture.{Agree, Pic}

@@ -16,16 +16,16 @@ use Rattle.laws.specs.Out.{Out, andThen, done}
 use Rattle.laws.specs.Pick.{pick}
 use Rattle.laws.specs.Puts.{Bytes}
 use Rattle.image.proofs.FormLaws.{columns-some, rows-some}
-use Rattle.image.proofs.RecordLaws.{whole-sound}
+use Rattle.records.proofs.RecordLaws.{whole-sound}
 use Rattle.image.specs.Format.{as444, bytesOf, columnsOf, cover, halfX, halfY, halvesX, halvesY, hasAlpha, hasPart, hasSize, isMono, needs444, rowSize, rowsOf, sized, topOf, withAlpha}
-use Rattle.image.specs.Record.{recordOf}
+use Rattle.records.specs.Record.{recordOf}
 use Rattle.image.specs.Sound.{FormSound}
-use Rattle.image.specs.Tray.{noForm, noFrame}
+use Rattle.records.specs.Tray.{noForm, noFrame}
 use Rattle.image.specs.declared.format.Form.{Form}
 use Rattle.image.specs.declared.format.Part.{Part}
 use Rattle.image.specs.declared.format.Part.the-variants.{Alpha, Cb, Cr, Luma}
 use Rattle.image.specs.declared.format.PixelFormat.{PixelFormat}
-use Rattle.image.specs.declared.record.Frame.{Frame}
+use Rattle.records.specs.declared.record.Frame.{Frame}
 use Rattle.planes.proofs.RoundTrip.{encode-agree, length-encode}
 use Rattle.planes.specs.Bytes.{decode, encode, headBytes, pictureIn, planeBytes, planeHead, planeSize, rowBytes, rowsBytes, sizeOf}
 use Rattle.planes.specs.Picture.{Agree, Pic}

@@ -19,9 +19,9 @@ use Rattle.numbers.proofs.Number.{bytes-last}
 use Rattle.numbers.specs.Number.{numberBytes}
 use Rattle.planes.specs.Bytes.{decode, headBytes, sizeOf}
 use Rattle.image.specs.Format.{hasAlpha}
-use Rattle.image.specs.Record.{recordOf}
+use Rattle.records.specs.Record.{recordOf}
 use Rattle.image.specs.declared.format.Form.{Form}
-use Rattle.image.specs.declared.record.Frame.{Frame}
+use Rattle.records.specs.declared.record.Frame.{Frame}
 use Rattle.derived.specs.Grid.{gridOf}
 use Rattle.session.specs.declared.state.Canvas.{Canvas}
 use Rattle.derived.specs.declared.grid.GridDescriptor.{GridDescriptor}

@@ -14,14 +14,15 @@ use Rattle.laws.proofs.Out.{andThen-done, done-same, done-yes, refuse-done}
 use Rattle.laws.specs.Out.{done}
 use Rattle.laws.specs.Pick.{pick}
 use Rattle.laws.specs.Puts.{Bytes}
-use Rattle.image.proofs.RecordLaws.{form-taken, size-taken, whole-sound}
+use Rattle.image.proofs.JudgedLaws.{form-taken, size-taken}
+use Rattle.records.proofs.RecordLaws.{whole-sound}
 use Rattle.image.specs.Format.{hasAlpha}
-use Rattle.image.specs.Record.{recordOf}
+use Rattle.records.specs.Record.{recordOf}
 use Rattle.image.specs.Sound.{FormSound}
-use Rattle.image.specs.Tray.{noForm}
+use Rattle.records.specs.Tray.{noForm}
 use Rattle.image.specs.declared.format.Form.{Form}
 use Rattle.image.specs.declared.format.PixelFormat.{PixelFormat}
-use Rattle.image.specs.declared.record.Frame.{Frame}
+use Rattle.records.specs.declared.record.Frame.{Frame}
 use Rattle.planes.specs.Bytes.{sizeOf}
 use Rattle.derived.proofs.Taken.{grid-taken}
 use Rattle.derived.specs.Grid.{gridOf}

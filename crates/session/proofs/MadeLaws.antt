@@ -19,11 +19,11 @@ use Rattle.laws.specs.Out.{done, refuse}
 use Rattle.laws.specs.Pick.{pick}
 use Rattle.laws.specs.Puts.{Bytes}
 use Rattle.numbers.specs.Field.{bigEndian, fieldAt, onField}
-use Rattle.image.proofs.RecordLaws.{size-taken}
+use Rattle.image.proofs.JudgedLaws.{size-taken}
 use Rattle.image.specs.Format.{hasAlpha, sides, withAlpha}
-use Rattle.image.specs.Record.{recordOf}
+use Rattle.records.specs.Record.{recordOf}
 use Rattle.image.specs.Sound.{FormSound, SizeSound}
-use Rattle.image.specs.Tray.{noForm}
+use Rattle.records.specs.Tray.{noForm}
 use Rattle.image.specs.declared.format.Form.{Form}
 use Rattle.planes.proofs.RoundTrip.{encode-back}
 use Rattle.planes.specs.Bytes.{encode, sizeOf, tightAt}

@@ -10,12 +10,12 @@ use Rattle.laws.proofs.Order.{and-true, by-test, mul-below, pick-false, pick-tr
 use Rattle.laws.proofs.Out.{done-same, refuse-done, yes-done}
 use Rattle.laws.specs.Out.{done, isDone}
 use Rattle.laws.specs.Pick.{pick}
-use Rattle.image.proofs.RecordLaws.{form-same, form-sound, judged-same, judged-sound}
+use Rattle.image.proofs.JudgedLaws.{form-same, form-sound, judged-same, judged-sound}
 use Rattle.image.specs.Format.{judgedSize, sides}
 use Rattle.image.specs.Sound.{FormSound, SizeSound}
 use Rattle.image.specs.declared.format.Form.{Form}
-use Rattle.image.specs.declared.record.Frame.{Frame}
-use Rattle.image.specs.inner.Placed.{Sound}
+use Rattle.records.specs.declared.record.Frame.{Frame}
+use Rattle.records.specs.inner.Placed.{Sound}
 use Rattle.planes.specs.Bytes.{sizeOf}
 use Rattle.derived.specs.declared.grid.GridDescriptor.{GridDescriptor}
 use Rattle.derived.specs.inner.Sound.{GridSound}

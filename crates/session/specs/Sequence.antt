@@ -11,15 +11,15 @@ use Rattle.laws.specs.Puts.{Bytes}
 use Rattle.planes.specs.Bytes.{decode, headBytes}
 use Rattle.image.specs.Format.{columnsOf, hasAlpha, hasPart, rowsOf}
 use Rattle.planes.specs.Picture.{Pic}
-use Rattle.image.specs.Record.{recordOf}
+use Rattle.records.specs.Record.{recordOf}
 use Rattle.image.specs.declared.format.Form.{Form}
 use Rattle.image.specs.declared.format.Part.{Part}
-use Rattle.image.specs.declared.record.Frame.{Frame}
+use Rattle.records.specs.declared.record.Frame.{Frame}
 use Rattle.derived.specs.declared.grid.GridDescriptor.{GridDescriptor}
 use Rattle.grid.specs.Cell.{tileForm, tilePic}
 use Rattle.paste.specs.Stored.{headed}
 use Rattle.grid.specs.Mosaic.{plainAt, tileIndex}
-use Rattle.image.specs.Tray.{noFrame, noForm}
+use Rattle.records.specs.Tray.{noFrame, noForm}
 use Rattle.grid.specs.Tiles.{canvasForm, promotesOf}
 use Rattle.session.specs.declared.state.Canvas.{Canvas}
 use Rattle.session.specs.Session.{CanvasAfter, blankOf, blankPic, finishOf, placeOf, reservedForm, sessionOf}

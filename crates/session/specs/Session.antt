@@ -12,12 +12,12 @@ use Rattle.laws.specs.declared.Answer.the-variants.{Refused, Wrote}
 use Rattle.planes.specs.Bytes.{decode, headBytes, sizeOf}
 use Rattle.image.specs.Format.{hasAlpha, middleOf, topOf}
 use Rattle.planes.specs.Picture.{Pic}
-use Rattle.image.specs.Record.{recordOf}
+use Rattle.records.specs.Record.{recordOf}
 use Rattle.image.specs.declared.format.Form.{Form}
 use Rattle.image.specs.declared.format.Part.{Part}
 use Rattle.image.specs.declared.format.Part.the-variants.{Alpha, Cb, Cr, Luma}
 use Rattle.image.specs.declared.format.PixelFormat.{PixelFormat}
-use Rattle.image.specs.declared.record.Frame.{Frame}
+use Rattle.records.specs.declared.record.Frame.{Frame}
 use Rattle.derived.specs.Grid.{gridOf}
 use Rattle.session.specs.declared.state.Canvas.{Canvas}
 use Rattle.derived.specs.declared.grid.GridDescriptor.{GridDescriptor}

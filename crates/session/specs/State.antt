@@ -6,7 +6,7 @@ use lib.Dec.{eqb, leb}
 use Rattle.laws.specs.Out.{Out, done, isDone, refuse, refused}
 use Rattle.laws.specs.Pick.{pick}
 use Rattle.image.specs.Format.{formOf, hasSize, judgedSize}
-use Rattle.image.specs.Tray.{noForm}
+use Rattle.records.specs.Tray.{noForm}
 use Rattle.image.specs.declared.format.Form.{Form}
 use Rattle.derived.specs.declared.grid.GridDescriptor.{GridDescriptor}
 use Rattle.grid.specs.Tiles.{countOf, spansCanvas, sameLayout}

@@ -11,9 +11,9 @@ use crate::state::Canvas;
 use crate::state::TileRead;
 use derived::GridDescriptor;
 use derived::GridRead;
-use image::FrameRead;
 use laws::Answer;
 use laws::Refusal;
+use records::FrameRead;
 
 // The state after a call, and its answer: 0 bytes, or why it refuses.
 pub struct Called {
@@ -81,7 +81,7 @@ impl Canvas {
         if index >= g.rows * columns {
             return refused(self, Refusal::COUNT);
         }
-        match image::parse_record(record) {
+        match records::parse_record(record) {
             FrameRead::Refused(e) => refused(self, e),
             FrameRead::Read(fr) => {
                 let m = fr.form;

@@ -10,9 +10,9 @@ ghost use Rattle.paste.specs.Stored.{storeRows};
 ghost use Rattle.grid.specs.inner.Rows.{FitsCanvas};
 ghost use Rattle.session.specs.Session.{begun, alphaTold, blankAt, blankPic};
 use image::Form;
-use image::Frame;
 use image::Part;
 use image::PixelFormat;
+use records::Frame;
 
 // The canvas, before its first tile.
 pub fn begin(out: &mut [u8], first: bool, canvas: Form)

@@ -4,7 +4,7 @@ ghost use mathlib.Core.Bool.{true};
 ghost use Prim.Native.Nat.{_<_};
 ghost use Rattle.laws.specs.Out.{isDone};
 ghost use Rattle.image.specs.Format.{judgedSize};
-ghost use Rattle.image.specs.Tray.{noForm};
+ghost use Rattle.records.specs.Tray.{noForm};
 ghost use Rattle.session.specs.Marks.{markOf};
 ghost use Rattle.session.specs.State.{gridOk, formOk, openOf, noCanvas, bareOk, tiledOk, stateOk, hasTile, tileOut, acceptOf};
 use crate::marks::any_marked;

@@ -9,12 +9,12 @@ use Rattle.laws.proofs.Order.{pick-false, pick-true, positive}
 use Rattle.laws.proofs.Out.{refuse-no, refuse-yes, then-done, then-refused}
 use Rattle.laws.specs.Out.{done, fitted, reason, refused}
 use Rattle.laws.specs.declared.Refusal.{Refusal}
-use Rattle.image.proofs.RecordLaws.{whole-sound}
+use Rattle.records.proofs.RecordLaws.{whole-sound}
 use Rattle.image.specs.Format.{odd}
-use Rattle.image.specs.Record.{recordOf}
+use Rattle.records.specs.Record.{recordOf}
 use Rattle.image.specs.Sound.{FormSound}
 use Rattle.image.specs.declared.format.Form.{Form}
-use Rattle.image.specs.declared.record.Frame.{Frame}
+use Rattle.records.specs.declared.record.Frame.{Frame}
 use Rattle.planes.proofs.RoundTrip.{drawn-as, encode-agree}
 use Rattle.planes.specs.Bytes.{decode, encode}
 use Rattle.sizes.proofs.ApertureLaws.{resolve-inside}

@@ -5,8 +5,8 @@ use lib.Dec.{eqb, ltb}
 use Rattle.laws.specs.Out.{Out, andThen, fitted, refuse}
 use Rattle.planes.specs.Bytes.{decode, encode}
 use Rattle.image.specs.Format.{odd}
-use Rattle.image.specs.Record.{recordOf}
-use Rattle.image.specs.declared.record.Frame.{Frame}
+use Rattle.records.specs.Record.{recordOf}
+use Rattle.records.specs.declared.record.Frame.{Frame}
 use Rattle.sizes.specs.Aperture.{resolveOf}
 use Rattle.sizes.specs.declared.clap.CropRect.{CropRect}
 use Rattle.props.specs.declared.entry.Imir.{Imir}

@@ -5,15 +5,13 @@ ghost use lib.ListN.{length};
 ghost use Rattle.laws.specs.Out.{answerOf, written, fitted};
 ghost use Rattle.laws.specs.Puts.{puts};
 ghost use Rattle.image.specs.Sound.{FormSound};
-ghost use Rattle.image.specs.inner.Placed.{Sound};
+ghost use Rattle.records.specs.inner.Placed.{Sound};
 ghost use Rattle.planes.specs.Bytes.{decode, encode};
 ghost use Rattle.moves.specs.inner.Move.{moved, MoveFits};
 ghost use Rattle.transform.specs.inner.Moves.{formWith, endAxis, cropMove, quarterMove, halfMove, mirrorMove, stillMove, turnForm};
 ghost use Rattle.transform.specs.Turn.{quarterOf};
 ghost use Rattle.transform.specs.Run.{cropRun, clapRun, irotRun, imirRun};
 use image::Form;
-use image::Frame;
-use image::FrameRead;
 use image::PixelFormat;
 use laws::Answer;
 use laws::Refusal;
@@ -21,6 +19,8 @@ use moves::Axis;
 use moves::Move;
 use props::Imir;
 use props::Irot;
+use records::Frame;
+use records::FrameRead;
 use sizes::Clap;
 use sizes::CropRect;
 use sizes::Resolved;
@@ -186,7 +186,7 @@ pub fn crop(record: &[u8], r: CropRect, out: &mut [u8]) -> Answer
     ensures { λ a. ⌜ (a ≡ answerOf (cropRun (now («record» .entry)) r (length (now (out .entry)))))
         × (now (out .exit) ≡ written (cropRun (now («record» .entry)) r (length (now (out .entry)))) (now (out .entry))) ⌝ }
 {
-    match image::parse_record(record) {
+    match records::parse_record(record) {
         FrameRead::Refused(e) => Answer::Refused(e),
         FrameRead::Read(f) => {
             let m = f.form;
@@ -212,7 +212,7 @@ pub fn apply_clap(record: &[u8], clap: Clap, out: &mut [u8]) -> Answer
     ensures { λ a. ⌜ (a ≡ answerOf (clapRun (now («record» .entry)) clap (length (now (out .entry)))))
         × (now (out .exit) ≡ written (clapRun (now («record» .entry)) clap (length (now (out .entry)))) (now (out .entry))) ⌝ }
 {
-    match image::parse_record(record) {
+    match records::parse_record(record) {
         FrameRead::Refused(e) => Answer::Refused(e),
         FrameRead::Read(f) => {
             let m = f.form;
@@ -230,7 +230,7 @@ pub fn apply_irot(record: &[u8], irot: Irot, out: &mut [u8]) -> Answer
     ensures { λ a. ⌜ (a ≡ answerOf (irotRun (now («record» .entry)) irot (length (now (out .entry)))))
         × (now (out .exit) ≡ written (irotRun (now («record» .entry)) irot (length (now (out .entry)))) (now (out .entry))) ⌝ }
 {
-    match image::parse_record(record) {
+    match records::parse_record(record) {
         FrameRead::Refused(e) => Answer::Refused(e),
         FrameRead::Read(f) => {
             let m = f.form;
@@ -254,7 +254,7 @@ pub fn apply_imir(record: &[u8], imir: Imir, out: &mut [u8]) -> Answer
     ensures { λ a. ⌜ (a ≡ answerOf (imirRun (now («record» .entry)) imir (length (now (out .entry)))))
         × (now (out .exit) ≡ written (imirRun (now («record» .entry)) imir (length (now (out .entry)))) (now (out .entry))) ⌝ }
 {
-    match image::parse_record(record) {
+    match records::parse_record(record) {
         FrameRead::Refused(e) => Answer::Refused(e),
         FrameRead::Read(f) => {
             let m = f.form;

@@ -29,7 +29,7 @@ use Rattle.sight.specs.inner.Seen.{View}
 use Rattle.sight.proofs.Quarters.{by-quarter, flipped, next, plus, quarter-mirror, quarter-sum}
 use Rattle.planes.proofs.RoundTrip.{length-encode}
 use Rattle.planes.specs.Bytes.{decode, encode, sizeOf}
-use Rattle.image.specs.declared.record.Frame.{Frame}
+use Rattle.records.specs.declared.record.Frame.{Frame}
 use Rattle.sight.specs.Sight.{back, backFrom, exchange, finalHeight, finalWidth, highOf, thenCrop, thenMirror, thenTurn, whole, wideOf}
 use Rattle.sight.specs.declared.Sight.{Sight}
 use Rattle.sizes.specs.Sound.{Inside}

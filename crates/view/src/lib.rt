@@ -3,13 +3,13 @@ ghost use mathlib.Core.Path.{_≡_};
 ghost use Prim.Native.Nat.{_+_, _<_, _^_, _≤_};
 ghost use lib.ListN.{length};
 ghost use Rattle.laws.specs.Puts.{puts};
-ghost use Rattle.image.specs.inner.Placed.{Sound};
+ghost use Rattle.records.specs.inner.Placed.{Sound};
 ghost use Rattle.planes.specs.Bytes.{decode, encode, sizeOf};
 ghost use Rattle.view.specs.inner.View.{Shown, runsLeft, runsUp, shown, sightAxis, sightMove};
 use image::Form;
-use image::Frame;
 use moves::Axis;
 use moves::Move;
+use records::Frame;
 use sight::Sight;
 
 // So many places from one on, or from the last of them back.

@@ -21,7 +21,7 @@ use Rattle.derived.specs.declared.grid.GridDescriptor.{GridDescriptor}
 use Rattle.session.proofs.KeepLaws.{numbers-small}
 use Rattle.session.specs.Marks.{noMarks}
 use Rattle.session.specs.Session.{CanvasAfter, calledOf, drawnBuffer, drawnCall, lengthAnswer, sessionOf}
-use Rattle.image.specs.Tray.{noForm}
+use Rattle.records.specs.Tray.{noForm}
 use Rattle.session.specs.State.{openOf, stateOk}
 use Rattle.session.specs.declared.canvas.Called.{Called}
 use Rattle.words.specs.Canvas.{answeredOut, calledOut, canvasOf, fieldOf, keptWords, marksOf, onState, stateAfter, wordAt, wordsOf}

@@ -14,10 +14,10 @@ ghost use Rattle.words.specs.Fill.{fillFields};
 use crate::code::refusal_code;
 use fill::Ycbcr;
 use image::Form;
-use image::Plane;
 use laws::Refusal;
 use point::Named;
 use point::PointRead;
+use records::Plane;
 use sight::Sight;
 
 // A form's five numbers at the start.

@@ -12,7 +12,7 @@ use Rattle.planes.specs.Bytes.{decode, encode, sizeOf, tightAt}
 use Rattle.planes.specs.Picture.{Pic}
 use Rattle.planes.specs.inner.InRange.{InRange}
 use Rattle.image.specs.Format.{odd}
-use Rattle.image.specs.Record.{recordOf}
+use Rattle.records.specs.Record.{recordOf}
 use Rattle.image.specs.declared.format.Form.{Form}
 use Rattle.sizes.specs.Aperture.{resolveOf}
 use Rattle.props.specs.Chain.{applies, entriesAt, foldChain}

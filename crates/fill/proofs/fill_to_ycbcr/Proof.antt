@@ -4,7 +4,7 @@ use borrow.Author.Needs.{needs}
 use borrow.Author.Tests.{eq-eqb, ne-eqb}
 use Rattle.laws.specs.Out.{refuse}
 use Rattle.laws.specs.Pick.{pick}
-use Rattle.image.proofs.RecordLaws.{depth-sound}
+use Rattle.image.proofs.JudgedLaws.{depth-sound}
 use Rattle.image.specs.Format.{isDepth}
 use Rattle.fill.proofs.fill_to_ycbcr.Statement.{statement}
 use Rattle.fill.specs.Fill.{fillOf, ycbcrOf}

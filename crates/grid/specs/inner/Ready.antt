@@ -5,8 +5,8 @@ use Prim.Native.Nat.{_*_, _<_, _≤_, ℕ}
 use lib.ListN.{getD}
 use Rattle.laws.specs.Out.{done}
 use Rattle.image.specs.Sound.{FormSound}
-use Rattle.image.specs.inner.Placed.{Sound}
-use Rattle.image.specs.Tray.{framesAt, noFrame}
+use Rattle.records.specs.inner.Placed.{Sound}
+use Rattle.records.specs.Tray.{framesAt, noFrame}
 use Rattle.image.specs.declared.format.Form.{Form}
 use Rattle.grid.specs.Run.{framesIn}
 use Rattle.grid.specs.Tiles.{canvasForm, countOf}

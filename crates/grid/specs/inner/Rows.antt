@@ -6,8 +6,8 @@ use Prim.Native.Nat.{_≤_, ℕ}
 use Rattle.image.specs.Format.{isMono}
 use Rattle.image.specs.Sound.{FormSound}
 use Rattle.image.specs.declared.format.Form.{Form}
-use Rattle.image.specs.declared.record.Frame.{Frame}
-use Rattle.image.specs.inner.Placed.{Sound}
+use Rattle.records.specs.declared.record.Frame.{Frame}
+use Rattle.records.specs.inner.Placed.{Sound}
 use Rattle.planes.specs.Bytes.{sizeOf}
 use Rattle.grid.specs.Cell.{tileForm}
 

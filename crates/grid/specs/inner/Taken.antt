@@ -6,9 +6,9 @@ use Prim.Native.Nat.{ℕ}
 use Rattle.laws.specs.Out.{done}
 use Rattle.laws.specs.Pick.{pick}
 use Rattle.image.specs.Format.{hasSize}
-use Rattle.image.specs.Tray.{framesAt}
+use Rattle.records.specs.Tray.{framesAt}
 use Rattle.image.specs.declared.format.Form.{Form}
-use Rattle.image.specs.declared.record.Frame.{Frame}
+use Rattle.records.specs.declared.record.Frame.{Frame}
 use Rattle.grid.specs.Tiles.{sameLayout}
 
 -- so many records stand there

@@ -6,10 +6,10 @@ use lib.Dec.{eqb, leb, ltb}
 use Rattle.laws.specs.Out.{Out, andThen, done, refuse, refused}
 use Rattle.laws.specs.Pick.{pick}
 use Rattle.image.specs.Format.{bytesOf, hasAlpha, isMono, needs444, odd, topOf}
-use Rattle.image.specs.Tray.{framesAt}
+use Rattle.records.specs.Tray.{framesAt}
 use Rattle.image.specs.declared.format.Form.{Form}
 use Rattle.image.specs.declared.format.PixelFormat.{PixelFormat}
-use Rattle.image.specs.declared.record.Frame.{Frame}
+use Rattle.records.specs.declared.record.Frame.{Frame}
 use Rattle.fill.specs.Fill.{fillAlphaOf}
 use Rattle.derived.specs.Overlay.{placementAt}
 use Rattle.derived.specs.declared.overlay.OverlayDescriptor.{OverlayDescriptor}

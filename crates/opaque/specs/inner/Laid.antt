@@ -6,14 +6,14 @@ use Prim.Native.Nat.{_*_, _+_, _<_, _≤_, min, ℕ}
 use lib.Dec.{eqb}
 use Rattle.laws.specs.Pick.{pick}
 use Rattle.image.specs.Format.{bytesOf, columnsOf, cover, halfX, halfY, halvesX, halvesY, hasAlpha, hasPart, middleOf, rowSize, rowsOf, topOf}
-use Rattle.image.specs.Record.{planeOf}
+use Rattle.records.specs.Record.{planeOf}
 use Rattle.image.specs.Sound.{FormSound}
 use Rattle.image.specs.declared.format.Form.{Form}
 use Rattle.image.specs.declared.format.Part.{Part}
 use Rattle.image.specs.declared.format.Part.the-variants.{Alpha, Cb, Cr, Luma}
 use Rattle.image.specs.declared.format.PixelFormat.{PixelFormat}
-use Rattle.image.specs.declared.record.Frame.{Frame}
-use Rattle.image.specs.inner.Placed.{InSlice}
+use Rattle.records.specs.declared.record.Frame.{Frame}
+use Rattle.records.specs.inner.Placed.{InSlice}
 use Rattle.planes.specs.Bytes.{decode, samplesOf, sizeOf, tightAt}
 use Rattle.planes.specs.Picture.{Pic, full}
 use Rattle.paste.specs.Stored.{storeRows}

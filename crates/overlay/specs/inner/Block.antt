@@ -10,8 +10,8 @@ use Rattle.laws.specs.Pick.{pick}
 use Rattle.image.specs.Format.{bytesOf, hasAlpha}
 use Rattle.image.specs.Sound.{FormSound}
 use Rattle.image.specs.declared.format.Part.{Part}
-use Rattle.image.specs.declared.record.Frame.{Frame}
-use Rattle.image.specs.inner.Frames.{framesFrom}
+use Rattle.records.specs.declared.record.Frame.{Frame}
+use Rattle.records.specs.inner.Frames.{framesFrom}
 use Rattle.planes.specs.Bytes.{decode, sampleIn}
 use Rattle.planes.specs.inner.Promoted.{PromotedFits, promotedIn}
 use Rattle.derived.specs.declared.overlay.Placement.{Placement}

@@ -8,7 +8,7 @@ use Rattle.transform.specs.Place.{Place}
 use Rattle.sight.specs.inner.Bounded.{Bounded}
 use Rattle.sight.specs.declared.CanvasPlace.{CanvasPlace}
 use Rattle.grid.specs.declared.tiles.Tiles.{Tiles}
-use Rattle.image.specs.inner.Frames.{framesFrom}
+use Rattle.records.specs.inner.Frames.{framesFrom}
 use Rattle.point.specs.Point.{Look, gridNames, overlayNames}
 use Rattle.point.specs.declared.look.GridLook.{GridLook}
 use Rattle.point.specs.declared.look.GridLookRead.{GridLookRead}

@@ -2,11 +2,11 @@
 use mathlib.Core.List.{List}
 use Prim.Native.Nat.{_+_, _<_, _^_, _≤_, ℕ}
 use lib.ListN.{length}
-use Rattle.image.specs.Record.{planeOf}
-use Rattle.image.specs.inner.Placed.{Sound}
+use Rattle.records.specs.Record.{planeOf}
+use Rattle.records.specs.inner.Placed.{Sound}
 use Rattle.image.specs.declared.format.Part.{Part}
-use Rattle.image.specs.declared.record.Frame.{Frame}
-use Rattle.image.specs.declared.record.Plane.{Plane}
+use Rattle.records.specs.declared.record.Frame.{Frame}
+use Rattle.records.specs.declared.record.Plane.{Plane}
 
 -- a plane inside its record, its stride and its length small enough to be written
 pub record KeptFits (s : List ℕ) (q : Plane) : Type 0 where

@@ -4,9 +4,9 @@ use denote.Ref.{now}
 use borrow.Author.Needs.{needs}
 use Rattle.laws.proofs.Out.{answers-as, refused-answers, then-refused}
 use Rattle.laws.specs.Out.{done, fitted}
-use Rattle.image.proofs.RecordLaws.{whole-sound}
+use Rattle.records.proofs.RecordLaws.{whole-sound}
 use Rattle.planes.specs.Bytes.{decode, encode}
-use Rattle.image.specs.Record.{frameOut, recordOf}
+use Rattle.records.specs.Record.{frameOut, recordOf}
 use Rattle.sizes.proofs.ApertureLaws.{refused-no-rect}
 use Rattle.sizes.specs.Aperture.{resolveOf, resolvedOut}
 use Rattle.transform.proofs.Runs.{clap-drawn, clap-fits, clap-refused}
@@ -17,7 +17,7 @@ use Rattle.transform.proofs.apply_clap.Statement.{statement}
 use Rattle.transform.proofs.apply_clap.Tie as tie
 use Rattle.transform.proofs.apply_clap.Reads as reads
 use Rattle.transform.proofs.apply_clap.Lts as lts
-use Rattle.image.proofs.parse_record.Reads as parse-record-reads
+use Rattle.records.proofs.parse_record.Reads as parse-record-reads
 use Rattle.sizes.proofs.clap.Clap.resolve.Reads as resolve-reads
 use Rattle.sizes.proofs.clap.Resolved.refusal.Reads as refusal-reads
 use Rattle.transform.proofs.crop_move.Reads as crop-move-reads

@@ -4,10 +4,10 @@ use denote.Ref.{now}
 use borrow.Author.Needs.{needs}
 use Rattle.laws.proofs.Out.{answers-as, refused-answers, then-refused}
 use Rattle.laws.specs.Out.{done, fitted}
-use Rattle.image.proofs.RecordLaws.{whole-sound}
+use Rattle.records.proofs.RecordLaws.{whole-sound}
 use Rattle.planes.specs.Bytes.{decode, encode}
 use Rattle.image.specs.Format.{odd}
-use Rattle.image.specs.Record.{frameOut, recordOf}
+use Rattle.records.specs.Record.{frameOut, recordOf}
 use Rattle.transform.proofs.Fits.{mirror-fits}
 use Rattle.transform.proofs.Runs.{mirror-run}
 use Rattle.moves.specs.inner.Move.{moved}
@@ -17,7 +17,7 @@ use Rattle.transform.proofs.apply_imir.Statement.{statement}
 use Rattle.transform.proofs.apply_imir.Tie as tie
 use Rattle.transform.proofs.apply_imir.Reads as reads
 use Rattle.transform.proofs.apply_imir.Lts as lts
-use Rattle.image.proofs.parse_record.Reads as parse-record-reads
+use Rattle.records.proofs.parse_record.Reads as parse-record-reads
 use Rattle.transform.proofs.draw.Reads as draw-reads
 use Rattle.transform.proofs.mirror_move.Reads as mirror-move-reads
 

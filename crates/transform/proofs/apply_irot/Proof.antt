@@ -7,10 +7,10 @@ use denote.Ref.{now}
 use borrow.Author.Needs.{needs}
 use Rattle.laws.proofs.Out.{answers-as, refused-answers, then-refused}
 use Rattle.laws.specs.Out.{Out, done, fitted}
-use Rattle.image.proofs.RecordLaws.{whole-sound}
+use Rattle.records.proofs.RecordLaws.{whole-sound}
 use Rattle.planes.specs.Bytes.{decode, encode}
-use Rattle.image.specs.Record.{frameOut, recordOf}
-use Rattle.image.specs.inner.Placed.{Sound}
+use Rattle.records.specs.Record.{frameOut, recordOf}
+use Rattle.records.specs.inner.Placed.{Sound}
 use Rattle.transform.proofs.Fits.{half-fits, quarter-fits}
 use Rattle.transform.proofs.Runs.{turn-half, turn-left, turn-none, turn-right}
 use Rattle.moves.specs.inner.Move.{moved}
@@ -20,7 +20,7 @@ use Rattle.transform.proofs.apply_irot.Statement.{statement}
 use Rattle.transform.proofs.apply_irot.Tie as tie
 use Rattle.transform.proofs.apply_irot.Reads as reads
 use Rattle.transform.proofs.apply_irot.Lts as lts
-use Rattle.image.proofs.parse_record.Reads as parse-record-reads
+use Rattle.records.proofs.parse_record.Reads as parse-record-reads
 use Rattle.transform.proofs.draw.Reads as draw-reads
 use Rattle.transform.proofs.half_move.Reads as half-move-reads
 use Rattle.planes.proofs.hand_back.Reads as hand-back-reads

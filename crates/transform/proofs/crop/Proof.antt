@@ -4,9 +4,9 @@ use denote.Ref.{now}
 use borrow.Author.Needs.{needs}
 use Rattle.laws.proofs.Out.{answers-as, refused-answers, then-refused}
 use Rattle.laws.specs.Out.{done, fitted}
-use Rattle.image.proofs.RecordLaws.{whole-sound}
+use Rattle.records.proofs.RecordLaws.{whole-sound}
 use Rattle.planes.specs.Bytes.{decode, encode}
-use Rattle.image.specs.Record.{frameOut, recordOf}
+use Rattle.records.specs.Record.{frameOut, recordOf}
 use Rattle.transform.proofs.Runs.{crop-below, crop-flat, crop-inside, crop-right, crop-thin}
 use Rattle.moves.specs.inner.Move.{moved}
 use Rattle.transform.specs.Run.{cropRun}
@@ -15,7 +15,7 @@ use Rattle.transform.proofs.crop.Statement.{statement}
 use Rattle.transform.proofs.crop.Tie as tie
 use Rattle.transform.proofs.crop.Reads as reads
 use Rattle.transform.proofs.crop.Lts as lts
-use Rattle.image.proofs.parse_record.Reads as parse-record-reads
+use Rattle.records.proofs.parse_record.Reads as parse-record-reads
 use Rattle.transform.proofs.crop_move.Reads as crop-move-reads
 use Rattle.transform.proofs.draw.Reads as draw-reads
 

@@ -5,7 +5,7 @@ use denote.Ref.{now}
 use borrow.Author.Needs.{needs}
 use Rattle.laws.proofs.Out.{fitted-room, fitted-short, then-done, then-refused}
 use Rattle.laws.proofs.Writing.{Writing, writing-last, writing-run, writing-start}
-use Rattle.image.specs.Record.{frameOut}
+use Rattle.records.specs.Record.{frameOut}
 use Rattle.words.proofs.Codes.{done-code, refused-code}
 use Rattle.words.specs.Read.{formFields, planeFields, recordWords, recordFields}
 use Rattle.capi.proofs.read.compose_record.Statement.{statement}
@@ -15,7 +15,7 @@ use Rattle.capi.proofs.read.compose_record.Lts as lts
 use Rattle.words.proofs.put_form.Reads as put-form-reads
 use Rattle.words.proofs.put_plane.Reads as put-plane-reads
 use Rattle.words.proofs.refusal_code.Reads as refusal-code-reads
-use Rattle.image.proofs.parse_record.Reads as parse-record-reads
+use Rattle.records.proofs.parse_record.Reads as parse-record-reads
 
 -- the words in turn
 

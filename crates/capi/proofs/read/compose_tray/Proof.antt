@@ -1,13 +1,13 @@
 use mathlib.Core.Path.{_∙_, ap, sym}
 use borrow.Author.Needs.{needs}
-use Rattle.image.specs.Tray.{trayOut}
+use Rattle.records.specs.Tray.{trayOut}
 use Rattle.words.specs.Code.{codeOf}
 use Rattle.capi.proofs.read.compose_tray.Statement.{statement}
 use Rattle.capi.proofs.read.compose_tray.Tie as tie
 use Rattle.capi.proofs.read.compose_tray.Reads as reads
 use Rattle.capi.proofs.read.compose_tray.Lts as lts
 use Rattle.words.proofs.refusal_code.Reads as refusal-code-reads
-use Rattle.image.proofs.check_tray.Reads as check-tray-reads
+use Rattle.records.proofs.check_tray.Reads as check-tray-reads
 
 check-tray-requires : tie.Need-check-tray-requires
 check-tray-requires c κs = search needs

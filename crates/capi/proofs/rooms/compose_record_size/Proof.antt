@@ -1,7 +1,7 @@
 use mathlib.Core.Path.{_∙_, ap, sym}
 use borrow.Author.Needs.{needs}
 use Rattle.laws.proofs.Out.{then-done, then-refused}
-use Rattle.image.proofs.RecordLaws.{form-sound}
+use Rattle.image.proofs.JudgedLaws.{form-sound}
 use Rattle.image.specs.Format.{formOut}
 use Rattle.words.specs.Code.{codeOf}
 use Rattle.capi.proofs.rooms.compose_record_size.Statement.{statement}

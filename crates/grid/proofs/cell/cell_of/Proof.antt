@@ -5,9 +5,9 @@ use borrow.Author.Needs.{needs}
 use Rattle.laws.proofs.Order.{mul-below}
 use Rattle.image.proofs.FormLaws.{columns-le, height-le, rows-le, width-le}
 use Rattle.image.specs.Format.{bytesOf, columnsOf, rowsOf}
-use Rattle.image.specs.Record.{planeOf}
-use Rattle.image.specs.declared.record.Frame.{Frame}
-use Rattle.image.specs.declared.record.Plane.{Plane}
+use Rattle.records.specs.Record.{planeOf}
+use Rattle.records.specs.declared.record.Frame.{Frame}
+use Rattle.records.specs.declared.record.Plane.{Plane}
 use Rattle.planes.specs.Bytes.{tightAt}
 use Rattle.paste.proofs.HeadedLaws.{part-stride}
 use Rattle.grid.proofs.CellFits.{cell-low, cell-narrow, tile-row-le, worked-above, worked-at, worked-before, worked-cell}
@@ -20,7 +20,7 @@ use Rattle.grid.proofs.cell.visible.Reads as visible-reads
 use Rattle.image.proofs.format.PixelFormat.bytes_per_sample.Reads as bytes-per-sample-reads
 use Rattle.image.proofs.format.PixelFormat.columns.Reads as columns-reads
 use Rattle.image.proofs.format.PixelFormat.rows.Reads as rows-reads
-use Rattle.image.proofs.record.Frame.plane.Reads as plane-reads
+use Rattle.records.proofs.record.Frame.plane.Reads as plane-reads
 
 -- the numbers that were worked out
 module _ (c : tie.Else2) where

@@ -17,7 +17,7 @@ use Rattle.image.proofs.format.PixelFormat.half_height.Reads as half-height-rea
 use Rattle.image.proofs.format.PixelFormat.half_width.Reads as half-width-reads
 use Rattle.image.proofs.format.PixelFormat.has.Reads as has-reads
 use Rattle.image.proofs.both.Reads as both-reads
-use Rattle.image.proofs.record.Frame.plane.Reads as plane-reads
+use Rattle.records.proofs.record.Frame.plane.Reads as plane-reads
 use Rattle.planes.proofs.plane_data.Reads as plane-data-reads
 use Rattle.paste.proofs.store_rows.Reads as store-rows-reads
 

@@ -10,10 +10,10 @@ use Rattle.laws.proofs.Order.{mul-below}
 use Rattle.laws.proofs.Puts.{length-puts}
 use Rattle.laws.specs.Out.{done}
 use Rattle.laws.specs.Puts.{puts}
-use Rattle.image.specs.Record.{frameOut}
-use Rattle.image.specs.Tray.{framesAt, noFrame, takenOf}
+use Rattle.records.specs.Record.{frameOut}
+use Rattle.records.specs.Tray.{framesAt, noFrame, takenOf}
 use Rattle.image.specs.declared.format.Form.{Form}
-use Rattle.image.specs.declared.record.Frame.{Frame}
+use Rattle.records.specs.declared.record.Frame.{Frame}
 use Rattle.planes.specs.Bytes.{decode, encode, pictureIn}
 use Rattle.paste.proofs.HeadedLaws.{tight-form}
 use Rattle.grid.proofs.Composed.{composed, drop-head, length-storeTiles, suits-at, tiles-more}
@@ -31,7 +31,7 @@ use Rattle.grid.proofs.cell.draw_tile.Reads as draw-tile-reads
 use Rattle.grid.proofs.paint.outline_canvas.Reads as outline-canvas-reads
 use Rattle.grid.proofs.tiles.canvas_form.Reads as canvas-form-reads
 use Rattle.grid.proofs.tiles.promotes.Reads as promotes-reads
-use Rattle.image.proofs.read_record.Reads as read-record-reads
+use Rattle.records.proofs.read_record.Reads as read-record-reads
 use Rattle.planes.proofs.tight.Reads as tight-reads
 
 abbrev Inv-loop : tie.InvT-loop

@@ -6,8 +6,8 @@ use lib.Dec.{eqb}
 use borrow.Author.Needs.{needs}
 use Rattle.laws.specs.Out.{andThen}
 use Rattle.laws.specs.Pick.{pick}
-use Rattle.image.specs.Record.{frameOut}
-use Rattle.image.specs.Tray.{framesAt}
+use Rattle.records.specs.Record.{frameOut}
+use Rattle.records.specs.Tray.{framesAt}
 use Rattle.grid.proofs.TilesLaws.{frames-end, frames-over, frames-refused, judge-fault, judge-next, judge-start, judge-taken, judged}
 use Rattle.grid.proofs.tiles.judge_tiles.Statement.{statement}
 use Rattle.grid.specs.Tiles.{judgeOf}
@@ -18,7 +18,7 @@ use Rattle.grid.proofs.tiles.first_fault.Reads as first-fault-reads
 use Rattle.grid.proofs.tiles.uncovered.Reads as uncovered-reads
 use Rattle.grid.proofs.tiles.unlike.Reads as unlike-reads
 use Rattle.grid.proofs.tiles.with_tile.Reads as with-tile-reads
-use Rattle.image.proofs.read_record.Reads as read-record-reads
+use Rattle.records.proofs.read_record.Reads as read-record-reads
 
 abbrev Inv-loop : tie.InvT-loop
 Inv-loop tray g at count tile fault₀ alpha₀ next₀ left₀ fault alpha next left = (left ≤ count) × (andThen (framesAt count tray at) (judgeOf g at) ≡ andThen (framesAt left tray next) (judged g at tile fault alpha))

@@ -8,7 +8,7 @@ use borrow.Author.Count.{below-more, below-none}
 use borrow.Author.Needs.{needs}
 use Rattle.laws.specs.Any.{any}
 use Rattle.laws.specs.Puts.{Bytes}
-use Rattle.image.specs.inner.Frames.{framesFrom}
+use Rattle.records.specs.inner.Frames.{framesFrom}
 use Rattle.planes.proofs.ByteLaws.{data-bytes}
 use Rattle.planes.specs.Bytes.{sampleIn}
 use Rattle.inputs.proofs.BlendLaws.{less-one}

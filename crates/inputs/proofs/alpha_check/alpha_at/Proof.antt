@@ -3,7 +3,7 @@ use mathlib.Core.Path.{_∙_, ap, sym}
 use borrow.Author.Needs.{needs}
 use borrow.Author.Tests.{not-false, not-true}
 use Rattle.image.specs.Format.{hasPart}
-use Rattle.image.specs.Record.{frameOut}
+use Rattle.records.specs.Record.{frameOut}
 use Rattle.inputs.proofs.FrameLaws.{found-none, found-refused, found-some}
 use Rattle.inputs.proofs.alpha_check.alpha_at.Statement.{statement}
 use Rattle.inputs.proofs.alpha_check.alpha_at.Tie as tie
@@ -11,7 +11,7 @@ use Rattle.inputs.proofs.alpha_check.alpha_at.Reads as reads
 use Rattle.inputs.proofs.alpha_check.alpha_at.Lts as lts
 use Rattle.image.proofs.format.PixelFormat.bytes_per_sample.Reads as bytes-per-sample-reads
 use Rattle.image.proofs.format.PixelFormat.has.Reads as has-reads
-use Rattle.image.proofs.read_record.Reads as read-record-reads
+use Rattle.records.proofs.read_record.Reads as read-record-reads
 use Rattle.inputs.proofs.alpha_check.no_alpha.Reads as no-alpha-reads
 
 read-record-requires : tie.Need-read-record-requires

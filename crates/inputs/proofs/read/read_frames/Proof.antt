@@ -2,7 +2,7 @@ use mathlib.Core.Path.{_∙_, ap, refl, sym}
 use Prim.Native.Nat.{_-_, _≤_}
 use native.Mathlib.Omega.{arith}
 use borrow.Author.Needs.{needs}
-use Rattle.image.specs.Record.{frameOut}
+use Rattle.records.specs.Record.{frameOut}
 use Rattle.inputs.proofs.SummaryLaws.{SummaryAt, plan-depth, plan-done, plan-refused, preceded-end, preceded-left, preceded-refused, seen-more, seen-none}
 use Rattle.inputs.proofs.read.read_frames.Statement.{statement}
 use Rattle.inputs.specs.inner.Summary.{emptySummary}
@@ -10,7 +10,7 @@ use Rattle.inputs.proofs.read.read_frames.Tie as tie
 use Rattle.inputs.proofs.read.read_frames.Reads as reads
 use Rattle.inputs.proofs.read.read_frames.Lts as lts
 use Rattle.derived.proofs.overlay.OverlayDescriptor.offset.Reads as offset-reads
-use Rattle.image.proofs.read_record.Reads as read-record-reads
+use Rattle.records.proofs.read_record.Reads as read-record-reads
 use Rattle.image.proofs.is_odd.Reads as is-odd-reads
 use Rattle.inputs.proofs.read.compose_form.Reads as compose-form-reads
 use Rattle.inputs.proofs.read.summarise.Reads as summarise-reads

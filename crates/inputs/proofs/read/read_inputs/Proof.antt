@@ -1,7 +1,7 @@
 use mathlib.Core.Path.{_∙_, ap, refl, sym}
 use borrow.Author.Needs.{needs}
-use Rattle.image.proofs.RecordLaws.{record-sound}
-use Rattle.image.specs.Record.{frameOut}
+use Rattle.records.proofs.RecordLaws.{record-sound}
+use Rattle.records.specs.Record.{frameOut}
 use Rattle.derived.proofs.Taken.{overlay-taken}
 use Rattle.derived.specs.Overlay.{overlayOut}
 use Rattle.inputs.proofs.SummaryLaws.{plan-body, plan-list, plan-none, plan-noted, plan-record}
@@ -10,7 +10,7 @@ use Rattle.inputs.proofs.read.read_inputs.Tie as tie
 use Rattle.inputs.proofs.read.read_inputs.Reads as reads
 use Rattle.inputs.proofs.read.read_inputs.Lts as lts
 use Rattle.derived.proofs.overlay.OverlayDescriptor.parse.Reads as parse-reads
-use Rattle.image.proofs.read_record.Reads as read-record-reads
+use Rattle.records.proofs.read_record.Reads as read-record-reads
 use Rattle.inputs.proofs.read.read_frames.Reads as read-frames-reads
 
 parse-requires : tie.Need-parse-requires

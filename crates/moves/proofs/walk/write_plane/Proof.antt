@@ -8,12 +8,12 @@ use borrow.Author.Needs.{needs}
 use Rattle.laws.proofs.Writing.{Writing, writing-begin, writing-fits, writing-last, writing-none, writing-run}
 use Rattle.laws.specs.Puts.{puts}
 use Rattle.planes.proofs.RoundTrip.{plane-none}
-use Rattle.image.specs.Record.{dataOf, planeOf}
+use Rattle.records.specs.Record.{dataOf, planeOf}
 use Rattle.planes.specs.Bytes.{decode, planeBytes, planeHead}
 use Rattle.image.specs.Format.{bytesOf, columnsOf, hasPart, rowsOf}
 use Rattle.planes.specs.Picture.{Pic}
 use Rattle.image.specs.declared.format.PixelFormat.{PixelFormat}
-use Rattle.image.specs.declared.record.Plane.{Plane}
+use Rattle.records.specs.declared.record.Plane.{Plane}
 use Rattle.moves.proofs.Drawn.{Worked, plane-drawn, walk-inside, worked-bytes, worked-inside, worked-size}
 use Rattle.moves.proofs.Walks.{length-walkBytes}
 use Rattle.moves.specs.inner.Move.{WalkInside, moved, walkBytes, walkOf}
@@ -25,7 +25,7 @@ use Rattle.image.proofs.format.PixelFormat.bytes_per_sample.Reads as bytes-per-
 use Rattle.image.proofs.format.PixelFormat.columns.Reads as columns-reads
 use Rattle.image.proofs.format.PixelFormat.has.Reads as has-reads
 use Rattle.image.proofs.format.PixelFormat.rows.Reads as rows-reads
-use Rattle.image.proofs.record.Frame.plane.Reads as plane-reads
+use Rattle.records.proofs.record.Frame.plane.Reads as plane-reads
 use Rattle.planes.proofs.plane_data.Reads as plane-data-reads
 use Rattle.planes.proofs.write_plane_head.Reads as write-plane-head-reads
 use Rattle.moves.proofs.walk.plane_walk.Reads as plane-walk-reads

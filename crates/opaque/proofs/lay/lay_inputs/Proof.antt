@@ -7,9 +7,9 @@ use lib.ListN.{length}
 use borrow.Author.Needs.{needs}
 use denote.Ref.{now}
 use Rattle.laws.specs.Any.{any}
-use Rattle.image.specs.Record.{frameOut}
+use Rattle.records.specs.Record.{frameOut}
 use Rattle.image.specs.declared.format.Form.{Form}
-use Rattle.image.specs.inner.Frames.{framesFrom}
+use Rattle.records.specs.inner.Frames.{framesFrom}
 use Rattle.planes.specs.Bytes.{tightAt}
 use Rattle.paste.proofs.HeadedLaws.{tight-form}
 use Rattle.inputs.proofs.FrameLaws.{record-inside}
@@ -20,7 +20,7 @@ use Rattle.opaque.proofs.lay.lay_inputs.Tie as tie
 use Rattle.opaque.proofs.lay.lay_inputs.Reads as reads
 use Rattle.opaque.proofs.lay.lay_inputs.Lts as lts
 use Rattle.derived.proofs.overlay.OverlayDescriptor.offset.Reads as offset-reads
-use Rattle.image.proofs.read_record.Reads as read-record-reads
+use Rattle.records.proofs.read_record.Reads as read-record-reads
 use Rattle.opaque.proofs.lay.lay_input.Reads as lay-input-reads
 use Rattle.planes.proofs.tight.Reads as tight-reads
 

@@ -12,7 +12,7 @@ use Rattle.opaque.proofs.lay.lay_rows.Tie as tie
 use Rattle.opaque.proofs.lay.lay_rows.Reads as reads
 use Rattle.opaque.proofs.lay.lay_rows.Lts as lts
 use Rattle.image.proofs.format.PixelFormat.top.Reads as top-reads
-use Rattle.image.proofs.record.Frame.plane.Reads as plane-reads
+use Rattle.records.proofs.record.Frame.plane.Reads as plane-reads
 use Rattle.opaque.proofs.lay.may_exceed.Reads as may-exceed-reads
 use Rattle.opaque.proofs.lay.source_of.Reads as source-of-reads
 use Rattle.paste.proofs.store_capped.Reads as store-capped-reads

@@ -5,9 +5,9 @@ use native.Mathlib.Omega.{arith}
 use borrow.Author.Needs.{needs}
 use Rattle.image.proofs.FormLaws.{columns-le, height-le, rows-le, width-le}
 use Rattle.image.specs.Format.{columnsOf, rowsOf}
-use Rattle.image.specs.Record.{planeOf}
-use Rattle.image.specs.declared.record.Frame.{Frame}
-use Rattle.image.specs.declared.record.Plane.{Plane}
+use Rattle.records.specs.Record.{planeOf}
+use Rattle.records.specs.declared.record.Frame.{Frame}
+use Rattle.records.specs.declared.record.Plane.{Plane}
 use Rattle.planes.specs.Bytes.{tightAt}
 use Rattle.paste.proofs.HeadedLaws.{part-end}
 use Rattle.opaque.proofs.PlaceLaws.{above-small, before-small, place-worked}
@@ -22,7 +22,7 @@ use Rattle.image.proofs.format.PixelFormat.columns.Reads as columns-reads
 use Rattle.image.proofs.format.PixelFormat.half_height.Reads as half-height-reads
 use Rattle.image.proofs.format.PixelFormat.half_width.Reads as half-width-reads
 use Rattle.image.proofs.format.PixelFormat.rows.Reads as rows-reads
-use Rattle.image.proofs.record.Frame.plane.Reads as plane-reads
+use Rattle.records.proofs.record.Frame.plane.Reads as plane-reads
 use Rattle.opaque.proofs.axis.window_of.Reads as window-of-reads
 
 columns-is : (c : tie.After-columns) → let start = c .before .before .before .before in c .columns .result ≡ columnsOf (start .args .to .form) (start .args .part)

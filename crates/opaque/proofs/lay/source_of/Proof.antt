@@ -10,7 +10,7 @@ use Rattle.image.proofs.format.PixelFormat.bytes_per_sample.Reads as bytes-per-
 use Rattle.image.proofs.format.PixelFormat.half_height.Reads as half-height-reads
 use Rattle.image.proofs.format.PixelFormat.half_width.Reads as half-width-reads
 use Rattle.image.proofs.both.Reads as both-reads
-use Rattle.image.proofs.record.Frame.plane.Reads as plane-reads
+use Rattle.records.proofs.record.Frame.plane.Reads as plane-reads
 use Rattle.planes.proofs.covering.Reads as covering-reads
 
 plane-requires : tie.Need-plane-requires

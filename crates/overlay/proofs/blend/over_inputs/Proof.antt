@@ -4,19 +4,19 @@ use native.Mathlib.Nat.{sub-zero}
 use native.Mathlib.Omega.{arith}
 use lib.ListN.{getD, length}
 use borrow.Author.Needs.{needs}
-use Rattle.image.specs.Record.{frameOut}
+use Rattle.records.specs.Record.{frameOut}
 use Rattle.inputs.proofs.FrameLaws.{record-inside}
 use Rattle.overlay.proofs.StripeLaws.{all-over, all-none, all-refused}
 use Rattle.overlay.proofs.blend.over_inputs.Statement.{statement}
 use Rattle.overlay.specs.inner.Block.{acrossAt, downAt}
-use Rattle.image.specs.inner.Frames.{framesFrom}
+use Rattle.records.specs.inner.Frames.{framesFrom}
 use Rattle.overlay.specs.Overlay.{overAll}
 use Rattle.inputs.specs.Layers.{layersOf}
 use Rattle.overlay.proofs.blend.over_inputs.Tie as tie
 use Rattle.overlay.proofs.blend.over_inputs.Reads as reads
 use Rattle.overlay.proofs.blend.over_inputs.Lts as lts
 use Rattle.derived.proofs.overlay.OverlayDescriptor.offset.Reads as offset-reads
-use Rattle.image.proofs.read_record.Reads as read-record-reads
+use Rattle.records.proofs.read_record.Reads as read-record-reads
 use Rattle.overlay.proofs.blend.over_input.Reads as over-input-reads
 
 abbrev Inv-loop : tie.InvT-loop

@@ -13,7 +13,7 @@ use Rattle.overlay.proofs.blend.over_line.Statement.{statement}
 use Rattle.overlay.proofs.blend.over_line.Tie as tie
 use Rattle.overlay.proofs.blend.over_line.Reads as reads
 use Rattle.overlay.proofs.blend.over_line.Lts as lts
-use Rattle.image.proofs.record.Frame.plane.Reads as plane-reads
+use Rattle.records.proofs.record.Frame.plane.Reads as plane-reads
 use Rattle.planes.proofs.plane_data.Reads as plane-data-reads
 use Rattle.overlay.proofs.blend.first_place.Reads as first-place-reads
 use Rattle.overlay.proofs.blend.over_row.Reads as over-row-reads

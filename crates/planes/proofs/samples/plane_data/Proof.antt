@@ -4,7 +4,7 @@ use native.Mathlib.Omega.{arith}
 use lib.ListN.{drop, take}
 use denote.Ref.{now}
 use borrow.Author.Needs.{needs}
-use Rattle.image.specs.Record.{dataOf}
+use Rattle.records.specs.Record.{dataOf}
 use Rattle.planes.proofs.samples.plane_data.Statement.{statement}
 use Rattle.planes.proofs.samples.plane_data.Tie as tie
 use Rattle.planes.proofs.samples.plane_data.Reads as reads

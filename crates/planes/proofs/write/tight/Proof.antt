@@ -3,7 +3,7 @@ use native.Mathlib.Omega.{arith}
 use borrow.Author.Needs.{needs}
 use Rattle.planes.proofs.RoundTrip.{tight-planes}
 use Rattle.planes.proofs.write.tight.Statement.{statement}
-use Rattle.image.specs.Record.{past}
+use Rattle.records.specs.Record.{past}
 use Rattle.planes.proofs.write.tight.Tie as tie
 use Rattle.planes.proofs.write.tight.Reads as reads
 use Rattle.planes.proofs.write.tight.Lts as lts

@@ -3,8 +3,8 @@ use Prim.Native.Nat.{_-_, _≤_}
 use native.Mathlib.Nat.{sub-zero}
 use native.Mathlib.Omega.{arith}
 use borrow.Author.Needs.{needs}
-use Rattle.image.specs.Record.{frameOut}
-use Rattle.image.specs.inner.Frames.{framesFrom}
+use Rattle.records.specs.Record.{frameOut}
+use Rattle.records.specs.inner.Frames.{framesFrom}
 use Rattle.point.proofs.PointLaws.{top-next, top-none, top-refused}
 use Rattle.point.proofs.names.name_topmost.Statement.{statement}
 use Rattle.point.specs.Point.{topmostNamed}
@@ -14,7 +14,7 @@ use Rattle.point.proofs.names.name_topmost.Tie as tie
 use Rattle.point.proofs.names.name_topmost.Reads as reads
 use Rattle.point.proofs.names.name_topmost.Lts as lts
 use Rattle.derived.proofs.overlay.OverlayDescriptor.offset.Reads as offset-reads
-use Rattle.image.proofs.read_record.Reads as read-record-reads
+use Rattle.records.proofs.read_record.Reads as read-record-reads
 use Rattle.point.proofs.names.name_input.Reads as name-input-reads
 
 abbrev Inv-loop : tie.InvT-loop

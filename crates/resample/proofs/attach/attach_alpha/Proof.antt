@@ -5,7 +5,7 @@ use borrow.Author.Needs.{needs}
 use denote.Ref.{now}
 use Rattle.laws.proofs.Out.{done-answers, fitted-room, fitted-short, refused-answers, then-refused}
 use Rattle.laws.specs.Out.{done}
-use Rattle.image.specs.Record.{frameOut, recordOf}
+use Rattle.records.specs.Record.{frameOut, recordOf}
 use Rattle.resample.proofs.AttachLaws.{attach-refused, attach-run, whole-of}
 use Rattle.resample.proofs.attach.attach_alpha.Statement.{statement}
 use Rattle.resample.specs.Attach.{attachBytes}
@@ -13,7 +13,7 @@ use Rattle.resample.specs.Run.{attachRun}
 use Rattle.resample.proofs.attach.attach_alpha.Tie as tie
 use Rattle.resample.proofs.attach.attach_alpha.Reads as reads
 use Rattle.resample.proofs.attach.attach_alpha.Lts as lts
-use Rattle.image.proofs.parse_record.Reads as parse-record-reads
+use Rattle.records.proofs.parse_record.Reads as parse-record-reads
 use Rattle.resample.proofs.attach.attached_size.Reads as attached-size-reads
 use Rattle.resample.proofs.attach.write_attached.Reads as write-attached-reads
 

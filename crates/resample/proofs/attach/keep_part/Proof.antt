@@ -15,7 +15,7 @@ use Rattle.resample.proofs.attach.keep_part.Tie as tie
 use Rattle.resample.proofs.attach.keep_part.Reads as reads
 use Rattle.resample.proofs.attach.keep_part.Lts as lts
 use Rattle.image.proofs.format.PixelFormat.has.Reads as has-reads
-use Rattle.image.proofs.record.Frame.plane.Reads as plane-reads
+use Rattle.records.proofs.record.Frame.plane.Reads as plane-reads
 use Rattle.resample.proofs.attach.keep_plane.Reads as keep-plane-reads
 
 there : (c : tie.After-plane) → hasPart (c .before .before .before .before .before .before .before .before .args .fr .form .format) (c .before .before .before .before .before .before .before .before .args .part) ≡ true

@@ -8,7 +8,7 @@ use denote.Ref.{now}
 use Rattle.laws.proofs.Writing.{Writing, writing-fits, writing-last, writing-run, writing-start}
 use Rattle.laws.specs.Puts.{puts}
 use Rattle.numbers.specs.Number.{numberBytes}
-use Rattle.image.specs.Record.{dataOf}
+use Rattle.records.specs.Record.{dataOf}
 use Rattle.resample.proofs.attach.keep_plane.Statement.{statement}
 use Rattle.resample.specs.Attach.{keptPlane}
 use Rattle.resample.proofs.attach.keep_plane.Tie as tie

@@ -12,7 +12,7 @@ use Rattle.resample.proofs.attach.part_size.Tie as tie
 use Rattle.resample.proofs.attach.part_size.Reads as reads
 use Rattle.resample.proofs.attach.part_size.Lts as lts
 use Rattle.image.proofs.format.PixelFormat.has.Reads as has-reads
-use Rattle.image.proofs.record.Frame.plane.Reads as plane-reads
+use Rattle.records.proofs.record.Frame.plane.Reads as plane-reads
 use Rattle.resample.proofs.attach.kept_size.Reads as kept-size-reads
 
 there : (c : tie.After-plane) → hasPart (c .before .before .before .before .before .before .args .fr .form .format) (c .before .before .before .before .before .before .args .part) ≡ true

@@ -8,11 +8,11 @@ use denote.Ref.{now}
 use Rattle.laws.proofs.Writing.{Writing, writing-begin, writing-fits, writing-last, writing-none, writing-run}
 use Rattle.laws.specs.Puts.{puts}
 use Rattle.planes.proofs.RoundTrip.{plane-none}
-use Rattle.image.specs.Record.{dataOf, planeOf}
+use Rattle.records.specs.Record.{dataOf, planeOf}
 use Rattle.planes.specs.Bytes.{decode, planeBytes, planeHead}
 use Rattle.image.specs.Format.{hasPart}
 use Rattle.planes.specs.Picture.{Pic}
-use Rattle.image.specs.declared.record.Plane.{Plane}
+use Rattle.records.specs.declared.record.Plane.{Plane}
 use Rattle.rasters.proofs.RedrawLaws.{Worked, length-rasterBytes, plane-drawn, plane-raster, plane-rule, worked-bytes, worked-fits, worked-rule, worked-size}
 use Rattle.resample.proofs.draw.write_plane.Statement.{statement}
 use Rattle.rasters.specs.inner.Redraw.{RasterFits, RuleFits, rasterBytes, rasterOf, redrawn}
@@ -22,7 +22,7 @@ use Rattle.resample.proofs.draw.write_plane.Reads as reads
 use Rattle.resample.proofs.draw.write_plane.Lts as lts
 use Rattle.image.proofs.format.PixelFormat.has.Reads as has-reads
 use Rattle.planes.proofs.write_plane_head.Reads as write-plane-head-reads
-use Rattle.image.proofs.record.Frame.plane.Reads as plane-reads
+use Rattle.records.proofs.record.Frame.plane.Reads as plane-reads
 use Rattle.resample.proofs.draw.plane_raster.Reads as plane-raster-reads
 use Rattle.planes.proofs.plane_data.Reads as plane-data-reads
 use Rattle.rasters.proofs.write_rows.Reads as write-rows-reads

@@ -4,9 +4,10 @@ use denote.Ref.{now}
 use borrow.Author.Needs.{needs}
 use Rattle.laws.proofs.Out.{answers-as, refused-answers, then-refused}
 use Rattle.laws.specs.Out.{done}
-use Rattle.image.proofs.RecordLaws.{depth-sound, whole-sound}
+use Rattle.image.proofs.JudgedLaws.{depth-sound}
+use Rattle.records.proofs.RecordLaws.{whole-sound}
 use Rattle.image.specs.Format.{isDepth}
-use Rattle.image.specs.Record.{frameOut, recordOf}
+use Rattle.records.specs.Record.{frameOut, recordOf}
 use Rattle.resample.proofs.RunLaws.{depth-drawn, depth-fits, depth-outside, depth-same}
 use Rattle.resample.proofs.rescale.rescale_depth.Statement.{statement}
 use Rattle.rasters.specs.Depth.{toDepth}
@@ -15,7 +16,7 @@ use Rattle.resample.proofs.rescale.rescale_depth.Tie as tie
 use Rattle.resample.proofs.rescale.rescale_depth.Reads as reads
 use Rattle.resample.proofs.rescale.rescale_depth.Lts as lts
 use Rattle.image.proofs.format.PixelFormat.is_depth.Reads as is-depth-reads
-use Rattle.image.proofs.parse_record.Reads as parse-record-reads
+use Rattle.records.proofs.parse_record.Reads as parse-record-reads
 use Rattle.planes.proofs.hand_back.Reads as hand-back-reads
 use Rattle.resample.proofs.draw.draw.Reads as draw-reads
 

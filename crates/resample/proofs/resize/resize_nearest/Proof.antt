@@ -4,9 +4,10 @@ use borrow.Author.Needs.{needs}
 use denote.Ref.{now}
 use Rattle.laws.proofs.Out.{answers-as, refused-answers, then-refused}
 use Rattle.laws.specs.Out.{done, fitted}
-use Rattle.image.proofs.RecordLaws.{whole-sound, judged-sound}
+use Rattle.records.proofs.RecordLaws.{whole-sound}
+use Rattle.image.proofs.JudgedLaws.{judged-sound}
 use Rattle.planes.specs.Bytes.{decode, encode}
-use Rattle.image.specs.Record.{frameOut, recordOf}
+use Rattle.records.specs.Record.{frameOut, recordOf}
 use Rattle.image.specs.declared.format.Form.{Form}
 use Rattle.image.specs.Format.{judgedSize, sizeOut}
 use Rattle.resample.proofs.RunLaws.{near-fits, nearRule, nearest-drawn, nearest-refused, nearest-same}
@@ -16,7 +17,7 @@ use Rattle.resample.specs.Run.{nearestRun}
 use Rattle.resample.proofs.resize.resize_nearest.Tie as tie
 use Rattle.resample.proofs.resize.resize_nearest.Reads as reads
 use Rattle.resample.proofs.resize.resize_nearest.Lts as lts
-use Rattle.image.proofs.parse_record.Reads as parse-record-reads
+use Rattle.records.proofs.parse_record.Reads as parse-record-reads
 use Rattle.image.proofs.size.Size.judge.Reads as judge-reads
 use Rattle.image.proofs.format.Form.has_size.Reads as has-size-reads
 use Rattle.planes.proofs.hand_back.Reads as hand-back-reads

@@ -3,8 +3,8 @@ use borrow.Author.Needs.{needs}
 use denote.Ref.{now}
 use Rattle.laws.proofs.Out.{answers-as, refused-answers, then-refused}
 use Rattle.laws.specs.Out.{done}
-use Rattle.image.proofs.RecordLaws.{whole-sound}
-use Rattle.image.specs.Record.{frameOut, recordOf}
+use Rattle.records.proofs.RecordLaws.{whole-sound}
+use Rattle.records.specs.Record.{frameOut, recordOf}
 use Rattle.sizes.specs.Scale.{scaleOf}
 use Rattle.image.specs.Format.{sizeOut}
 use Rattle.resample.proofs.RunLaws.{iscl-fits, iscl-refused, iscl-run}
@@ -13,7 +13,7 @@ use Rattle.resample.specs.Run.{isclRun}
 use Rattle.resample.proofs.scale.apply_iscl.Tie as tie
 use Rattle.resample.proofs.scale.apply_iscl.Reads as reads
 use Rattle.resample.proofs.scale.apply_iscl.Lts as lts
-use Rattle.image.proofs.parse_record.Reads as parse-record-reads
+use Rattle.records.proofs.parse_record.Reads as parse-record-reads
 use Rattle.sizes.proofs.iscl.Iscl.output_size.Reads as output-size-reads
 use Rattle.resample.proofs.scale.resize_area.Reads as resize-area-reads
 

@@ -1,7 +1,7 @@
 use mathlib.Core.Path.{refl}
 use Rattle.session.proofs.state.no_form.Statement.{statement}
 use Rattle.session.specs.State.{noCanvas, openOf}
-use Rattle.image.specs.Tray.{noForm}
+use Rattle.records.specs.Tray.{noForm}
 use Rattle.session.proofs.state.no_form.Tie as tie
 use Rattle.session.proofs.state.no_form.Reads as reads
 use Rattle.session.proofs.state.no_form.Lts as lts

@@ -7,8 +7,8 @@ use lib.ListN.{length}
 use borrow.Author.Needs.{needs}
 use borrow.Author.Tests.{not-false, not-true}
 use Rattle.laws.specs.Out.{done}
-use Rattle.image.proofs.RecordLaws.{whole-sound}
-use Rattle.image.specs.Record.{frameOut, recordOf}
+use Rattle.records.proofs.RecordLaws.{whole-sound}
+use Rattle.records.specs.Record.{frameOut, recordOf}
 use Rattle.image.specs.Sound.{FormSound}
 use Rattle.image.specs.declared.format.Form.{Form}
 use Rattle.planes.specs.Bytes.{sizeOf}
@@ -27,7 +27,7 @@ use Rattle.grid.proofs.draw_tile.Reads as draw-tile-reads
 use Rattle.grid.proofs.canvas_form.Reads as canvas-form-reads
 use Rattle.grid.proofs.promotes.Reads as promotes-reads
 use Rattle.grid.proofs.with_tile.Reads as with-tile-reads
-use Rattle.image.proofs.parse_record.Reads as parse-record-reads
+use Rattle.records.proofs.parse_record.Reads as parse-record-reads
 use Rattle.planes.proofs.record_size.Reads as record-size-reads
 use Rattle.planes.proofs.tight.Reads as tight-reads
 use Rattle.session.proofs.canvas.refused.Reads as refused-reads
