@@ -25,9 +25,9 @@ use Rattle.transform.specs.Chain.{picAfter}
 use Rattle.transform.specs.Place.{sideways, swaps, unturn}
 use Rattle.transform.specs.Turn.{fromBottom, fromRight, lopsided, quarterOf, turn, turned}
 use Rattle.sight.specs.Sight.{back, backFrom, exchange, finalHeight, finalWidth, highOf, sourcePlace, sightAfter, sightOf, thenTurn, whole, wideOf}
-use Rattle.rasters.specs.Area.{area, areaMean, aroundOf, firstOf, footOf, pastOf, shareOf, sum, weighed, weightOf}
-use Rattle.rasters.specs.Depth.{levelOf, rescaled, toDepth}
-use Rattle.rasters.specs.Rounded.{rounded}
+use Rattle.sampling.specs.Area.{area, areaMean, aroundOf, firstOf, footOf, pastOf, shareOf, sum, weighed, weightOf}
+use Rattle.sampling.specs.Depth.{levelOf, rescaled, toDepth}
+use Rattle.sampling.specs.Rounded.{rounded}
 use Rattle.resample.specs.Run.{areaBytes, depthBytes, depthRun, isclRun}
 use Rattle.grid.specs.Cell.{tileForm, tilePic}
 use Rattle.grid.specs.Mosaic.{gridPic, mosaicAt, opaqueAt, tileIndex}

@@ -31,10 +31,10 @@ use Rattle.transform.proofs.Carried.{crop-made, draws-agree, draws-form, draws-
 use Rattle.transform.specs.inner.Moves.{mirrorMove}
 use Rattle.transform.specs.Run.{turnBytes}
 use Rattle.transform.specs.Turn.{Quarter, q0, q1, q2, q3, quarterOf, turn}
-use Rattle.rasters.proofs.AgreeLaws.{area-agree}
+use Rattle.sampling.proofs.AgreeLaws.{area-agree}
 use Rattle.resample.proofs.RunLaws.{own-sound, sized-sound}
-use Rattle.rasters.proofs.SmallLaws.{area-small}
-use Rattle.rasters.specs.Area.{area}
+use Rattle.sampling.proofs.SmallLaws.{area-small}
+use Rattle.sampling.specs.Area.{area}
 use Rattle.resample.specs.Run.{areaBytes}
 use Rattle.transform.specs.Chain.{picAfter}
 use Rattle.chains.specs.inner.Apply.{recordAfter}

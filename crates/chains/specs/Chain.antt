@@ -13,7 +13,7 @@ use Rattle.props.specs.declared.entry.Property.{Property}
 use Rattle.props.specs.declared.entry.PropertyEntry.{PropertyEntry}
 use Rattle.sizes.specs.declared.iscl.Iscl.{Iscl}
 use Rattle.transform.specs.Chain.{picAfter}
-use Rattle.rasters.specs.Area.{area}
+use Rattle.sampling.specs.Area.{area}
 use Rattle.image.specs.Format.{hasSize}
 
 -- iscl: its refusals, then resize_area; an unchanged size hands the picture back

@@ -22,10 +22,10 @@ use Rattle.sizes.proofs.ScaleLaws.{scaled-covers, scaled-least}
 use Rattle.sight.proofs.Agreement.{covers-some}
 use Rattle.steps_text.proofs.Cases.{example}
 use Rattle.steps_text.proofs.TextLaws.{text-fits, text-prefix}
-use Rattle.rasters.proofs.DepthLaws.{level-mono, level-top, level-zero}
-use Rattle.rasters.proofs.MeanLaws.{area-constant, weights-whole}
-use Rattle.rasters.proofs.SameLaws.{area-same, nearest-same, rescaled-same}
-use Rattle.rasters.specs.Depth.{levelOf}
+use Rattle.sampling.proofs.DepthLaws.{level-mono, level-top, level-zero}
+use Rattle.sampling.proofs.MeanLaws.{area-constant, weights-whole}
+use Rattle.sampling.proofs.SameLaws.{area-same, nearest-same, rescaled-same}
+use Rattle.sampling.specs.Depth.{levelOf}
 use Rattle.overlay.proofs.Sentences.{composed-settled, composed-uncovered}
 use Rattle.session.proofs.CallLaws.{blank-before-alpha, blank-leaves, blank-over, calls-leave, other-cell, place-leaves, place-over}
 use Rattle.session.proofs.ComposeLaws.{any-order-composes}

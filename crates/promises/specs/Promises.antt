@@ -40,9 +40,9 @@ use Rattle.transform.specs.Place.{Place}
 use Rattle.sight.specs.Carry.{Tracked}
 use Rattle.sight.specs.declared.Sight.{Sight}
 use Rattle.steps_text.specs.Text.{textOf}
-use Rattle.rasters.specs.Area.{area, footOf, weighed}
-use Rattle.rasters.specs.Depth.{levelOf, rescaled}
-use Rattle.rasters.specs.Nearest.{nearest}
+use Rattle.sampling.specs.Area.{area, footOf, weighed}
+use Rattle.sampling.specs.Depth.{levelOf, rescaled}
+use Rattle.sampling.specs.Nearest.{nearest}
 use Rattle.grid.specs.Mosaic.{among}
 use Rattle.grid.specs.Run.{framesIn, gridRun}
 use Rattle.grid.specs.Tiles.{countOf, tilesOf}

@@ -20,23 +20,23 @@ use Rattle.image.specs.Format.{topAt}
 use Rattle.planes.proofs.ByteLaws.{length-sampleBytes, length-samplesOf}
 use Rattle.planes.specs.Bytes.{sampleAt, sampleBytes, sampleIn, samplesOf}
 use Rattle.turns.specs.inner.Stepped.{SteppedFits, stepTo, stepped}
-use Rattle.rasters.proofs.DepthLaws.{level-mono, level-top}
-use Rattle.rasters.proofs.FootLaws.{min-le}
-use Rattle.rasters.proofs.RedrawLaws.{length-rasterRow}
-use Rattle.rasters.proofs.PlaceLaws.{level-other, level-same, near-in, near-same}
-use Rattle.rasters.specs.Depth.{levelOf}
-use Rattle.rasters.specs.Nearest.{nearPlace}
-use Rattle.rasters.specs.Rounded.{rounded}
-use Rattle.rasters.specs.declared.area.Foot.{Foot}
-use Rattle.rasters.specs.declared.depth.Depths.{Depths}
-use Rattle.rasters.specs.declared.write.Axis.{Axis}
-use Rattle.rasters.specs.declared.write.NearRow.{NearRow}
-use Rattle.rasters.specs.declared.write.Raster.{Raster}
-use Rattle.rasters.specs.declared.write.RowRule.{RowRule}
-use Rattle.rasters.specs.declared.write.Rule.{Rule}
-use Rattle.rasters.specs.inner.Depths.{DepthsFit}
+use Rattle.sampling.proofs.DepthLaws.{level-mono, level-top}
+use Rattle.sampling.proofs.FootLaws.{min-le}
+use Rattle.sampling.proofs.RedrawLaws.{length-rasterRow}
+use Rattle.sampling.proofs.PlaceLaws.{level-other, level-same, near-in, near-same}
+use Rattle.sampling.specs.Depth.{levelOf}
+use Rattle.sampling.specs.Nearest.{nearPlace}
+use Rattle.sampling.specs.Rounded.{rounded}
+use Rattle.sampling.specs.declared.area.Foot.{Foot}
+use Rattle.sampling.specs.declared.depth.Depths.{Depths}
+use Rattle.sampling.specs.declared.raster.Axis.{Axis}
+use Rattle.sampling.specs.declared.raster.NearRow.{NearRow}
+use Rattle.sampling.specs.declared.raster.Raster.{Raster}
+use Rattle.sampling.specs.declared.raster.RowRule.{RowRule}
+use Rattle.sampling.specs.declared.raster.Rule.{Rule}
+use Rattle.sampling.specs.inner.Depths.{DepthsFit}
 use Rattle.rasters.specs.inner.Levels.{HasTable, Levels, lookOf, lookedRow}
-use Rattle.rasters.specs.inner.Redraw.{RasterFits, RuleFits, RuleRowFits, hasSteps, rasterAt, rasterRow, rowAt, rowOf}
+use Rattle.sampling.specs.inner.Redraw.{RasterFits, RuleFits, RuleRowFits, hasSteps, rasterAt, rasterRow, rowAt, rowOf}
 
 -- ---- a table
 

@@ -1,10 +1,1 @@
-pub mod FootLaws
-pub mod PlaceLaws
-pub mod DepthLaws
 pub mod LevelLaws
-pub mod ColumnLaws
-pub mod RedrawLaws
-pub mod AgreeLaws
-pub mod SmallLaws
-pub mod SameLaws
-pub mod MeanLaws

@@ -1,6 +1,2 @@
 -- What only proofs and the contracts of inner functions cite: no public promise does.
-pub mod Depths
-pub mod Redraw
-pub mod Sums
 pub mod Levels
-pub mod Columns

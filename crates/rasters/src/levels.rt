@@ -4,13 +4,13 @@ ghost use mathlib.Core.Bool.{true};
 ghost use Prim.Native.Nat.{_+_, _*_, _<_, _≤_};
 ghost use lib.ListN.{length};
 ghost use Rattle.laws.specs.Puts.{puts};
-ghost use Rattle.rasters.specs.declared.write.Rule.{Rule};
-ghost use Rattle.rasters.specs.inner.Depths.{DepthsFit};
+ghost use Rattle.sampling.specs.declared.raster.Rule.{Rule};
+ghost use Rattle.sampling.specs.inner.Depths.{DepthsFit};
 ghost use Rattle.rasters.specs.inner.Levels.{HasTable, Levels, lookOf, lookedRow};
-ghost use Rattle.rasters.specs.inner.Redraw.{AxisFits, RasterFits, rasterBytes};
-use crate::depth::Depths;
-use crate::write::Raster;
+ghost use Rattle.sampling.specs.inner.Redraw.{AxisFits, RasterFits, rasterBytes};
 use image::PixelFormat;
+use sampling::Depths;
+use sampling::Raster;
 
 // Whether a plane keeps its size, gets another depth from one of at most 12 bits, and has as many samples as the table would.
 pub(crate) fn has_table(r: Raster, depths: Depths) -> bool

@@ -3,42 +3,12 @@ ghost use mathlib.Core.Path.{_≡_};
 ghost use Prim.Native.Nat.{_+_, _*_, _<_, _≤_};
 ghost use lib.ListN.{length};
 ghost use Rattle.laws.specs.Puts.{puts};
-ghost use Rattle.rasters.specs.inner.Redraw.{rowOf, hasSteps, rasterAt, rasterRow, rasterBytes, RuleFits, RuleRowFits, AxisFits, RasterFits};
-use crate::area::Foot;
-use crate::depth::Depths;
-
-// Along one axis of a plane: how many samples there were, and how many there are to be.
-pub struct Axis {
-    pub from: usize,
-    pub to: usize,
-}
-
-// How a sample is worked out: from the nearest one, at another depth; or as the mean over its footprint.
-pub enum Rule {
-    Near(Depths),
-    Area,
-}
-
-// A plane by its bytes, and the plane that is made of it.
-pub struct Raster {
-    pub bytes: usize,
-    pub stride: usize,
-    pub to_bytes: usize,
-    pub across: Axis,
-    pub down: Axis,
-    pub rule: Rule,
-}
-
-// What is fixed along a row: the row of the nearest samples, or the row's footprint.
-pub struct NearRow {
-    pub y: usize,
-    pub depths: Depths,
-}
-
-pub enum RowRule {
-    Near(NearRow),
-    Area(Foot),
-}
+ghost use Rattle.sampling.specs.inner.Redraw.{rowOf, hasSteps, rasterAt, rasterRow, rasterBytes, RuleFits, RuleRowFits, AxisFits, RasterFits};
+use sampling::Depths;
+use sampling::NearRow;
+use sampling::Raster;
+use sampling::RowRule;
+use sampling::Rule;
 
 // What is fixed along row y.
 fn row_rule(r: Raster, y: usize) -> RowRule
@@ -49,10 +19,10 @@ fn row_rule(r: Raster, y: usize) -> RowRule
     let rule = r.rule;
     match rule {
         Rule::Near(depths) => RowRule::Near(NearRow {
-            y: crate::nearest::nearest_place(down, y),
+            y: sampling::nearest_place(down, y),
             depths,
         }),
-        Rule::Area => RowRule::Area(crate::area::footprint(down, y)),
+        Rule::Area => RowRule::Area(sampling::footprint(down, y)),
     }
 }
 
@@ -65,14 +35,14 @@ fn row_sample(plane: &[u8], r: Raster, row: RowRule, x: usize) -> u16
     match row {
         RowRule::Near(k) => {
             let depths = k.depths;
-            let u = crate::nearest::nearest_place(across, x);
+            let u = sampling::nearest_place(across, x);
             depths.level(planes::sample(plane, r.bytes, r.stride, u, k.y))
         }
-        RowRule::Area(down) => crate::area::area_sample(
+        RowRule::Area(down) => sampling::area_sample(
             plane,
             r.bytes,
             r.stride,
-            crate::area::footprint(across, x),
+            sampling::footprint(across, x),
             down,
         ),
     }
@@ -123,7 +93,7 @@ fn write_row(out: &mut [u8], at: usize, plane: &[u8], r: Raster, row: RowRule) -
         }
         RowRule::Area(down) => {
             if down.end - down.start <= 65536 {
-                return crate::sums::write_area_row(out, at, plane, r, down);
+                return means::write_area_row(out, at, plane, r, down);
             }
             write_samples(out, at, plane, r, row)
         }

@@ -27,13 +27,13 @@ use Rattle.planes.specs.Picture.{Agree, Pic}
 use Rattle.sizes.proofs.ScaleLaws.{scale-sound}
 use Rattle.sizes.specs.Scale.{changed, scaleOf, withinOf}
 use Rattle.sizes.specs.declared.iscl.Iscl.{Iscl}
-use Rattle.rasters.proofs.PlaceLaws.{level-same, near-same}
-use Rattle.rasters.specs.Area.{area}
-use Rattle.rasters.specs.Depth.{levelOf, rescaled, toDepth}
-use Rattle.rasters.specs.Nearest.{nearest}
+use Rattle.sampling.proofs.PlaceLaws.{level-same, near-same}
+use Rattle.sampling.specs.Area.{area}
+use Rattle.sampling.specs.Depth.{levelOf, rescaled, toDepth}
+use Rattle.sampling.specs.Nearest.{nearest}
 use Rattle.resample.specs.Run.{areaBytes, depthBytes, depthRun, isclRun, nearestBytes, nearestRun}
-use Rattle.rasters.specs.declared.write.Rule.{Rule}
-use Rattle.rasters.specs.inner.Redraw.{RedrawFits, RuleFits, ScaleFits, acrossOf, downOf, redrawn, rowAt, rowOf, ruleAt}
+use Rattle.sampling.specs.declared.raster.Rule.{Rule}
+use Rattle.sampling.specs.inner.Redraw.{RedrawFits, RuleFits, ScaleFits, acrossOf, downOf, redrawn, rowAt, rowOf, ruleAt}
 
 -- the rule of another depth, or of the same
 abbrev pub nearRule : ℕ → ℕ → Rule

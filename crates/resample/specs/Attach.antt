@@ -16,8 +16,8 @@ use Rattle.records.specs.declared.record.Frame.{Frame}
 use Rattle.records.specs.declared.record.Plane.{Plane}
 use Rattle.planes.specs.Bytes.{decode, headBytes, planeBytes}
 use Rattle.planes.specs.Picture.{Pic}
-use Rattle.rasters.specs.Depth.{rescaled}
-use Rattle.rasters.specs.Nearest.{nearest}
+use Rattle.sampling.specs.Depth.{rescaled}
+use Rattle.sampling.specs.Nearest.{nearest}
 
 -- the form, and the picture, of the luma alone
 unfoldable pub lumaForm : Form → Form

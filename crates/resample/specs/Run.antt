@@ -11,10 +11,10 @@ use Rattle.records.specs.declared.record.Frame.{Frame}
 use Rattle.planes.specs.Bytes.{decode, encode}
 use Rattle.sizes.specs.Scale.{scaleOf}
 use Rattle.sizes.specs.declared.iscl.Iscl.{Iscl}
-use Rattle.rasters.specs.Area.{area}
+use Rattle.sampling.specs.Area.{area}
 use Rattle.resample.specs.Attach.{attachBytes}
-use Rattle.rasters.specs.Depth.{rescaled}
-use Rattle.rasters.specs.Nearest.{nearest}
+use Rattle.sampling.specs.Depth.{rescaled}
+use Rattle.sampling.specs.Nearest.{nearest}
 
 -- depth: the record, then 6 outside 8 to 16, then 17; an equal depth hands the record back byte for byte
 unfoldable pub depthBytes : List ℕ → Frame → ℕ → List ℕ

@@ -13,11 +13,11 @@ use image::Part;
 use image::PixelFormat;
 use laws::Answer;
 use laws::Refusal;
-use rasters::Depths;
-use rasters::Rule;
 use records::Frame;
 use records::FrameRead;
 use records::Plane;
+use sampling::Depths;
+use sampling::Rule;
 
 // The form of a luma plane alone for a picture of a form.
 fn alpha_form(m: Form) -> Form

@@ -6,15 +6,15 @@ ghost use Rattle.laws.specs.Out.{answerOf, written, fitted};
 ghost use Rattle.laws.specs.Puts.{puts};
 ghost use Rattle.planes.specs.Bytes.{decode, planeBytes, encode};
 ghost use Rattle.records.specs.inner.Placed.{Sound};
-ghost use Rattle.rasters.specs.inner.Redraw.{rasterOf, redrawn, RedrawFits};
+ghost use Rattle.sampling.specs.inner.Redraw.{rasterOf, redrawn, RedrawFits};
 use image::Form;
 use image::Part;
 use laws::Answer;
 use laws::Refusal;
-use rasters::Axis;
-use rasters::Raster;
-use rasters::Rule;
 use records::Frame;
+use sampling::Axis;
+use sampling::Raster;
+use sampling::Rule;
 
 // A plane of a picture, and what is made of it for a picture of another form.
 fn plane_raster(m: Form, form: Form, stride: usize, part: Part, rule: Rule) -> Raster

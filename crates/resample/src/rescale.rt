@@ -7,9 +7,9 @@ use image::Form;
 use image::PixelFormat;
 use laws::Answer;
 use laws::Refusal;
-use rasters::Depths;
-use rasters::Rule;
 use records::FrameRead;
+use sampling::Depths;
+use sampling::Rule;
 
 // A record's picture at another depth. Refusals: the record's, 6, 17.
 pub fn rescale_depth(record: &[u8], depth: u32, out: &mut [u8]) -> Answer

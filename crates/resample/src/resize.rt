@@ -6,9 +6,9 @@ ghost use Rattle.resample.specs.Run.{nearestRun};
 use image::Size;
 use image::SizeAnswer;
 use laws::Answer;
-use rasters::Depths;
-use rasters::Rule;
 use records::FrameRead;
+use sampling::Depths;
+use sampling::Rule;
 
 // A record's picture at another size, by nearest samples. Refusals: the record's, 3, 4, 17.
 pub fn resize_nearest(record: &[u8], width: u32, height: u32, out: &mut [u8]) -> Answer

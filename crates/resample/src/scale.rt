@@ -3,14 +3,14 @@ ghost use mathlib.Core.Path.{_≡_};
 ghost use lib.ListN.{length};
 ghost use Rattle.laws.specs.Out.{answerOf, fitted, written};
 ghost use Rattle.records.specs.inner.Placed.{Sound};
-ghost use Rattle.rasters.specs.inner.Redraw.{ScaleFits};
+ghost use Rattle.sampling.specs.inner.Redraw.{ScaleFits};
 ghost use Rattle.resample.specs.Run.{areaBytes, isclRun};
 use image::Size;
 use image::SizeAnswer;
 use laws::Answer;
-use rasters::Rule;
 use records::Frame;
 use records::FrameRead;
+use sampling::Rule;
 use sizes::Iscl;
 
 // A record's picture at a size that iscl allows, each sample the mean over its footprint; an unchanged size hands the record back.

@@ -6,9 +6,9 @@ use lib.Dec.{ltb}
 use lib.ListN.{getD}
 use Rattle.laws.specs.Pick.{pick}
 use Rattle.planes.specs.Bytes.{sampleIn, samplesOf}
-use Rattle.rasters.specs.Depth.{levelOf}
-use Rattle.rasters.specs.declared.depth.Depths.{Depths}
-use Rattle.rasters.specs.declared.write.Raster.{Raster}
+use Rattle.sampling.specs.Depth.{levelOf}
+use Rattle.sampling.specs.declared.depth.Depths.{Depths}
+use Rattle.sampling.specs.declared.raster.Raster.{Raster}
 
 -- a table of the first n samples
 unfoldable pub Levels : List ℕ → Depths → ℕ → Type 0

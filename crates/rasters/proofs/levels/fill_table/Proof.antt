@@ -9,7 +9,7 @@ use Rattle.rasters.specs.inner.Levels.{Levels}
 use Rattle.rasters.proofs.levels.fill_table.Tie as tie
 use Rattle.rasters.proofs.levels.fill_table.Reads as reads
 use Rattle.rasters.proofs.levels.fill_table.Lts as lts
-use Rattle.rasters.proofs.depth.Depths.level.Reads as level-reads
+use Rattle.sampling.proofs.depth.Depths.level.Reads as level-reads
 
 abbrev Inv-loop : tie.InvT-loop
 Inv-loop table₀ depths n v₀ table v = (v ≤ n) × (length table ≡ length table₀) × Levels table depths v

@@ -8,9 +8,9 @@ use Rattle.laws.proofs.Span.{span-end}
 use Rattle.laws.proofs.Writing.{Writing, writing-as, writing-done, writing-start}
 use Rattle.laws.specs.Span.{span}
 use Rattle.rasters.proofs.LevelLaws.{looked-row, raster-more, raster-room, table-small}
-use Rattle.rasters.proofs.RedrawLaws.{length-rasterBytes}
+use Rattle.sampling.proofs.RedrawLaws.{length-rasterBytes}
 use Rattle.rasters.proofs.levels.write_levels.Statement.{statement}
-use Rattle.rasters.specs.inner.Redraw.{rasterBytes, rasterRow, rowOf}
+use Rattle.sampling.specs.inner.Redraw.{rasterBytes, rasterRow, rowOf}
 use Rattle.rasters.proofs.levels.write_levels.Tie as tie
 use Rattle.rasters.proofs.levels.write_levels.Reads as reads
 use Rattle.rasters.proofs.levels.write_levels.Lts as lts

@@ -1,7 +1,7 @@
 use mathlib.Core.Path.{sym}
 use borrow.Author.Needs.{needs}
 use Rattle.rasters.proofs.write.has_steps.Statement.{statement}
-use Rattle.rasters.specs.inner.Redraw.{hasSteps}
+use Rattle.sampling.specs.inner.Redraw.{hasSteps}
 use Rattle.rasters.proofs.write.has_steps.Tie as tie
 use Rattle.rasters.proofs.write.has_steps.Reads as reads
 use Rattle.rasters.proofs.write.has_steps.Lts as lts

@@ -1,12 +1,12 @@
 use mathlib.Core.Path.{sym}
 use borrow.Author.Needs.{needs}
 use Rattle.rasters.proofs.write.row_rule.Statement.{statement}
-use Rattle.rasters.specs.inner.Redraw.{RuleFits, rowOf}
+use Rattle.sampling.specs.inner.Redraw.{RuleFits, rowOf}
 use Rattle.rasters.proofs.write.row_rule.Tie as tie
 use Rattle.rasters.proofs.write.row_rule.Reads as reads
 use Rattle.rasters.proofs.write.row_rule.Lts as lts
-use Rattle.rasters.proofs.area.footprint.Reads as footprint-reads
-use Rattle.rasters.proofs.nearest.nearest_place.Reads as nearest-place-reads
+use Rattle.sampling.proofs.footprint.Reads as footprint-reads
+use Rattle.sampling.proofs.nearest_place.Reads as nearest-place-reads
 
 enum-known-rule : tie.Need-enum-known-rule
 enum-known-rule c = search needs

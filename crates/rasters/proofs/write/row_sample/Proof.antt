@@ -3,24 +3,24 @@ use Prim.Native.Nat.{_*_, _<_, _^_, _≤_, ℕ}
 use borrow.Author.Needs.{needs}
 use denote.Ref.{now}
 use Rattle.planes.specs.Bytes.{sampleIn}
-use Rattle.rasters.proofs.PlaceLaws.{near-in}
-use Rattle.rasters.proofs.RedrawLaws.{area-fits}
+use Rattle.sampling.proofs.PlaceLaws.{near-in}
+use Rattle.sampling.proofs.RedrawLaws.{area-fits}
 use Rattle.rasters.proofs.write.row_sample.Statement.{statement}
-use Rattle.rasters.specs.Area.{areaMean}
-use Rattle.rasters.specs.inner.Sums.{FootIn}
-use Rattle.rasters.specs.Depth.{levelOf}
-use Rattle.rasters.specs.inner.Depths.{DepthsFit}
-use Rattle.rasters.specs.inner.Redraw.{AreaAxis, RuleRowFits, rasterAt, rowAt}
-use Rattle.rasters.specs.declared.area.Foot.{Foot}
-use Rattle.rasters.specs.declared.write.RowRule.{RowRule}
+use Rattle.sampling.specs.Area.{areaMean}
+use Rattle.sampling.specs.inner.Sums.{FootIn}
+use Rattle.sampling.specs.Depth.{levelOf}
+use Rattle.sampling.specs.inner.Depths.{DepthsFit}
+use Rattle.sampling.specs.inner.Redraw.{AreaAxis, RuleRowFits, rasterAt, rowAt}
+use Rattle.sampling.specs.declared.area.Foot.{Foot}
+use Rattle.sampling.specs.declared.raster.RowRule.{RowRule}
 use Rattle.rasters.proofs.write.row_sample.Tie as tie
 use Rattle.rasters.proofs.write.row_sample.Reads as reads
 use Rattle.rasters.proofs.write.row_sample.Lts as lts
 use Rattle.planes.proofs.sample.Reads as sample-reads
-use Rattle.rasters.proofs.area.area_sample.Reads as area-sample-reads
-use Rattle.rasters.proofs.area.footprint.Reads as footprint-reads
-use Rattle.rasters.proofs.depth.Depths.level.Reads as level-reads
-use Rattle.rasters.proofs.nearest.nearest_place.Reads as nearest-place-reads
+use Rattle.sampling.proofs.area_sample.Reads as area-sample-reads
+use Rattle.sampling.proofs.footprint.Reads as footprint-reads
+use Rattle.sampling.proofs.depth.Depths.level.Reads as level-reads
+use Rattle.sampling.proofs.nearest_place.Reads as nearest-place-reads
 
 near : (c : tie.After-row) → DepthsFit (c .row .given .0 .0 .depths) × (c .row .given .0 .0 .y < c .before .before .before .before .args .r .down .from)
 unfolding RuleRowFits

@@ -8,10 +8,10 @@ use Rattle.laws.proofs.Span.{span-end, span-step}
 use Rattle.laws.proofs.Writing.{Writing, writing-as, writing-done, writing-fits, writing-run, writing-start}
 use Rattle.laws.specs.Puts.{puts}
 use Rattle.laws.specs.Span.{span}
-use Rattle.rasters.proofs.RedrawLaws.{length-rasterBytes, length-rasterRow, row-fits}
+use Rattle.sampling.proofs.RedrawLaws.{length-rasterBytes, length-rasterRow, row-fits}
 use Rattle.rasters.proofs.write.write_each.Statement.{statement}
-use Rattle.rasters.specs.inner.Redraw.{rasterBytes, rasterRow, rowOf}
-use Rattle.rasters.specs.declared.write.RowRule.{RowRule}
+use Rattle.sampling.specs.inner.Redraw.{rasterBytes, rasterRow, rowOf}
+use Rattle.sampling.specs.declared.raster.RowRule.{RowRule}
 use Rattle.rasters.proofs.write.write_each.Tie as tie
 use Rattle.rasters.proofs.write.write_each.Reads as reads
 use Rattle.rasters.proofs.write.write_each.Lts as lts

@@ -6,11 +6,11 @@ use borrow.Author.Needs.{needs}
 use Rattle.laws.specs.Puts.{puts}
 use Rattle.rasters.proofs.LevelLaws.{apart-small, apart-step, area-row, area-some, near-row, row-apart}
 use Rattle.rasters.proofs.write.write_row.Statement.{statement}
-use Rattle.rasters.specs.inner.Redraw.{rasterRow}
+use Rattle.sampling.specs.inner.Redraw.{rasterRow}
 use Rattle.rasters.proofs.write.write_row.Tie as tie
 use Rattle.rasters.proofs.write.write_row.Reads as reads
 use Rattle.rasters.proofs.write.write_row.Lts as lts
-use Rattle.rasters.proofs.sums.write_area_row.Reads as write-area-row-reads
+use Rattle.means.proofs.write_area_row.Reads as write-area-row-reads
 use Rattle.rasters.proofs.write.has_steps.Reads as has-steps-reads
 use Rattle.rasters.proofs.write.write_samples.Reads as write-samples-reads
 use Rattle.turns.proofs.write_apart.Reads as write-apart-reads

@@ -10,9 +10,9 @@ use Rattle.laws.specs.Puts.{puts}
 use Rattle.laws.specs.Span.{span}
 use Rattle.planes.proofs.ByteLaws.{length-sampleBytes}
 use Rattle.planes.specs.Bytes.{sampleBytes, samplesOf}
-use Rattle.rasters.proofs.RedrawLaws.{length-rasterRow}
+use Rattle.sampling.proofs.RedrawLaws.{length-rasterRow}
 use Rattle.rasters.proofs.write.write_samples.Statement.{statement}
-use Rattle.rasters.specs.inner.Redraw.{rasterAt, rasterRow}
+use Rattle.sampling.specs.inner.Redraw.{rasterAt, rasterRow}
 use Rattle.rasters.proofs.write.write_samples.Tie as tie
 use Rattle.rasters.proofs.write.write_samples.Reads as reads
 use Rattle.rasters.proofs.write.write_samples.Lts as lts

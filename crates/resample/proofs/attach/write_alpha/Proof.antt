@@ -11,7 +11,7 @@ use Rattle.image.specs.declared.format.Part.the-variants.{Luma}
 use Rattle.resample.proofs.AttachLaws.{cover-as-is, cover-drawn, cover-fits, coverRule, luma-fits}
 use Rattle.resample.proofs.attach.write_alpha.Statement.{statement}
 use Rattle.resample.specs.Attach.{alphaBytes}
-use Rattle.rasters.specs.inner.Redraw.{redrawn}
+use Rattle.sampling.specs.inner.Redraw.{redrawn}
 use Rattle.resample.proofs.attach.write_alpha.Tie as tie
 use Rattle.resample.proofs.attach.write_alpha.Reads as reads
 use Rattle.resample.proofs.attach.write_alpha.Lts as lts

@@ -6,7 +6,7 @@ use Rattle.laws.proofs.Out.{done-answers, fitted-room, fitted-short, refused-an
 use Rattle.planes.proofs.RoundTrip.{length-encode}
 use Rattle.planes.specs.Bytes.{decode, encode}
 use Rattle.resample.proofs.draw.draw.Statement.{statement}
-use Rattle.rasters.specs.inner.Redraw.{redrawn}
+use Rattle.sampling.specs.inner.Redraw.{redrawn}
 use Rattle.resample.proofs.draw.draw.Tie as tie
 use Rattle.resample.proofs.draw.draw.Reads as reads
 use Rattle.resample.proofs.draw.draw.Lts as lts

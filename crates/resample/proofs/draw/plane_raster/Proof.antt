@@ -2,7 +2,7 @@ use mathlib.Core.Path.{sym}
 use borrow.Author.Needs.{needs}
 use Rattle.image.specs.Format.{columnsOf, rowsOf}
 use Rattle.resample.proofs.draw.plane_raster.Statement.{statement}
-use Rattle.rasters.specs.inner.Redraw.{acrossOf, downOf, rasterOf}
+use Rattle.sampling.specs.inner.Redraw.{acrossOf, downOf, rasterOf}
 use Rattle.resample.proofs.draw.plane_raster.Tie as tie
 use Rattle.resample.proofs.draw.plane_raster.Reads as reads
 use Rattle.resample.proofs.draw.plane_raster.Lts as lts

@@ -13,10 +13,10 @@ use Rattle.planes.specs.Bytes.{decode, planeBytes, planeHead}
 use Rattle.image.specs.Format.{hasPart}
 use Rattle.planes.specs.Picture.{Pic}
 use Rattle.records.specs.declared.record.Plane.{Plane}
-use Rattle.rasters.proofs.RedrawLaws.{Worked, length-rasterBytes, plane-drawn, plane-raster, plane-rule, worked-bytes, worked-fits, worked-rule, worked-size}
+use Rattle.sampling.proofs.RedrawLaws.{Worked, length-rasterBytes, plane-drawn, plane-raster, plane-rule, worked-bytes, worked-fits, worked-rule, worked-size}
 use Rattle.resample.proofs.draw.write_plane.Statement.{statement}
-use Rattle.rasters.specs.inner.Redraw.{RasterFits, RuleFits, rasterBytes, rasterOf, redrawn}
-use Rattle.rasters.specs.declared.write.Raster.{Raster}
+use Rattle.sampling.specs.inner.Redraw.{RasterFits, RuleFits, rasterBytes, rasterOf, redrawn}
+use Rattle.sampling.specs.declared.raster.Raster.{Raster}
 use Rattle.resample.proofs.draw.write_plane.Tie as tie
 use Rattle.resample.proofs.draw.write_plane.Reads as reads
 use Rattle.resample.proofs.draw.write_plane.Lts as lts

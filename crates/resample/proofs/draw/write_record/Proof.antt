@@ -5,7 +5,7 @@ use Rattle.planes.proofs.WritingLaws.{Written, alpha-written, cb-written, cr-wr
 use Rattle.planes.specs.Bytes.{decode}
 use Rattle.planes.specs.Picture.{Pic}
 use Rattle.resample.proofs.draw.write_record.Statement.{statement}
-use Rattle.rasters.specs.inner.Redraw.{redrawn}
+use Rattle.sampling.specs.inner.Redraw.{redrawn}
 use Rattle.resample.proofs.draw.write_record.Tie as tie
 use Rattle.resample.proofs.draw.write_record.Reads as reads
 use Rattle.resample.proofs.draw.write_record.Lts as lts

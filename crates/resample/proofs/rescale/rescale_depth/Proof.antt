@@ -10,7 +10,7 @@ use Rattle.image.specs.Format.{isDepth}
 use Rattle.records.specs.Record.{frameOut, recordOf}
 use Rattle.resample.proofs.RunLaws.{depth-drawn, depth-fits, depth-outside, depth-same}
 use Rattle.resample.proofs.rescale.rescale_depth.Statement.{statement}
-use Rattle.rasters.specs.Depth.{toDepth}
+use Rattle.sampling.specs.Depth.{toDepth}
 use Rattle.resample.specs.Run.{depthRun}
 use Rattle.resample.proofs.rescale.rescale_depth.Tie as tie
 use Rattle.resample.proofs.rescale.rescale_depth.Reads as reads

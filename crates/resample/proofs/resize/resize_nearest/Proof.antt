@@ -12,7 +12,7 @@ use Rattle.image.specs.declared.format.Form.{Form}
 use Rattle.image.specs.Format.{judgedSize, sizeOut}
 use Rattle.resample.proofs.RunLaws.{near-fits, nearRule, nearest-drawn, nearest-refused, nearest-same}
 use Rattle.resample.proofs.resize.resize_nearest.Statement.{statement}
-use Rattle.rasters.specs.inner.Redraw.{redrawn}
+use Rattle.sampling.specs.inner.Redraw.{redrawn}
 use Rattle.resample.specs.Run.{nearestRun}
 use Rattle.resample.proofs.resize.resize_nearest.Tie as tie
 use Rattle.resample.proofs.resize.resize_nearest.Reads as reads

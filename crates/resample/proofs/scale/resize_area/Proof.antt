@@ -8,8 +8,8 @@ use Rattle.planes.specs.Bytes.{decode, encode}
 use Rattle.image.specs.declared.format.Form.{Form}
 use Rattle.resample.proofs.RunLaws.{area-drawn, area-kept, area-rule}
 use Rattle.resample.proofs.scale.resize_area.Statement.{statement}
-use Rattle.rasters.specs.inner.Redraw.{redrawn}
-use Rattle.rasters.specs.declared.write.Rule.{Rule}
+use Rattle.sampling.specs.inner.Redraw.{redrawn}
+use Rattle.sampling.specs.declared.raster.Rule.{Rule}
 use Rattle.resample.proofs.scale.resize_area.Tie as tie
 use Rattle.resample.proofs.scale.resize_area.Reads as reads
 use Rattle.resample.proofs.scale.resize_area.Lts as lts
