@@ -33,10 +33,11 @@ use Rattle.sizes.specs.declared.iscl.Iscl.{Iscl}
 use Rattle.transform.specs.Chain.{picAfter}
 use Rattle.transform.specs.Run.{clapRun, imirRun, irotRun}
 use Rattle.resample.specs.Run.{isclRun}
-use Rattle.chains.proofs.AfterLaws.{Shows, after-bytes}
-use Rattle.chains.specs.Chain.{Drawn, drawnAfter, scaled}
-use Rattle.chains.specs.inner.Apply.{Ended, Finished, Roomy, draws, recordAfter, stepRun, wroteOf}
-use Rattle.chains.specs.inner.ChainPlan.{moves}
+use Rattle.stages.proofs.AfterLaws.{Shows, after-bytes}
+use Rattle.stages.specs.Chain.{Drawn, drawnAfter, scaled}
+use Rattle.chains.specs.inner.Apply.{Ended, Finished, Roomy, draws, stepRun, wroteOf}
+use Rattle.stages.specs.inner.Stage.{recordAfter}
+use Rattle.stages.specs.inner.Held.{moves}
 
 -- ---- pictures and their records along a chain
 

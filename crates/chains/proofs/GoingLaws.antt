@@ -28,12 +28,14 @@ use Rattle.props.specs.declared.entry.PropertyEntry.{PropertyEntry}
 use Rattle.sight.specs.Sight.{sightAfter}
 use Rattle.sight.specs.declared.Sight.{Sight}
 use Rattle.chains.proofs.ApplyLaws.{skipped-is, step-wrote}
-use Rattle.chains.proofs.StageLaws.{Held, Next, next-of, pic-form, plain-bytes, stage-at, stage-held, stage-reaches}
-use Rattle.chains.specs.declared.apply.Current.{Current}
-use Rattle.chains.specs.declared.apply.Stage.{Stage}
-use Rattle.chains.specs.inner.Apply.{Able, Arrived, Drawable, Ended, Gives, HeldAfter, Lands, Planned, Ready, Roomy, StageSound, Staged, bytesIn, chainBytes, draws, entryBytes, lying, recordAfter, recordIn, settledIn, sightHere, stageBytes, stageDrawn, stageHeld, stageStart, stepRun, wroteOf}
-use Rattle.chains.specs.declared.chain_plan.ChainPlan.{ChainPlan}
-use Rattle.chains.specs.inner.ChainPlan.{begins, chainPlanAfter, formAfter, isHeld, moves, shownAfter}
+use Rattle.stages.proofs.StageLaws.{Held, Next, next-of, pic-form, plain-bytes, stage-at, stage-held, stage-reaches}
+use Rattle.stages.specs.declared.stage.Current.{Current}
+use Rattle.stages.specs.declared.stage.Stage.{Stage}
+use Rattle.chains.specs.inner.Apply.{Able, Arrived, Drawable, Ended, Lands, Planned, Ready, Roomy, Staged, bytesIn, chainBytes, draws, entryBytes, lying, recordIn, settledIn, stepRun, wroteOf}
+use Rattle.stages.specs.inner.Stage.{Gives, HeldAfter, StageSound, recordAfter, sightHere, stageBytes, stageDrawn, stageHeld, stageStart}
+use Rattle.plans.specs.declared.chain_plan.ChainPlan.{ChainPlan}
+use Rattle.stages.specs.inner.Held.{begins, formAfter, isHeld, moves, shownAfter}
+use Rattle.plans.specs.inner.ChainPlan.{chainPlanAfter}
 
 -- ---- a record that was drawn into the other buffer
 

@@ -1,5 +1,2 @@
-pub mod AfterLaws
 pub mod ApplyLaws
-pub mod ChainPlanLaws
-pub mod StageLaws
 pub mod GoingLaws

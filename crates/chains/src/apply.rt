@@ -6,24 +6,24 @@ ghost use mathlib.Core.List.{_++_};
 ghost use lib.ListN.{length, take, replicate};
 ghost use Rattle.laws.specs.Out.{answerOf, written};
 ghost use Rattle.laws.specs.Puts.{puts};
-ghost use Rattle.image.specs.Sound.{FormSound};
 ghost use Rattle.planes.specs.Bytes.{sizeOf};
-ghost use Rattle.sight.specs.Sight.{sightAfter};
-ghost use Rattle.sight.specs.inner.Bounded.{Bounded};
-ghost use Rattle.chains.specs.inner.ChainPlan.{formAfter};
-ghost use Rattle.chains.specs.inner.Apply.{draws, lying, recordAfter, Ready, chainBytes, bytesIn, wroteOf, stepRun, entryBytes, stageBytes, recordIn, settledIn, sightHere, stageStart, stageDrawn, Gives, HeldAfter, StageSound, Staged, Able, Drawable, Planned, Arrived, Ended, Finished};
-use crate::chain_plan::form_after;
-use crate::chain_plan::is_held;
-use crate::chain_plan::is_move;
+ghost use Rattle.stages.specs.inner.Held.{formAfter};
+ghost use Rattle.chains.specs.inner.Apply.{draws, lying, Ready, chainBytes, bytesIn, wroteOf, stepRun, entryBytes, recordIn, settledIn, Staged, Able, Drawable, Planned, Arrived, Ended, Finished};
+ghost use Rattle.stages.specs.inner.Stage.{recordAfter, stageBytes, stageStart, Gives, StageSound};
 use image::Form;
-use image::FormRead;
 use laws::Answer;
 use props::Chain;
 use props::EntryRead;
 use props::Property;
 use props::PropertyEntry;
-use sight::Sight;
-use sight::SightRead;
+use stages::Current;
+use stages::Stage;
+use stages::hold;
+use stages::is_held;
+use stages::is_move;
+use stages::next_form;
+use stages::stage_drawn;
+use stages::stage_start;
 
 // A record after a property. Refusals: the record's, the property's, 17.
 fn draw_step(record: &[u8], property: Property, out: &mut [u8]) -> Answer
@@ -72,34 +72,6 @@ fn draw_into(from: &[u8], size: usize, property: Property, to: &mut [u8]) -> usi
     wrote(draw_step(record, property, to))
 }
 
-// A record at the start of output (`inside`) or of the spare, and how long it is.
-pub struct Current {
-    pub size: usize,
-    pub inside: bool,
-}
-
-// What a chain has reached: the record in a buffer, of form `from`, or what a sight shows of it, of another form.
-pub struct Stage {
-    pub current: Current,
-    pub from: Form,
-    pub form: Form,
-    pub sight: Sight,
-    pub shown: bool,
-}
-
-// The composed record, as it lies.
-fn stage_start(m: Form, first: Current) -> Stage
-    ensures { λ r. ⌜ r ≡ stageStart m first ⌝ }
-{
-    Stage {
-        current: first,
-        from: m,
-        form: m,
-        sight: Sight::new(m.width, m.height),
-        shown: false,
-    }
-}
-
 // What a sight shows of the record at the start of one buffer, drawn into another. Answers its length.
 fn show_into(from: &[u8], t: Stage, to: &mut [u8]) -> usize
     requires { ⌜ StageSound t (take (t .current .size) (now from)) × (t .shown ≡ true) × (t .current .size ≤ length (now from)) × (sizeOf (t .form) ≤ length (now to)) ⌝ }
@@ -108,25 +80,6 @@ fn show_into(from: &[u8], t: Stage, to: &mut [u8]) -> usize
     let current = t.current;
     let record = &from[..current.size];
     view::draw_sight(to, record, planes::tight(t.from), t.form, t.sight)
-}
-
-// A record that was drawn.
-fn stage_drawn(t: Stage, size: usize, form: Form) -> Stage
-    ensures { λ r. ⌜ r ≡ stageDrawn t size form ⌝ }
-{
-    let old = t.current;
-    let current = Current {
-        size,
-        inside: !old.inside,
-    };
-    let sight = t.sight;
-    Stage {
-        current,
-        from: form,
-        form,
-        sight,
-        shown: false,
-    }
 }
 
 // What is shown is drawn into the other buffer.
@@ -143,55 +96,6 @@ fn settle(t: Stage, output: &mut [u8], spare: &mut [u8]) -> Stage
         return stage_drawn(t, show_into(spare, t, output), t.form);
     }
     t
-}
-
-// The form after a property that is not refused.
-fn next_form(m: Form, property: Property) -> Form
-    requires { ⌜ FormSound m ⌝ }
-    ensures { λ r. ⌜ Gives (formAfter property m) r ⌝ }
-{
-    match form_after(m, property) {
-        FormRead::Form(n) => n,
-        FormRead::Refused(_) => m,
-    }
-}
-
-// The sight after a property that is not refused.
-fn next_sight(s: Sight, property: Property) -> Sight
-    requires { ⌜ Bounded (s .area) ⌝ }
-    ensures { λ r. ⌜ Gives (sightAfter property s) r ⌝ }
-{
-    match s.after(property) {
-        SightRead::Sight(u) => u,
-        SightRead::Refused(_) => s,
-    }
-}
-
-// The sight from which a stage goes on.
-fn sight_here(t: Stage) -> Sight
-    ensures { λ r. ⌜ r ≡ sightHere t ⌝ }
-{
-    if t.shown {
-        return t.sight;
-    }
-    let m = t.form;
-    Sight::new(m.width, m.height)
-}
-
-// A property that a sight can hold.
-fn hold(t: Stage, property: Property) -> Stage
-    requires { ⌜ FormSound (t .form) × Bounded (sightHere t .area) ⌝ }
-    ensures { λ r. ⌜ HeldAfter property t r ⌝ }
-{
-    let current = t.current;
-    let from = t.from;
-    Stage {
-        current,
-        from,
-        form: next_form(t.form, property),
-        sight: next_sight(sight_here(t), property),
-        shown: true,
-    }
 }
 
 // A property drawn into the other buffer.

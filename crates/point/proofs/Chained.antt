@@ -34,7 +34,7 @@ use Rattle.sight.specs.Carry.{carryOf}
 use Rattle.sight.specs.Sight.{back, backFrom, exchange, finalHeight, finalWidth, highOf, sourcePlace, sightOf, whole, wideOf}
 use Rattle.sight.specs.declared.Sight.{Sight}
 use Rattle.sight.specs.inner.Seen.{PlaceAgrees, Seen}
-use Rattle.chains.specs.Chain.{Drawn, firstDrawn, chainDrawn, drawnAfter, scaled}
+use Rattle.stages.specs.Chain.{Drawn, firstDrawn, chainDrawn, drawnAfter, scaled}
 use Rattle.scene.specs.Scene.{roomFor}
 use Rattle.point.proofs.Halves.{pointOn}
 use Rattle.point.specs.Agreement.{Agreement, CarriedFrom, CarriedTo, Pictured, Room, Shown, canvasHeight, canvasWidth, inside, outside}

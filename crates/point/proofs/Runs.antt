@@ -11,7 +11,7 @@ use Rattle.image.specs.declared.format.Part.{Part}
 use Rattle.props.proofs.ChainLaws.{Applied}
 use Rattle.props.specs.declared.entry.PropertyEntry.{PropertyEntry}
 use Rattle.transform.specs.Chain.{NotIscl}
-use Rattle.chains.specs.Chain.{Drawn}
+use Rattle.stages.specs.Chain.{Drawn}
 use Rattle.scene.specs.Scene.{roomFor}
 use Rattle.point.specs.Agreement.{Agreement, Room, Unscaled}
 use Rattle.point.specs.declared.Named.{Named}

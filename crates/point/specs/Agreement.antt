@@ -21,7 +21,7 @@ use Rattle.transform.specs.Chain.{NotIscl}
 use Rattle.sight.specs.Sight.{finalHeight, finalWidth, sightOf}
 use Rattle.sight.specs.declared.Sight.{Sight}
 use Rattle.laws.specs.Any.{any}
-use Rattle.chains.specs.Chain.{Drawn}
+use Rattle.stages.specs.Chain.{Drawn}
 use Rattle.point.specs.Point.{seeThroughFrame}
 use Rattle.records.specs.Tray.{recordsIn}
 use Rattle.point.specs.declared.Named.{Named}

@@ -32,10 +32,10 @@ use Rattle.grid.specs.inner.Ready.{TilesTaken}
 use Rattle.overlay.proofs.RunLaws.{Took, took}
 use Rattle.inputs.specs.Inputs.{Inputs, alphaAbove, firstFormat, inputsAt}
 use Rattle.overlay.specs.Run.{composed}
-use Rattle.chains.proofs.AfterLaws.{in-range-back}
+use Rattle.stages.proofs.AfterLaws.{in-range-back}
 use Rattle.scene.proofs.ComposedLaws.{grid-in-range, overlay-in-range}
-use Rattle.chains.proofs.ChainPlanLaws.{chain-in-range}
-use Rattle.chains.specs.Chain.{Drawn, chainDrawn}
+use Rattle.plans.proofs.ChainPlanLaws.{chain-in-range}
+use Rattle.stages.specs.Chain.{Drawn, chainDrawn}
 use Rattle.scene.specs.Scene.{gridDrawn, gridScene, overlayDrawn, overlayScene}
 use Rattle.point.proofs.AlikeLaws.{grid-blind, overlay-blind}
 use Rattle.point.proofs.Chained.{ReadsBack, chain-agrees, chain-names, chain-once, chain-sighted, chain-stays, chain-through}

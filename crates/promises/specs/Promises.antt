@@ -56,7 +56,7 @@ use Rattle.session.specs.Sequence.{Call, MadeBy, alphaNumber, blank, callsRun, 
 use Rattle.session.specs.Session.{CanvasAfter, blankAt, reservedForm}
 use Rattle.session.specs.State.{stateOk}
 use Rattle.session.specs.declared.state.Canvas.{Canvas}
-use Rattle.chains.specs.Chain.{Drawn}
+use Rattle.stages.specs.Chain.{Drawn}
 use Rattle.scene.specs.Scene.{gridDrawn, gridScene, overlayDrawn, overlayScene}
 use Rattle.point.specs.Agreement.{Agreement, CarriedFrom, CarriedTo, InTray, NoAlpha, NoScaling, Room, canvasHeight, canvasWidth, chainCarries, chainSight, noChain}
 use Rattle.point.specs.Alike.{SameTray}

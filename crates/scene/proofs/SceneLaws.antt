@@ -52,18 +52,19 @@ use Rattle.overlay.specs.Overlay.{overlayPic}
 use Rattle.overlay.specs.Run.{composed, fillFor}
 use Rattle.overlay.specs.inner.Block.{PlanSound}
 use Rattle.chains.proofs.ApplyLaws.{Carried, chain-carried}
-use Rattle.chains.proofs.ChainPlanLaws.{Leads, plan-drawn, plan-lands}
-use Rattle.chains.proofs.StageLaws.{plain-bytes, stage-at}
+use Rattle.plans.proofs.ChainPlanLaws.{Leads, plan-drawn, plan-lands}
+use Rattle.stages.proofs.StageLaws.{plain-bytes, stage-at}
 use Rattle.chains.proofs.GoingLaws.{start-lands}
 use Rattle.scene.proofs.ComposedLaws.{grid-in-range, overlay-in-range, record-in-range}
-use Rattle.chains.specs.Chain.{Drawn, chainDrawn, firstDrawn}
+use Rattle.stages.specs.Chain.{Drawn, chainDrawn, firstDrawn}
 use Rattle.scene.specs.Room.{longestOf}
 use Rattle.scene.specs.Scene.{gridDrawn, gridScene, outputOf, overlayDrawn, overlayScene, roomFor, spareOf}
 use Rattle.scene.specs.Transforms.{recordDrawn, transformsRun}
-use Rattle.chains.specs.declared.apply.Current.{Current}
-use Rattle.chains.specs.declared.chain_plan.ChainPlan.{ChainPlan}
-use Rattle.chains.specs.inner.Apply.{Finished, Ready, bytesIn, chainBytes, lying, recordAfter, stageStart}
-use Rattle.chains.specs.inner.ChainPlan.{chainPlanOf, currentFor, currentOf}
+use Rattle.stages.specs.declared.stage.Current.{Current}
+use Rattle.plans.specs.declared.chain_plan.ChainPlan.{ChainPlan}
+use Rattle.chains.specs.inner.Apply.{Finished, Ready, bytesIn, chainBytes, lying}
+use Rattle.stages.specs.inner.Stage.{recordAfter, stageStart}
+use Rattle.plans.specs.inner.ChainPlan.{chainPlanOf, currentFor, currentOf}
 
 -- ---- what is answered and written
 

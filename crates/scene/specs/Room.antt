@@ -1,7 +1,7 @@
 -- Room for a scene (document 01, "The scene call"): the longest of the composed and step records, which output and spare must hold.
 use Prim.Native.Nat.{ℕ}
 use Rattle.laws.specs.Out.{Out, andThen, done, refused}
-use Rattle.chains.specs.Chain.{Drawn}
+use Rattle.stages.specs.Chain.{Drawn}
 use Rattle.scene.specs.declared.room.RoomRead.{RoomRead}
 
 -- of a scene that was drawn, or why there is none

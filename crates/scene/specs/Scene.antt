@@ -15,7 +15,7 @@ use Rattle.grid.specs.Tiles.{tilesAt}
 use Rattle.laws.specs.Any.{any}
 use Rattle.inputs.specs.Inputs.{alphaAbove, firstFormat, inputsAt}
 use Rattle.overlay.specs.Run.{composed}
-use Rattle.chains.specs.Chain.{Drawn, chainDrawn}
+use Rattle.stages.specs.Chain.{Drawn, chainDrawn}
 
 -- ---- the picture runs: 5 tray count unreadable; the chain's form; then body, tiles, chain entries in turn
 

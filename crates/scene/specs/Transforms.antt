@@ -6,7 +6,7 @@ use Rattle.laws.specs.Out.{Out, andThen}
 use Rattle.records.specs.Record.{recordOf}
 use Rattle.planes.specs.Bytes.{decode}
 use Rattle.props.specs.Chain.{chainAt}
-use Rattle.chains.specs.Chain.{Drawn, chainDrawn}
+use Rattle.stages.specs.Chain.{Drawn, chainDrawn}
 use Rattle.scene.specs.Scene.{roomFor}
 
 -- the record's refusals, the chain's form, then the entries in turn

@@ -11,15 +11,15 @@ pub use crate::room::RoomRead;
 pub use crate::room::grid_room;
 pub use crate::room::overlay_room;
 pub use crate::transforms::apply_transforms;
-use chains::CurrentRead;
 use chains::finish_scene;
-use chains::plan_scene;
 use fill::Colour;
 use grid::TilesRead;
 use inputs::PlanRead;
 use laws::Answer;
 use laws::Refusal;
 use numbers::NumberRead;
+use plans::CurrentRead;
+use plans::plan_scene;
 use props::ChainRead;
 
 // A grid, then a chain. Refusals: 5 a tray count that cannot be read; the chain's form; the body's; the tiles'; the entries' in turn;

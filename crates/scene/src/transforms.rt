@@ -4,10 +4,10 @@ ghost use lib.ListN.{length};
 ghost use Rattle.laws.specs.Out.{answerOf};
 ghost use Rattle.scene.specs.Scene.{outputOf, spareOf};
 ghost use Rattle.scene.specs.Transforms.{transformsRun};
-use chains::CurrentRead;
 use chains::finish_scene;
-use chains::plan_scene;
 use laws::Answer;
+use plans::CurrentRead;
+use plans::plan_scene;
 use props::ChainRead;
 use records::FrameRead;
 

@@ -10,7 +10,7 @@ use Rattle.props.specs.Chain.{chainOut}
 use Rattle.grid.specs.Run.{gridOn}
 use Rattle.grid.specs.Tiles.{tilesOut}
 use Rattle.scene.proofs.SceneLaws.{GridKnown, first-output, first-spare, grid-chain, grid-form, grid-malformed, grid-read, grid-size, grid-tiles, held-refused, ready-output, ready-spare, scene-output, scene-refused, scene-spare}
-use Rattle.chains.specs.inner.ChainPlan.{currentOf, currentOut}
+use Rattle.plans.specs.inner.ChainPlan.{currentOf, currentOut}
 use Rattle.scene.proofs.grid_scene.Statement.{statement}
 use Rattle.scene.proofs.grid_scene.Tie as tie
 use Rattle.scene.proofs.grid_scene.Reads as reads
@@ -21,7 +21,7 @@ use Rattle.grid.proofs.read_tiles.Reads as read-tiles-reads
 use Rattle.numbers.proofs.read_number.Reads as read-number-reads
 use Rattle.props.proofs.check_chain.Reads as check-chain-reads
 use Rattle.chains.proofs.finish_scene.Reads as finish-scene-reads
-use Rattle.chains.proofs.plan_scene.Reads as plan-scene-reads
+use Rattle.plans.proofs.plan_scene.Reads as plan-scene-reads
 
 ready : (c : tie.After-t)
     → let c′ = c .before .before .before .before .c in

@@ -10,7 +10,7 @@ use Rattle.props.specs.Chain.{chainOut}
 use Rattle.overlay.proofs.RunLaws.{above-is, planPic}
 use Rattle.inputs.specs.inner.Summary.{planOut}
 use Rattle.scene.proofs.SceneLaws.{OverlayKnown, first-output, first-spare, held-refused, overlay-chain, overlay-inputs, overlay-malformed, overlay-read, plan-form, ready-output, ready-spare, scene-output, scene-refused, scene-spare}
-use Rattle.chains.specs.inner.ChainPlan.{currentOf, currentOut}
+use Rattle.plans.specs.inner.ChainPlan.{currentOf, currentOut}
 use Rattle.scene.proofs.overlay_scene.Statement.{statement}
 use Rattle.scene.proofs.overlay_scene.Tie as tie
 use Rattle.scene.proofs.overlay_scene.Reads as reads
@@ -22,7 +22,7 @@ use Rattle.inputs.proofs.alpha_above.Reads as alpha-above-reads
 use Rattle.inputs.proofs.read_inputs.Reads as read-inputs-reads
 use Rattle.props.proofs.check_chain.Reads as check-chain-reads
 use Rattle.chains.proofs.finish_scene.Reads as finish-scene-reads
-use Rattle.chains.proofs.plan_scene.Reads as plan-scene-reads
+use Rattle.plans.proofs.plan_scene.Reads as plan-scene-reads
 
 ready : (c : tie.After-plan)
     → let c′ = c .before .before .before .before .c in

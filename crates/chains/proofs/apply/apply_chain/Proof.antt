@@ -10,7 +10,7 @@ use Rattle.chains.proofs.apply.apply_chain.Reads as reads
 use Rattle.chains.proofs.apply.apply_chain.Lts as lts
 use Rattle.chains.proofs.apply.apply_entry.Reads as apply-entry-reads
 use Rattle.chains.proofs.apply.settle.Reads as settle-reads
-use Rattle.chains.proofs.apply.stage_start.Reads as stage-start-reads
+use Rattle.stages.proofs.stage_start.Reads as stage-start-reads
 use Rattle.props.proofs.read_entry.Reads as read-entry-reads
 
 abbrev Inv-loop : tie.InvT-loop

@@ -1,16 +1,16 @@
 use mathlib.Core.Path.{_∙_, sym}
 use borrow.Author.Needs.{needs}
 use Rattle.chains.proofs.GoingLaws.{drawn-as, moved-drawn, moved-held, moved-none, settled-as, settled-drawable}
-use Rattle.chains.proofs.StageLaws.{held-even, stage-bounded, stage-sound}
+use Rattle.stages.proofs.StageLaws.{held-even, stage-bounded, stage-sound}
 use Rattle.chains.proofs.apply.apply_entry.Statement.{statement}
 use Rattle.chains.proofs.apply.apply_entry.Tie as tie
 use Rattle.chains.proofs.apply.apply_entry.Reads as reads
 use Rattle.chains.proofs.apply.apply_entry.Lts as lts
 use Rattle.chains.proofs.apply.draw_property.Reads as draw-property-reads
-use Rattle.chains.proofs.apply.hold.Reads as hold-reads
+use Rattle.stages.proofs.hold.Reads as hold-reads
 use Rattle.chains.proofs.apply.is_drawn.Reads as is-drawn-reads
 use Rattle.chains.proofs.apply.settle.Reads as settle-reads
-use Rattle.chains.proofs.chain_plan.is_held.Reads as is-held-reads
+use Rattle.stages.proofs.is_held.Reads as is-held-reads
 
 is-drawn-requires : tie.Need-is-drawn-requires
 is-drawn-requires c κs = search needs

@@ -1,13 +1,13 @@
 use borrow.Author.Needs.{needs}
 use Rattle.chains.proofs.GoingLaws.{drawn-back, drawn-over}
-use Rattle.chains.proofs.StageLaws.{stage-sound}
+use Rattle.stages.proofs.StageLaws.{stage-sound}
 use Rattle.chains.proofs.apply.draw_property.Statement.{statement}
 use Rattle.chains.proofs.apply.draw_property.Tie as tie
 use Rattle.chains.proofs.apply.draw_property.Reads as reads
 use Rattle.chains.proofs.apply.draw_property.Lts as lts
 use Rattle.chains.proofs.apply.draw_into.Reads as draw-into-reads
-use Rattle.chains.proofs.apply.next_form.Reads as next-form-reads
-use Rattle.chains.proofs.apply.stage_drawn.Reads as stage-drawn-reads
+use Rattle.stages.proofs.next_form.Reads as next-form-reads
+use Rattle.stages.proofs.stage_drawn.Reads as stage-drawn-reads
 
 next-form-requires : tie.Need-next-form-requires
 next-form-requires c κs = stage-sound _ _ (c .before .before .pre .staged .sound)

@@ -6,7 +6,7 @@ use Rattle.chains.specs.inner.Apply.{draws}
 use Rattle.chains.proofs.apply.is_drawn.Tie as tie
 use Rattle.chains.proofs.apply.is_drawn.Reads as reads
 use Rattle.chains.proofs.apply.is_drawn.Lts as lts
-use Rattle.chains.proofs.chain_plan.is_move.Reads as is-move-reads
+use Rattle.stages.proofs.is_move.Reads as is-move-reads
 
 is-move-requires : tie.Need-is-move-requires
 is-move-requires c κs = search needs

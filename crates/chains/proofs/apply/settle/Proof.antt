@@ -5,7 +5,7 @@ use Rattle.chains.proofs.apply.settle.Tie as tie
 use Rattle.chains.proofs.apply.settle.Reads as reads
 use Rattle.chains.proofs.apply.settle.Lts as lts
 use Rattle.chains.proofs.apply.show_into.Reads as show-into-reads
-use Rattle.chains.proofs.apply.stage_drawn.Reads as stage-drawn-reads
+use Rattle.stages.proofs.stage_drawn.Reads as stage-drawn-reads
 
 show-into-requires : tie.Need-show-into-requires
 show-into-requires c κs =

@@ -6,7 +6,7 @@ use borrow.Author.Needs.{needs}
 use Rattle.laws.specs.Puts.{puts}
 use Rattle.planes.specs.Bytes.{decode, encode}
 use Rattle.view.specs.inner.View.{shown}
-use Rattle.chains.proofs.StageLaws.{shown-is, stage-form, stage-frame, stage-shown}
+use Rattle.stages.proofs.StageLaws.{shown-is, stage-form, stage-frame, stage-shown}
 use Rattle.chains.proofs.apply.show_into.Statement.{statement}
 use Rattle.chains.proofs.apply.show_into.Tie as tie
 use Rattle.chains.proofs.apply.show_into.Reads as reads

@@ -10,14 +10,14 @@ use Rattle.records.specs.Record.{frameOut}
 use Rattle.props.specs.Chain.{chainOut}
 use Rattle.scene.proofs.SceneLaws.{RecordKnown, first-output, first-spare, held-refused, ready-output, ready-spare, record-chain, record-form, record-read, record-refused, scene-output, scene-refused, scene-spare}
 use Rattle.scene.proofs.transforms.apply_transforms.Statement.{statement}
-use Rattle.chains.specs.inner.ChainPlan.{currentOf, currentOut}
+use Rattle.plans.specs.inner.ChainPlan.{currentOf, currentOut}
 use Rattle.scene.proofs.transforms.apply_transforms.Tie as tie
 use Rattle.scene.proofs.transforms.apply_transforms.Reads as reads
 use Rattle.scene.proofs.transforms.apply_transforms.Lts as lts
 use Rattle.records.proofs.parse_record.Reads as parse-record-reads
 use Rattle.props.proofs.check_chain.Reads as check-chain-reads
 use Rattle.chains.proofs.finish_scene.Reads as finish-scene-reads
-use Rattle.chains.proofs.plan_scene.Reads as plan-scene-reads
+use Rattle.plans.proofs.plan_scene.Reads as plan-scene-reads
 use Rattle.transform.proofs.tighten.Reads as tighten-reads
 
 ready : (c : tie.After-c) →
