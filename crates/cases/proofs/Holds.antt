@@ -21,9 +21,9 @@ use Rattle.sizes.specs.Aperture.{axisOf, edgeOf, resolveOf}
 use Rattle.props.specs.Chain.{applies, chainAt, countAt, entriesAt, foldChain}
 use Rattle.props.specs.Entry.{byteAt, entryAt, irotAt, propertyAt}
 use Rattle.sizes.specs.Scale.{changed, scaleOf, scaledSide, withinOf}
-use Rattle.transform.specs.Chain.{picAfter}
-use Rattle.transform.specs.Place.{sideways, swaps, unturn}
-use Rattle.transform.specs.Turn.{fromBottom, fromRight, lopsided, quarterOf, turn, turned}
+use Rattle.motions.specs.Chain.{picAfter}
+use Rattle.motions.specs.Place.{sideways, swaps, unturn}
+use Rattle.motions.specs.Turn.{fromBottom, fromRight, lopsided, quarterOf, turn, turned}
 use Rattle.sight.specs.Sight.{back, backFrom, exchange, finalHeight, finalWidth, highOf, sourcePlace, sightAfter, sightOf, thenTurn, whole, wideOf}
 use Rattle.sampling.specs.Area.{area, areaMean, aroundOf, firstOf, footOf, pastOf, shareOf, sum, weighed, weightOf}
 use Rattle.sampling.specs.Depth.{levelOf, rescaled, toDepth}

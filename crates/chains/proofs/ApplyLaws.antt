@@ -30,7 +30,7 @@ use Rattle.props.specs.declared.entry.Irot.{Irot}
 use Rattle.props.specs.declared.entry.Property.{Property}
 use Rattle.props.specs.declared.entry.PropertyEntry.{PropertyEntry}
 use Rattle.sizes.specs.declared.iscl.Iscl.{Iscl}
-use Rattle.transform.specs.Chain.{picAfter}
+use Rattle.motions.specs.Chain.{picAfter}
 use Rattle.transform.specs.Run.{clapRun, imirRun, irotRun}
 use Rattle.resample.specs.Run.{isclRun}
 use Rattle.stages.proofs.AfterLaws.{Shows, after-bytes}

@@ -17,7 +17,7 @@ use Rattle.props.proofs.ChainLaws.{Applied, fold-same}
 use Rattle.props.specs.Chain.{applies, entriesAt, foldChain}
 use Rattle.props.specs.declared.entry.Property.{Property}
 use Rattle.props.specs.declared.entry.PropertyEntry.{PropertyEntry}
-use Rattle.transform.specs.Chain.{picAfter}
+use Rattle.motions.specs.Chain.{picAfter}
 use Rattle.stages.proofs.AfterLaws.{Formed, after-form, after-sound, after-in-range}
 use Rattle.stages.specs.Chain.{Drawn, firstDrawn, chainDrawn, drawnAfter, scaled}
 use Rattle.plans.specs.declared.chain_plan.ChainPlan.{ChainPlan}

@@ -23,9 +23,9 @@ use Rattle.props.specs.Chain.{foldChain}
 use Rattle.sizes.specs.Sound.{Inside}
 use Rattle.props.specs.declared.entry.Property.{Property}
 use Rattle.props.specs.declared.entry.PropertyEntry.{PropertyEntry}
-use Rattle.transform.specs.Chain.{NotIscl, chainPic, picAfter}
-use Rattle.transform.specs.Place.{Place, sideways, swaps, unturn}
-use Rattle.transform.specs.Turn.{quarterOf}
+use Rattle.motions.specs.Chain.{NotIscl, chainPic, picAfter}
+use Rattle.motions.specs.Place.{Place, sideways, swaps, unturn}
+use Rattle.motions.specs.Turn.{quarterOf}
 use Rattle.sight.proofs.Agreement.{chain-sight-plain, seen-place}
 use Rattle.sight.proofs.CarryLaws.{all-applied, back-carried, sight-carries}
 use Rattle.sight.proofs.Steps.{place-in, sight-inside}

@@ -30,7 +30,7 @@ use Rattle.image.specs.declared.format.Part.the-variants.{Alpha, Cb, Cr, Luma}
 use Rattle.image.specs.declared.format.PixelFormat.{PixelFormat}
 use Rattle.records.specs.declared.record.Frame.{Frame}
 use Rattle.derived.specs.declared.grid.GridDescriptor.{GridDescriptor}
-use Rattle.transform.specs.Place.{Place}
+use Rattle.motions.specs.Place.{Place}
 use Rattle.sight.proofs.Agreement.{covered}
 use Rattle.grid.proofs.Composed.{below, canvas-chroma, mono-same, promotes-colour, tile-chroma, tile-depth, tile-width}
 use Rattle.grid.proofs.Suited.{tile-parts, tilePic-form}

@@ -10,7 +10,7 @@ use Rattle.numbers.specs.declared.NumberRead.{NumberRead}
 use Rattle.numbers.specs.declared.NumberRead.the-variants.{Malformed, Number}
 use Rattle.props.specs.Chain.{chainAt}
 use Rattle.props.specs.declared.entry.PropertyEntry.{PropertyEntry}
-use Rattle.transform.specs.Place.{Place}
+use Rattle.motions.specs.Place.{Place}
 use Rattle.sight.specs.Sight.{sightOf}
 use Rattle.grid.specs.Tiles.{tilesAt}
 use Rattle.laws.specs.Any.{any}

@@ -33,7 +33,7 @@ use Rattle.fill.specs.declared.Colour.{Colour}
 use Rattle.derived.proofs.Taken.{overlay-fill}
 use Rattle.derived.specs.Overlay.{overlayOf, placementAt}
 use Rattle.derived.specs.declared.overlay.OverlayDescriptor.{OverlayDescriptor}
-use Rattle.transform.specs.Place.{Place}
+use Rattle.motions.specs.Place.{Place}
 use Rattle.grid.proofs.Composed.{drop-head}
 use Rattle.overlay.proofs.ReachLaws.{covers-facts, spot-inside}
 use Rattle.overlay.proofs.RunLaws.{Took, frames-sound}

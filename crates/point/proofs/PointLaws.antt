@@ -29,7 +29,7 @@ use Rattle.props.specs.inner.Judged.{Judged, judgedAt}
 use Rattle.sizes.specs.Sound.{Inside}
 use Rattle.props.specs.declared.chain.Chain.{Chain}
 use Rattle.props.specs.declared.entry.PropertyEntry.{PropertyEntry}
-use Rattle.transform.specs.Place.{Place}
+use Rattle.motions.specs.Place.{Place}
 use Rattle.sight.proofs.Steps.{bounded-place, sight-bounded, sight-inside}
 use Rattle.sight.proofs.Turns.{back-in}
 use Rattle.sight.specs.Sight.{back, boundedSource, sourcePlace, sightOf}

@@ -10,7 +10,7 @@ use Rattle.numbers.specs.declared.NumberRead.the-variants.{Number}
 use Rattle.image.specs.declared.format.Part.{Part}
 use Rattle.props.proofs.ChainLaws.{Applied}
 use Rattle.props.specs.declared.entry.PropertyEntry.{PropertyEntry}
-use Rattle.transform.specs.Chain.{NotIscl}
+use Rattle.motions.specs.Chain.{NotIscl}
 use Rattle.stages.specs.Chain.{Drawn}
 use Rattle.scene.specs.Scene.{roomFor}
 use Rattle.point.specs.Agreement.{Agreement, Room, Unscaled}

@@ -15,9 +15,9 @@ use Rattle.image.specs.declared.format.Part.{Part}
 use Rattle.records.specs.declared.record.Frame.{Frame}
 use Rattle.props.specs.Chain.{applies, chainAt}
 use Rattle.props.specs.declared.entry.PropertyEntry.{PropertyEntry}
-use Rattle.transform.specs.Place.{Place}
+use Rattle.motions.specs.Place.{Place}
 use Rattle.sight.specs.Carry.{Follows, Tracked, carryOf, kept}
-use Rattle.transform.specs.Chain.{NotIscl}
+use Rattle.motions.specs.Chain.{NotIscl}
 use Rattle.sight.specs.Sight.{finalHeight, finalWidth, sightOf}
 use Rattle.sight.specs.declared.Sight.{Sight}
 use Rattle.laws.specs.Any.{any}

@@ -12,7 +12,7 @@ use Rattle.derived.specs.declared.overlay.OverlayDescriptor.{OverlayDescriptor}
 use Rattle.derived.specs.declared.overlay.Placement.{Placement}
 use Rattle.props.specs.Chain.{chainAt}
 use Rattle.props.specs.declared.entry.PropertyEntry.{PropertyEntry}
-use Rattle.transform.specs.Place.{Place}
+use Rattle.motions.specs.Place.{Place}
 use Rattle.sight.specs.Sight.{sourcePlace, sightOf}
 use Rattle.sight.specs.declared.Sight.{Sight}
 use Rattle.grid.specs.Tiles.{tilesAt}

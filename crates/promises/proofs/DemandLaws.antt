@@ -20,8 +20,8 @@ use Rattle.fill.specs.declared.Colour.{Colour}
 use Rattle.props.proofs.ChainLaws.{Applied}
 use Rattle.props.specs.Chain.{chainAt, countAt, entriesAt}
 use Rattle.props.specs.declared.entry.PropertyEntry.{PropertyEntry}
-use Rattle.transform.specs.Chain.{NotIscl}
-use Rattle.transform.specs.Place.{Place}
+use Rattle.motions.specs.Chain.{NotIscl}
+use Rattle.motions.specs.Place.{Place}
 use Rattle.sight.specs.declared.Sight.{Sight}
 use Rattle.grid.proofs.GridLaws.{tiles-taken}
 use Rattle.grid.proofs.TilesLaws.{tiles-number}

@@ -36,7 +36,7 @@ use Rattle.props.specs.Size.{sizeAfter}
 use Rattle.sizes.specs.declared.clap.Clap.{Clap}
 use Rattle.sizes.specs.declared.clap.CropRect.{CropRect}
 use Rattle.props.specs.declared.entry.PropertyEntry.{PropertyEntry}
-use Rattle.transform.specs.Place.{Place}
+use Rattle.motions.specs.Place.{Place}
 use Rattle.sight.specs.Carry.{Tracked}
 use Rattle.sight.specs.declared.Sight.{Sight}
 use Rattle.steps_text.specs.Text.{textOf}

@@ -23,15 +23,15 @@ use Rattle.sizes.specs.declared.clap.CropRect.{CropRect}
 use Rattle.props.specs.declared.entry.Property.{Property}
 use Rattle.props.specs.declared.entry.PropertyEntry.{PropertyEntry}
 use Rattle.sizes.specs.declared.iscl.Iscl.{Iscl}
-use Rattle.transform.proofs.Shown.{crop-shows, mirror-shows, turn-shows}
-use Rattle.transform.specs.Place.{Place, sideways, swaps, unturn}
-use Rattle.transform.specs.inner.Shows.{Shows, uncrop, unmirror}
-use Rattle.transform.specs.Turn.{crop, mirror, quarterOf, turn}
+use Rattle.motions.proofs.Shown.{crop-shows, mirror-shows, turn-shows}
+use Rattle.motions.specs.Place.{Place, sideways, swaps, unturn}
+use Rattle.motions.specs.inner.Shows.{Shows, uncrop, unmirror}
+use Rattle.motions.specs.Turn.{crop, mirror, quarterOf, turn}
 use Rattle.sight.proofs.Quarters.{mirror-below}
 use Rattle.sight.proofs.Steps.{place-across, place-down, place-in}
 use Rattle.sight.proofs.Stops.{sight-not-18}
 use Rattle.sight.proofs.Turns.{back-in, back-once, crop-back, crop-height, crop-inside, crop-width, mirror-back, mirror-height, mirror-width, turn-back, turn-height, turn-width, unmirror-in, unturn-in}
-use Rattle.transform.specs.Chain.{NotIscl, chainPic, picAfter}
+use Rattle.motions.specs.Chain.{NotIscl, chainPic, picAfter}
 use Rattle.sight.specs.inner.Seen.{View, PlaceAgrees, Seen}
 use Rattle.sight.specs.Sight.{back, backFrom, exchange, finalHeight, finalWidth, highOf, sourcePlace, sightAfter, sightOf, thenCrop, thenMirror, thenTurn, whole, wideOf}
 use Rattle.sight.specs.declared.Sight.{Sight}

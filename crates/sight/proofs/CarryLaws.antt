@@ -17,9 +17,9 @@ use Rattle.sizes.specs.Sound.{Inside}
 use Rattle.sizes.specs.declared.clap.CropRect.{CropRect}
 use Rattle.props.specs.declared.entry.Property.{Property}
 use Rattle.props.specs.declared.entry.PropertyEntry.{PropertyEntry}
-use Rattle.transform.specs.Place.{Place, sideways, swaps, unturn}
-use Rattle.transform.specs.inner.Shows.{unmirror}
-use Rattle.transform.specs.Turn.{Quarter, q0, q1, q2, q3, quarterOf}
+use Rattle.motions.specs.Place.{Place, sideways, swaps, unturn}
+use Rattle.motions.specs.inner.Shows.{unmirror}
+use Rattle.motions.specs.Turn.{Quarter, q0, q1, q2, q3, quarterOf}
 use Rattle.sight.proofs.Steps.{sight-inside, sight-turns}
 use Rattle.sight.proofs.Turns.{back-in, back-once, crop-back, crop-height, crop-inside, crop-width, exchange-in, exchange-row, mirror-back, mirror-height, mirror-width, place-path, turn-back, turn-height, turn-width}
 use Rattle.sight.specs.Carry.{Carried, Fate, Follows, Tracked, carryAfter, carryOf, cropPlace, cropped, inRect, kept, mirrorPlace, onward, turnPlace, forward}

@@ -7,8 +7,8 @@ use native.Mathlib.Omega.{arith}
 use lib.Dec.{eqb}
 use Rattle.laws.proofs.Order.{by-equal}
 use Rattle.laws.specs.Pick.{pick}
-use Rattle.transform.proofs.Runs.{quarter-one, quarter-two, quarter-zero}
-use Rattle.transform.specs.Turn.{Quarter, q0, q1, q2, q3, quarterOf}
+use Rattle.motions.proofs.Quarters.{quarter-one, quarter-two, quarter-zero}
+use Rattle.motions.specs.Turn.{Quarter, q0, q1, q2, q3, quarterOf}
 use Rattle.sight.specs.Sight.{mirrorTurns}
 
 -- ---- turns as such

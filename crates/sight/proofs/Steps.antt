@@ -18,9 +18,9 @@ use Rattle.sizes.specs.declared.clap.Clap.{Clap}
 use Rattle.sizes.specs.declared.clap.CropRect.{CropRect}
 use Rattle.props.specs.declared.entry.Property.{Property}
 use Rattle.props.specs.declared.entry.PropertyEntry.{PropertyEntry}
-use Rattle.transform.proofs.Runs.{quarter-one, quarter-two, quarter-zero}
-use Rattle.transform.specs.Place.{Place, sideways, swaps, unturn}
-use Rattle.transform.specs.Turn.{Quarter, quarterOf}
+use Rattle.motions.proofs.Quarters.{quarter-one, quarter-two, quarter-zero}
+use Rattle.motions.specs.Place.{Place, sideways, swaps, unturn}
+use Rattle.motions.specs.Turn.{Quarter, quarterOf}
 use Rattle.sight.proofs.Quarters.{by-quarter, mirror-below, quarter-3}
 use Rattle.sight.proofs.Turns.{crop-inside, exchange-inside, exchange-row, place-path, unturn-in, unturn-inside}
 use Rattle.sight.specs.Sight.{back, backFrom, boundedSource, cropFrom, exchange, exchangeRect, finalHeight, finalWidth, highOf, mirrorTurns, sourcePlace, sightAfter, sightOf, thenCrop, thenMirror, thenTurn, unturnRect, whole, wideOf, within}

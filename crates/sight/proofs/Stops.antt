@@ -13,7 +13,7 @@ use Rattle.props.specs.Chain.{applies, foldChain}
 use Rattle.sizes.specs.declared.clap.Clap.{Clap}
 use Rattle.props.specs.declared.entry.Property.{Property}
 use Rattle.props.specs.declared.entry.PropertyEntry.{PropertyEntry}
-use Rattle.transform.specs.Chain.{NotIscl}
+use Rattle.motions.specs.Chain.{NotIscl}
 use Rattle.sight.specs.Sight.{sightAfter, sightOf, whole}
 use Rattle.sight.specs.declared.Sight.{Sight}
 

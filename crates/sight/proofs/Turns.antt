@@ -5,9 +5,9 @@ use Prim.Native.Nat.{_+_, _-_, _<_, _≤_, ℕ}
 use native.Mathlib.Omega.{arith}
 use Rattle.sizes.specs.Sound.{Inside}
 use Rattle.sizes.specs.declared.clap.CropRect.{CropRect}
-use Rattle.transform.specs.Place.{Place, sideways, swaps, unturn}
-use Rattle.transform.specs.inner.Shows.{unmirror}
-use Rattle.transform.specs.Turn.{Quarter, q0, q1, q2, q3, quarterOf}
+use Rattle.motions.specs.Place.{Place, sideways, swaps, unturn}
+use Rattle.motions.specs.inner.Shows.{unmirror}
+use Rattle.motions.specs.Turn.{Quarter, q0, q1, q2, q3, quarterOf}
 use Rattle.sight.proofs.Quarters.{flipped, next, plus, quarter-mirror, quarter-sum}
 use Rattle.sight.specs.Sight.{back, backFrom, cropFrom, exchange, exchangeRect, finalHeight, finalWidth, highOf, thenCrop, thenMirror, thenTurn, unturnRect, wideOf, within}
 use Rattle.sight.specs.declared.Sight.{Sight}

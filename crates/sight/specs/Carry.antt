@@ -13,8 +13,8 @@ use Rattle.sizes.specs.Sound.{Inside}
 use Rattle.sizes.specs.declared.clap.CropRect.{CropRect}
 use Rattle.props.specs.declared.entry.Property.{Property}
 use Rattle.props.specs.declared.entry.PropertyEntry.{PropertyEntry}
-use Rattle.transform.specs.Place.{Place, sideways, swaps}
-use Rattle.transform.specs.Turn.{Quarter, q0, q1, q2, q3, quarterOf}
+use Rattle.motions.specs.Place.{Place, sideways, swaps}
+use Rattle.motions.specs.Turn.{Quarter, q0, q1, q2, q3, quarterOf}
 use Rattle.sight.specs.Sight.{exchange, finalHeight, finalWidth}
 use Rattle.sight.specs.declared.Sight.{Sight}
 

@@ -11,8 +11,8 @@ use Rattle.props.specs.Chain.{foldChain}
 use Rattle.sizes.specs.declared.clap.CropRect.{CropRect}
 use Rattle.props.specs.declared.entry.Property.{Property}
 use Rattle.props.specs.declared.entry.PropertyEntry.{PropertyEntry}
-use Rattle.transform.specs.Place.{Place, sideways, swaps, unturn}
-use Rattle.transform.specs.Turn.{Quarter, q0, q1, q2, q3, quarterOf}
+use Rattle.motions.specs.Place.{Place, sideways, swaps, unturn}
+use Rattle.motions.specs.Turn.{Quarter, q0, q1, q2, q3, quarterOf}
 use Rattle.sight.specs.declared.PlaceRead.{PlaceRead}
 use Rattle.sight.specs.declared.Sight.{Sight}
 use Rattle.sight.specs.declared.SightRead.{SightRead}

@@ -27,16 +27,16 @@ use Rattle.sizes.specs.declared.clap.Clap.{Clap}
 use Rattle.props.specs.declared.entry.Property.{Property}
 use Rattle.sizes.specs.declared.iscl.Iscl.{Iscl}
 use Rattle.image.specs.declared.size.Size.{Size}
-use Rattle.transform.proofs.Carried.{crop-made, draws-agree, draws-form, draws-in-range, mirror-made, turn-agree, turn-form, turn-in-range}
-use Rattle.transform.specs.inner.Moves.{mirrorMove}
+use Rattle.motions.proofs.Carried.{crop-made, draws-agree, draws-form, draws-in-range, mirror-made, turn-agree, turn-form, turn-in-range}
+use Rattle.motions.specs.inner.Moves.{mirrorMove}
 use Rattle.transform.specs.Run.{turnBytes}
-use Rattle.transform.specs.Turn.{Quarter, q0, q1, q2, q3, quarterOf, turn}
+use Rattle.motions.specs.Turn.{Quarter, q0, q1, q2, q3, quarterOf, turn}
 use Rattle.sampling.proofs.AgreeLaws.{area-agree}
 use Rattle.resample.proofs.RunLaws.{own-sound, sized-sound}
 use Rattle.sampling.proofs.SmallLaws.{area-small}
 use Rattle.sampling.specs.Area.{area}
 use Rattle.resample.specs.Run.{areaBytes}
-use Rattle.transform.specs.Chain.{picAfter}
+use Rattle.motions.specs.Chain.{picAfter}
 use Rattle.stages.specs.inner.Stage.{recordAfter}
 use Rattle.stages.specs.Chain.{scaled}
 use Rattle.stages.specs.inner.Held.{formAfter}

@@ -24,9 +24,9 @@ use Rattle.planes.specs.Picture.{Agree, Pic}
 use Rattle.planes.specs.inner.Even.{Even}
 use Rattle.planes.specs.inner.InRange.{InRange}
 use Rattle.props.specs.declared.entry.Property.{Property}
-use Rattle.transform.specs.Chain.{NotIscl, picAfter}
-use Rattle.transform.specs.Turn.{quarterOf}
-use Rattle.transform.specs.inner.Moves.{cropMove, turnForm}
+use Rattle.motions.specs.Chain.{NotIscl, picAfter}
+use Rattle.motions.specs.Turn.{quarterOf}
+use Rattle.motions.specs.inner.Moves.{cropMove, turnForm}
 use Rattle.sizes.specs.Aperture.{resolveOf}
 use Rattle.sight.proofs.Agreement.{after-same, view-whole}
 use Rattle.sight.proofs.Stops.{after-not-18}

@@ -12,7 +12,7 @@ use Rattle.sizes.specs.Scale.{scaleOf}
 use Rattle.props.specs.declared.entry.Property.{Property}
 use Rattle.props.specs.declared.entry.PropertyEntry.{PropertyEntry}
 use Rattle.sizes.specs.declared.iscl.Iscl.{Iscl}
-use Rattle.transform.specs.Chain.{picAfter}
+use Rattle.motions.specs.Chain.{picAfter}
 use Rattle.sampling.specs.Area.{area}
 use Rattle.image.specs.Format.{hasSize}
 

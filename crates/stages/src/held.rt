@@ -61,9 +61,9 @@ pub fn form_after(m: Form, property: Property) -> FormRead
             let Resolved::Rect(r) = found else {
                 return FormRead::Refused(found.refusal());
             };
-            FormRead::Form(transform::crop_form(m, r))
+            FormRead::Form(motions::crop_form(m, r))
         }
-        Property::Irot(k) => FormRead::Form(transform::turn_form(m, k)),
+        Property::Irot(k) => FormRead::Form(motions::turn_form(m, k)),
         Property::Imir(_) => FormRead::Form(m),
         Property::Iscl(k) => match k.output_size(m.width, m.height) {
             SizeAnswer::Refused(e) => FormRead::Refused(e),

@@ -3,17 +3,16 @@ use mathlib.Core.Bool.{false, true}
 use mathlib.Core.List.{List}
 use mathlib.Core.Path.{_∙_, _≡_, ap}
 use Prim.Native.Nat.{_%_, _+_, _<_, _≤_, ℕ}
-use native.Mathlib.Omega.{arith}
 use borrow.Author.Tests.{eq-eqb, le-ltb, lt-ltb, ne-eqb}
-use Rattle.laws.proofs.Order.{pick-false, pick-true, positive}
+use Rattle.laws.proofs.Order.{positive}
 use Rattle.laws.proofs.Out.{refuse-no, refuse-yes, then-done, then-refused}
 use Rattle.laws.specs.Out.{done, fitted, reason, refused}
 use Rattle.laws.specs.declared.Refusal.{Refusal}
-use Rattle.records.proofs.RecordLaws.{whole-sound}
 use Rattle.image.specs.Format.{odd}
-use Rattle.records.specs.Record.{recordOf}
 use Rattle.image.specs.Sound.{FormSound}
 use Rattle.image.specs.declared.format.Form.{Form}
+use Rattle.records.proofs.RecordLaws.{whole-sound}
+use Rattle.records.specs.Record.{recordOf}
 use Rattle.records.specs.declared.record.Frame.{Frame}
 use Rattle.planes.proofs.RoundTrip.{drawn-as, encode-agree}
 use Rattle.planes.specs.Bytes.{decode, encode}
@@ -24,12 +23,13 @@ use Rattle.sizes.specs.declared.clap.Clap.{Clap}
 use Rattle.sizes.specs.declared.clap.CropRect.{CropRect}
 use Rattle.props.specs.declared.entry.Imir.{Imir}
 use Rattle.props.specs.declared.entry.Irot.{Irot}
-use Rattle.transform.proofs.Draws.{crop-draws, half-draws, left-draws, mirror-draws, right-draws, still-draws}
-use Rattle.transform.proofs.Fits.{crop-fits}
-use Rattle.transform.specs.Run.{clapRun, cropOf, cropRun, imirRun, irotRun, turnBytes}
-use Rattle.transform.specs.Turn.{Quarter, q0, q1, q2, q3, quarterOf}
 use Rattle.moves.specs.inner.Move.{MoveFits, moved}
-use Rattle.transform.specs.inner.Moves.{cropMove, halfMove, mirrorMove, quarterMove, stillMove}
+use Rattle.motions.proofs.Draws.{crop-draws, half-draws, left-draws, mirror-draws, right-draws, still-draws}
+use Rattle.motions.proofs.Fits.{crop-fits}
+use Rattle.motions.proofs.Quarters.{quarter-one, quarter-three, quarter-two, quarter-zero}
+use Rattle.motions.specs.Turn.{Quarter, q0, q1, q2, q3, quarterOf}
+use Rattle.motions.specs.inner.Moves.{cropMove, halfMove, mirrorMove, quarterMove, stillMove}
+use Rattle.transform.specs.Run.{clapRun, cropOf, cropRun, imirRun, irotRun, turnBytes}
 
 -- ---- crop
 
@@ -83,28 +83,6 @@ unfolding decode
 still-bytes s fr ok = encode-agree _ _ (still-draws (decode s fr) (ok .wide) (ok .tall))
 
 -- ---- turns and mirrors
-
-pub quarter-zero : (a : ℕ) → a % 4 ≡ 0 → quarterOf a ≡ q0
-unfolding quarterOf
-quarter-zero a e = pick-true _ _ _ (eq-eqb (a % 4) 0 e)
-
-pub quarter-one : (a : ℕ) → a % 4 ≡ 1 → quarterOf a ≡ q1
-unfolding quarterOf
-quarter-one a e = pick-false _ _ _ (ne-eqb (a % 4) 0 (λ z. differ z)) ∙ pick-true _ _ _ (eq-eqb (a % 4) 1 e)
-  where
-    differ : a % 4 ≡ 0 → ⊥
-    differ z = omega arith
-
-pub quarter-two : (a : ℕ) → a % 4 ≡ 2 → quarterOf a ≡ q2
-unfolding quarterOf
-quarter-two a e = pick-false _ _ _ (ne-eqb (a % 4) 0 (λ z. differ 0 (omega arith) z)) ∙ pick-false _ _ _ (ne-eqb (a % 4) 1 (λ z. differ 1 (omega arith) z)) ∙ pick-true _ _ _ (eq-eqb (a % 4) 2 e)
-  where
-    differ : (n : ℕ) → n < 2 → a % 4 ≡ n → ⊥
-    differ n h z = omega arith
-
-pub quarter-three : (a : ℕ) → (a % 4 ≡ 0 → ⊥) → (a % 4 ≡ 1 → ⊥) → (a % 4 ≡ 2 → ⊥) → quarterOf a ≡ q3
-unfolding quarterOf
-quarter-three a x y z = pick-false _ _ _ (ne-eqb (a % 4) 0 x) ∙ pick-false _ _ _ (ne-eqb (a % 4) 1 y) ∙ pick-false _ _ _ (ne-eqb (a % 4) 2 z)
 
 module _ (s : List ℕ) (fr : Frame) (taken : recordOf s ≡ done fr) (room : ℕ) where
   ok : FormSound (fr .form)

@@ -1,5 +1,1 @@
-pub mod Turn
-pub mod Place
 pub mod Run
-pub mod Chain
-pub mod inner

@@ -12,7 +12,7 @@ use Rattle.sizes.specs.declared.clap.CropRect.{CropRect}
 use Rattle.props.specs.declared.entry.Imir.{Imir}
 use Rattle.props.specs.declared.entry.Irot.{Irot}
 use Rattle.sizes.specs.declared.clap.Clap.{Clap}
-use Rattle.transform.specs.Turn.{Quarter, crop, mirror, q0, q1, q2, q3, quarterOf, turn}
+use Rattle.motions.specs.Turn.{Quarter, crop, mirror, q0, q1, q2, q3, quarterOf, turn}
 
 -- crop: the record, then 9 for a rectangle that has no side or is not inside, then 17
 unfoldable pub cropOf : List ℕ → Frame → CropRect → ℕ → Out (List ℕ)

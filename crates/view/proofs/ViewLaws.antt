@@ -21,10 +21,10 @@ use Rattle.moves.proofs.Drawn.{full-sides}
 use Rattle.moves.specs.declared.walk.Axis.{Axis}
 use Rattle.moves.specs.declared.walk.Move.{Move}
 use Rattle.moves.specs.inner.Move.{MoveFits, StepsFit, alongFrom, moved, planeAxis}
-use Rattle.transform.proofs.Fits.{AxesMove, AxisMoves, balanced, moves-fit}
-use Rattle.transform.specs.inner.Moves.{cropMove, cropWith, formWith, halfMove, halfWith, quarterMove, quarterWith, turnForm}
-use Rattle.transform.specs.Place.{sideways, swaps, unturn}
-use Rattle.transform.specs.Turn.{Quarter, q0, q1, q2, q3, quarterOf}
+use Rattle.motions.proofs.Fits.{AxesMove, AxisMoves, balanced, moves-fit}
+use Rattle.motions.specs.inner.Moves.{cropMove, cropWith, formWith, halfMove, halfWith, quarterMove, quarterWith, turnForm}
+use Rattle.motions.specs.Place.{sideways, swaps, unturn}
+use Rattle.motions.specs.Turn.{Quarter, q0, q1, q2, q3, quarterOf}
 use Rattle.sight.specs.inner.Seen.{View}
 use Rattle.sight.proofs.Quarters.{by-quarter, flipped, next, plus, quarter-mirror, quarter-sum}
 use Rattle.planes.proofs.RoundTrip.{length-encode}

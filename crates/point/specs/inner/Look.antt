@@ -4,7 +4,7 @@ use Prim.Native.Nat.{_*_, _<_, _≤_, ℕ}
 use Rattle.laws.specs.Out.{Out, done, refused}
 use Rattle.derived.specs.inner.Sound.{OverlaySound}
 use Rattle.sizes.specs.Sound.{Inside}
-use Rattle.transform.specs.Place.{Place}
+use Rattle.motions.specs.Place.{Place}
 use Rattle.sight.specs.inner.Bounded.{Bounded}
 use Rattle.sight.specs.declared.CanvasPlace.{CanvasPlace}
 use Rattle.grid.specs.declared.tiles.Tiles.{Tiles}

@@ -2,7 +2,7 @@
 use mathlib.Core.Path.{_≡_}
 use Prim.Native.Nat.{_+_, _<_, _^_}
 use Rattle.sizes.specs.declared.clap.CropRect.{CropRect}
-use Rattle.transform.specs.Place.{Place}
+use Rattle.motions.specs.Place.{Place}
 use Rattle.sight.specs.declared.CanvasPlace.{CanvasPlace}
 
 -- a rectangle whose far edges are 32-bit numbers

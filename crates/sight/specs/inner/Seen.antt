@@ -8,8 +8,8 @@ use Rattle.planes.specs.Picture.{Pic, pixel}
 use Rattle.planes.specs.inner.Even.{Even}
 use Rattle.image.specs.declared.format.Part.{Part}
 use Rattle.sizes.specs.Sound.{Inside}
-use Rattle.transform.specs.Place.{Place}
-use Rattle.transform.specs.inner.Shows.{Shows}
+use Rattle.motions.specs.Place.{Place}
+use Rattle.motions.specs.inner.Shows.{Shows}
 use Rattle.sight.specs.Sight.{back, finalHeight, finalWidth}
 use Rattle.sight.specs.declared.Sight.{Sight}
 

@@ -7,8 +7,8 @@ use Rattle.image.specs.declared.format.Form.{Form}
 use Rattle.sizes.specs.Aperture.{resolveOf}
 use Rattle.sizes.specs.Scale.{scaleOf}
 use Rattle.props.specs.declared.entry.Property.{Property}
-use Rattle.transform.specs.Turn.{quarterOf}
-use Rattle.transform.specs.inner.Moves.{cropMove, turnForm}
+use Rattle.motions.specs.Turn.{quarterOf}
+use Rattle.motions.specs.inner.Moves.{cropMove, turnForm}
 
 -- the form after a property
 unfoldable pub formAfter : Property → Form → Out Form

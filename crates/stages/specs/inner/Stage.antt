@@ -15,7 +15,7 @@ use Rattle.sizes.specs.Aperture.{resolveOf}
 use Rattle.sizes.specs.Scale.{scaleOf}
 use Rattle.props.specs.declared.entry.Property.{Property}
 use Rattle.transform.specs.Run.{turnBytes}
-use Rattle.transform.specs.Turn.{crop, mirror, quarterOf}
+use Rattle.motions.specs.Turn.{crop, mirror, quarterOf}
 use Rattle.sight.specs.Sight.{sightAfter, whole}
 use Rattle.sight.specs.declared.Sight.{Sight}
 use Rattle.sight.specs.inner.Seen.{View}

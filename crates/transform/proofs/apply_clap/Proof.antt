@@ -20,7 +20,7 @@ use Rattle.transform.proofs.apply_clap.Lts as lts
 use Rattle.records.proofs.parse_record.Reads as parse-record-reads
 use Rattle.sizes.proofs.clap.Clap.resolve.Reads as resolve-reads
 use Rattle.sizes.proofs.clap.Resolved.refusal.Reads as refusal-reads
-use Rattle.transform.proofs.crop_move.Reads as crop-move-reads
+use Rattle.motions.proofs.crop_move.Reads as crop-move-reads
 use Rattle.transform.proofs.draw.Reads as draw-reads
 
 taken : (c : tie.After-f) → recordOf (now (c .before .before .before .before .before .args .«record»)) ≡ done (c .f .given .0 .0)

@@ -8,7 +8,7 @@ use Rattle.records.proofs.RecordLaws.{whole-sound}
 use Rattle.planes.specs.Bytes.{decode, encode}
 use Rattle.image.specs.Format.{odd}
 use Rattle.records.specs.Record.{frameOut, recordOf}
-use Rattle.transform.proofs.Fits.{mirror-fits}
+use Rattle.motions.proofs.Fits.{mirror-fits}
 use Rattle.transform.proofs.Runs.{mirror-run}
 use Rattle.moves.specs.inner.Move.{moved}
 use Rattle.transform.specs.Run.{imirRun}
@@ -19,7 +19,7 @@ use Rattle.transform.proofs.apply_imir.Reads as reads
 use Rattle.transform.proofs.apply_imir.Lts as lts
 use Rattle.records.proofs.parse_record.Reads as parse-record-reads
 use Rattle.transform.proofs.draw.Reads as draw-reads
-use Rattle.transform.proofs.mirror_move.Reads as mirror-move-reads
+use Rattle.motions.proofs.mirror_move.Reads as mirror-move-reads
 
 taken : (c : tie.After-f) → recordOf (now (c .before .before .before .before .before .args .«record»)) ≡ done (c .f .given .0 .0)
 taken c = sym (c .before .before .parse-record .ensures) ∙ ap frameOut (c .f .given .1)

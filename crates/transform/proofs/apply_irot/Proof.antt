@@ -11,7 +11,7 @@ use Rattle.records.proofs.RecordLaws.{whole-sound}
 use Rattle.planes.specs.Bytes.{decode, encode}
 use Rattle.records.specs.Record.{frameOut, recordOf}
 use Rattle.records.specs.inner.Placed.{Sound}
-use Rattle.transform.proofs.Fits.{half-fits, quarter-fits}
+use Rattle.motions.proofs.Fits.{half-fits, quarter-fits}
 use Rattle.transform.proofs.Runs.{turn-half, turn-left, turn-none, turn-right}
 use Rattle.moves.specs.inner.Move.{moved}
 use Rattle.transform.specs.Run.{irotRun}
@@ -22,9 +22,9 @@ use Rattle.transform.proofs.apply_irot.Reads as reads
 use Rattle.transform.proofs.apply_irot.Lts as lts
 use Rattle.records.proofs.parse_record.Reads as parse-record-reads
 use Rattle.transform.proofs.draw.Reads as draw-reads
-use Rattle.transform.proofs.half_move.Reads as half-move-reads
+use Rattle.motions.proofs.half_move.Reads as half-move-reads
 use Rattle.planes.proofs.hand_back.Reads as hand-back-reads
-use Rattle.transform.proofs.quarter_move.Reads as quarter-move-reads
+use Rattle.motions.proofs.quarter_move.Reads as quarter-move-reads
 
 taken : (c : tie.After-f) → recordOf (now (c .before .before .before .before .before .args .«record»)) ≡ done (c .f .given .0 .0)
 taken c = sym (c .before .before .parse-record .ensures) ∙ ap frameOut (c .f .given .1)

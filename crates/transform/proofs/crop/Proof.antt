@@ -16,7 +16,7 @@ use Rattle.transform.proofs.crop.Tie as tie
 use Rattle.transform.proofs.crop.Reads as reads
 use Rattle.transform.proofs.crop.Lts as lts
 use Rattle.records.proofs.parse_record.Reads as parse-record-reads
-use Rattle.transform.proofs.crop_move.Reads as crop-move-reads
+use Rattle.motions.proofs.crop_move.Reads as crop-move-reads
 use Rattle.transform.proofs.draw.Reads as draw-reads
 
 taken : (c : tie.After-f) → recordOf (now (c .before .before .before .before .before .args .«record»)) ≡ done (c .f .given .0 .0)

@@ -4,7 +4,7 @@ use lib.ListN.{length}
 use borrow.Author.Needs.{needs}
 use Rattle.laws.specs.Puts.{puts}
 use Rattle.planes.specs.Bytes.{decode, encode}
-use Rattle.transform.proofs.Fits.{still-fits}
+use Rattle.motions.proofs.Fits.{still-fits}
 use Rattle.transform.proofs.Runs.{still-bytes}
 use Rattle.transform.proofs.tighten.Statement.{statement}
 use Rattle.moves.specs.declared.walk.Move.{Move}
@@ -13,7 +13,7 @@ use Rattle.transform.proofs.tighten.Tie as tie
 use Rattle.transform.proofs.tighten.Reads as reads
 use Rattle.transform.proofs.tighten.Lts as lts
 use Rattle.moves.proofs.write_moved.Reads as write-moved-reads
-use Rattle.transform.proofs.still_move.Reads as still-move-reads
+use Rattle.motions.proofs.still_move.Reads as still-move-reads
 
 drawn : (c : tie.After-still-move) → let start = c .before .before .before .before in encode (moved (c .still-move .result) (decode (now (start .args .record)) (start .args .fr))) ≡ encode (decode (now (start .args .record)) (start .args .fr))
 drawn c =

@@ -13,8 +13,8 @@ use Rattle.sizes.specs.Sound.{Inside}
 use Rattle.moves.specs.inner.Move.{moved}
 use Rattle.moves.specs.declared.walk.Axis.{Axis}
 use Rattle.moves.specs.declared.walk.Move.{Move}
-use Rattle.transform.specs.Place.{swaps}
-use Rattle.transform.specs.Turn.{Quarter, q0, q1, q2, q3, quarterOf}
+use Rattle.motions.specs.Place.{swaps}
+use Rattle.motions.specs.Turn.{Quarter, q0, q1, q2, q3, quarterOf}
 use Rattle.sight.specs.Sight.{finalHeight, finalWidth}
 use Rattle.sight.specs.declared.Sight.{Sight}
 

@@ -1,7 +1,7 @@
 use native.Mathlib.Omega.{arith}
-use Rattle.transform.proofs.Runs.{quarter-one, quarter-three, quarter-two, quarter-zero}
-use Rattle.transform.specs.Place.{sideways, swaps}
-use Rattle.transform.specs.Turn.{q0, q1, q2, q3}
+use Rattle.motions.proofs.Quarters.{quarter-one, quarter-three, quarter-two, quarter-zero}
+use Rattle.motions.specs.Place.{sideways, swaps}
+use Rattle.motions.specs.Turn.{q0, q1, q2, q3}
 use Rattle.sight.proofs.Sight.unturned.Statement.{statement}
 use Rattle.sight.proofs.Steps.{inside-by, rect-by}
 use Rattle.sight.specs.Sight.{unturnRect}

@@ -1,8 +1,8 @@
 use mathlib.Core.Path.{refl}
 use native.Mathlib.Omega.{arith}
-use Rattle.transform.proofs.Runs.{quarter-one, quarter-three, quarter-two, quarter-zero}
-use Rattle.transform.specs.Place.{sideways, swaps, unturn}
-use Rattle.transform.specs.Turn.{q0, q1, q2, q3}
+use Rattle.motions.proofs.Quarters.{quarter-one, quarter-three, quarter-two, quarter-zero}
+use Rattle.motions.specs.Place.{sideways, swaps, unturn}
+use Rattle.motions.specs.Turn.{q0, q1, q2, q3}
 use Rattle.sight.proofs.Sight.unturned_place.Statement.{statement}
 use Rattle.sight.proofs.Steps.{below-by, place-by}
 use Rattle.sight.proofs.Sight.unturned_place.Tie as tie

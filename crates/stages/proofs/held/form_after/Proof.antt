@@ -5,7 +5,7 @@ use Rattle.laws.specs.Out.{done}
 use Rattle.sizes.proofs.ApertureLaws.{refused-no-rect}
 use Rattle.sizes.specs.Aperture.{resolvedOut}
 use Rattle.image.specs.Format.{sizeOut}
-use Rattle.transform.proofs.Carried.{turn-form}
+use Rattle.motions.proofs.Carried.{turn-form}
 use Rattle.stages.proofs.held.form_after.Statement.{statement}
 use Rattle.stages.specs.inner.Held.{formAfter}
 use Rattle.stages.proofs.held.form_after.Tie as tie
@@ -15,8 +15,8 @@ use Rattle.image.proofs.format.Form.sized.Reads as sized-reads
 use Rattle.sizes.proofs.clap.Clap.resolve.Reads as resolve-reads
 use Rattle.sizes.proofs.clap.Resolved.refusal.Reads as refusal-reads
 use Rattle.sizes.proofs.iscl.Iscl.output_size.Reads as output-size-reads
-use Rattle.transform.proofs.crop_form.Reads as crop-form-reads
-use Rattle.transform.proofs.turn_form.Reads as turn-form-reads
+use Rattle.motions.proofs.crop_form.Reads as crop-form-reads
+use Rattle.motions.proofs.turn_form.Reads as turn-form-reads
 
 enum-told : tie.Need-enum-told
 enum-told c = search needs

@@ -1,14 +1,14 @@
 use mathlib.Core.Path.{_∙_, ap, sym}
 use borrow.Author.Needs.{needs}
-use Rattle.transform.proofs.Carried.{turn-odd}
-use Rattle.transform.proofs.Runs.{quarter-two, quarter-zero}
-use Rattle.transform.proofs.turn_form.Statement.{statement}
-use Rattle.transform.specs.inner.Moves.{turnForm}
-use Rattle.transform.proofs.turn_form.Tie as tie
-use Rattle.transform.proofs.turn_form.Reads as reads
-use Rattle.transform.proofs.turn_form.Lts as lts
-use Rattle.transform.proofs.half_move.Reads as half-move-reads
-use Rattle.transform.proofs.quarter_move.Reads as quarter-move-reads
+use Rattle.motions.proofs.Carried.{turn-odd}
+use Rattle.motions.proofs.Quarters.{quarter-two, quarter-zero}
+use Rattle.motions.proofs.turn_form.Statement.{statement}
+use Rattle.motions.specs.inner.Moves.{turnForm}
+use Rattle.motions.proofs.turn_form.Tie as tie
+use Rattle.motions.proofs.turn_form.Reads as reads
+use Rattle.motions.proofs.turn_form.Lts as lts
+use Rattle.motions.proofs.half_move.Reads as half-move-reads
+use Rattle.motions.proofs.quarter_move.Reads as quarter-move-reads
 
 returns : tie.Need-returns
 unfolding turnForm

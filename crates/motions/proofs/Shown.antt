@@ -9,10 +9,10 @@ use Rattle.planes.specs.Picture.{Pic, ensure, pixel, promote}
 use Rattle.planes.specs.inner.Even.{Even, Evenly}
 use Rattle.image.specs.declared.format.Part.{Part}
 use Rattle.sizes.specs.declared.clap.CropRect.{CropRect}
-use Rattle.transform.proofs.Fits.{balanced}
-use Rattle.transform.specs.Place.{sideways, swaps, unturn}
-use Rattle.transform.specs.inner.Shows.{Shows, uncrop, unmirror}
-use Rattle.transform.specs.Turn.{Quarter, crop, cut, fromBottom, fromRight, lopsided, mirror, q0, q1, q2, q3, turn, turned}
+use Rattle.motions.proofs.Fits.{balanced}
+use Rattle.motions.specs.Place.{sideways, swaps, unturn}
+use Rattle.motions.specs.inner.Shows.{Shows, uncrop, unmirror}
+use Rattle.motions.specs.Turn.{Quarter, crop, cut, fromBottom, fromRight, lopsided, mirror, q0, q1, q2, q3, turn, turned}
 
 -- ---- crop: asks nothing of the picture
 

@@ -19,11 +19,11 @@ use Rattle.planes.proofs.PictureLaws.{evenly-if, evenly-part, needs-X, needs-Y,
 use Rattle.planes.specs.inner.Even.{Evenly}
 use Rattle.sizes.specs.Sound.{Inside}
 use Rattle.sizes.specs.declared.clap.CropRect.{CropRect}
-use Rattle.transform.specs.Turn.{lopsided}
+use Rattle.motions.specs.Turn.{lopsided}
 use Rattle.moves.specs.declared.walk.Axis.{Axis}
 use Rattle.moves.specs.declared.walk.Move.{Move}
 use Rattle.moves.specs.inner.Move.{MoveFits, StepsFit, alongFrom, planeAxis, walkOf, walkX, walkY}
-use Rattle.transform.specs.inner.Moves.{cropMove, cropWith, endAxis, formWith, halfMove, halfWith, mirrorMove, quarterMove, quarterWith, stillMove}
+use Rattle.motions.specs.inner.Moves.{cropMove, cropWith, endAxis, formWith, halfMove, halfWith, mirrorMove, quarterMove, quarterWith, stillMove}
 
 -- ---- along one axis: t promoted, h halved; len places of the new picture are sideOf (pick t false h) len samples
 

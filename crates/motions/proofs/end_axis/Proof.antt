@@ -1,10 +1,10 @@
 use borrow.Author.Needs.{needs}
 use Rattle.laws.specs.Pick.{pick}
-use Rattle.transform.specs.inner.Moves.{endAxis}
-use Rattle.transform.proofs.end_axis.Statement.{statement}
-use Rattle.transform.proofs.end_axis.Tie as tie
-use Rattle.transform.proofs.end_axis.Reads as reads
-use Rattle.transform.proofs.end_axis.Lts as lts
+use Rattle.motions.specs.inner.Moves.{endAxis}
+use Rattle.motions.proofs.end_axis.Statement.{statement}
+use Rattle.motions.proofs.end_axis.Tie as tie
+use Rattle.motions.proofs.end_axis.Reads as reads
+use Rattle.motions.proofs.end_axis.Lts as lts
 
 sub-t5 : tie.Need-sub-t5
 sub-t5 c = search needs

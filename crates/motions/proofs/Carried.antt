@@ -18,12 +18,12 @@ use Rattle.image.specs.declared.format.PixelFormat.{PixelFormat}
 use Rattle.sizes.specs.Sound.{Inside}
 use Rattle.sizes.specs.declared.clap.CropRect.{CropRect}
 use Rattle.moves.proofs.Drawn.{full-sides}
-use Rattle.transform.proofs.Draws.{crop-draws, half-draws, left-draws, mirror-draws, right-draws}
-use Rattle.transform.proofs.Fits.{crop-fits, half-fits, mirror-fits, quarter-fits}
-use Rattle.transform.proofs.Runs.{quarter-one, quarter-three}
+use Rattle.motions.proofs.Draws.{crop-draws, half-draws, left-draws, mirror-draws, right-draws}
+use Rattle.motions.proofs.Fits.{crop-fits, half-fits, mirror-fits, quarter-fits}
+use Rattle.motions.proofs.Quarters.{quarter-one, quarter-three}
 use Rattle.moves.specs.inner.Move.{MoveFits, alongFrom, moved, planeAxis, walkOf, walkX, walkY}
-use Rattle.transform.specs.inner.Moves.{cropMove, halfMove, mirrorMove, quarterMove, turnForm}
-use Rattle.transform.specs.Turn.{Quarter, crop, mirror, q0, q1, q2, q3, quarterOf, turn}
+use Rattle.motions.specs.inner.Moves.{cropMove, halfMove, mirrorMove, quarterMove, turnForm}
+use Rattle.motions.specs.Turn.{Quarter, crop, mirror, q0, q1, q2, q3, quarterOf, turn}
 use Rattle.moves.specs.declared.walk.Move.{Move}
 
 -- ---- a sample of a moved picture is the sample that its walk names

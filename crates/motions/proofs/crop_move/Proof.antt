@@ -1,14 +1,14 @@
 use mathlib.Core.Path.{sym}
 use borrow.Author.Needs.{needs}
-use Rattle.transform.specs.inner.Moves.{cropMove, cropWith}
-use Rattle.transform.proofs.crop_move.Statement.{statement}
-use Rattle.transform.proofs.crop_move.Tie as tie
-use Rattle.transform.proofs.crop_move.Reads as reads
-use Rattle.transform.proofs.crop_move.Lts as lts
+use Rattle.motions.specs.inner.Moves.{cropMove, cropWith}
+use Rattle.motions.proofs.crop_move.Statement.{statement}
+use Rattle.motions.proofs.crop_move.Tie as tie
+use Rattle.motions.proofs.crop_move.Reads as reads
+use Rattle.motions.proofs.crop_move.Lts as lts
 use Rattle.image.proofs.format.Form.sized.Reads as sized-reads
 use Rattle.image.proofs.format.PixelFormat.needs_444.Reads as needs-444-reads
 use Rattle.image.proofs.either.Reads as either-reads
-use Rattle.transform.proofs.form_with.Reads as form-with-reads
+use Rattle.motions.proofs.form_with.Reads as form-with-reads
 use Rattle.image.proofs.is_odd.Reads as is-odd-reads
 
 is-odd-requires : tie.Need-is-odd-requires

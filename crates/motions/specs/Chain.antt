@@ -9,7 +9,7 @@ use Rattle.props.specs.Chain.{foldChain}
 use Rattle.props.specs.declared.entry.Property.{Property}
 use Rattle.props.specs.declared.entry.PropertyEntry.{PropertyEntry}
 use Rattle.sizes.specs.declared.iscl.Iscl.{Iscl}
-use Rattle.transform.specs.Turn.{crop, mirror, quarterOf, turn}
+use Rattle.motions.specs.Turn.{crop, mirror, quarterOf, turn}
 
 -- an applied entry: kind 0 is skipped, a clap crops to the rectangle that it resolves to; what an iscl does is handed in
 unfoldable pub picAfter : (Iscl → Pic → Out Pic) → Property → Pic → Out Pic

@@ -7,7 +7,7 @@ use Rattle.planes.specs.Picture.{Pic, pixel}
 use Rattle.planes.specs.inner.Even.{Even}
 use Rattle.image.specs.declared.format.Part.{Part}
 use Rattle.sizes.specs.declared.clap.CropRect.{CropRect}
-use Rattle.transform.specs.Place.{Place}
+use Rattle.motions.specs.Place.{Place}
 
 -- through a crop, a turn and a mirror of a picture w by h
 unfoldable pub uncrop : CropRect → ℕ → ℕ → Place

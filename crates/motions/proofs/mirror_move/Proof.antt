@@ -1,11 +1,11 @@
 use mathlib.Core.Path.{sym}
 use borrow.Author.Needs.{needs}
-use Rattle.transform.specs.inner.Moves.{mirrorMove}
-use Rattle.transform.proofs.mirror_move.Statement.{statement}
-use Rattle.transform.proofs.mirror_move.Tie as tie
-use Rattle.transform.proofs.mirror_move.Reads as reads
-use Rattle.transform.proofs.mirror_move.Lts as lts
-use Rattle.transform.proofs.end_axis.Reads as end-axis-reads
+use Rattle.motions.specs.inner.Moves.{mirrorMove}
+use Rattle.motions.proofs.mirror_move.Statement.{statement}
+use Rattle.motions.proofs.mirror_move.Tie as tie
+use Rattle.motions.proofs.mirror_move.Reads as reads
+use Rattle.motions.proofs.mirror_move.Lts as lts
+use Rattle.motions.proofs.end_axis.Reads as end-axis-reads
 
 end-axis-requires : tie.Need-end-axis-requires
 end-axis-requires c κs = search needs

@@ -1,10 +1,10 @@
 use mathlib.Core.Path.{ap}
 use borrow.Author.Needs.{needs}
-use Rattle.transform.proofs.crop_form.Statement.{statement}
-use Rattle.transform.proofs.crop_form.Tie as tie
-use Rattle.transform.proofs.crop_form.Reads as reads
-use Rattle.transform.proofs.crop_form.Lts as lts
-use Rattle.transform.proofs.crop_move.Reads as crop-move-reads
+use Rattle.motions.proofs.crop_form.Statement.{statement}
+use Rattle.motions.proofs.crop_form.Tie as tie
+use Rattle.motions.proofs.crop_form.Reads as reads
+use Rattle.motions.proofs.crop_form.Lts as lts
+use Rattle.motions.proofs.crop_move.Reads as crop-move-reads
 
 crop-move-requires : tie.Need-crop-move-requires
 crop-move-requires c κs = search needs

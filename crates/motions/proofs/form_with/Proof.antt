@@ -1,11 +1,11 @@
 use mathlib.Core.Path.{sym}
 use borrow.Author.Needs.{needs}
 use Rattle.laws.specs.Pick.{pick}
-use Rattle.transform.specs.inner.Moves.{formWith}
-use Rattle.transform.proofs.form_with.Statement.{statement}
-use Rattle.transform.proofs.form_with.Tie as tie
-use Rattle.transform.proofs.form_with.Reads as reads
-use Rattle.transform.proofs.form_with.Lts as lts
+use Rattle.motions.specs.inner.Moves.{formWith}
+use Rattle.motions.proofs.form_with.Statement.{statement}
+use Rattle.motions.proofs.form_with.Tie as tie
+use Rattle.motions.proofs.form_with.Reads as reads
+use Rattle.motions.proofs.form_with.Lts as lts
 use Rattle.image.proofs.format.Form.as_444.Reads as as-444-reads
 
 as-444-requires : tie.Need-as-444-requires

@@ -9,9 +9,9 @@ use Rattle.image.specs.declared.format.Part.{Part}
 use Rattle.planes.proofs.PictureLaws.{last-axis}
 use Rattle.planes.specs.Picture.{Agree, Pic, ensure, promote}
 use Rattle.sizes.specs.declared.clap.CropRect.{CropRect}
-use Rattle.transform.specs.Turn.{crop, cut, fromBottom, fromRight, lopsided, mirror, q1, q2, q3, turn, turned}
+use Rattle.motions.specs.Turn.{crop, cut, fromBottom, fromRight, lopsided, mirror, q1, q2, q3, turn, turned}
 use Rattle.moves.specs.inner.Move.{alongFrom, moved}
-use Rattle.transform.specs.inner.Moves.{cropMove, cropWith, endAxis, formWith, halfMove, halfWith, mirrorMove, quarterMove, quarterWith, stillMove}
+use Rattle.motions.specs.inner.Moves.{cropMove, cropWith, endAxis, formWith, halfMove, halfWith, mirrorMove, quarterMove, quarterWith, stillMove}
 
 crop-with : (t : Bool) (P : Pic) (r : CropRect) → Agree (moved (cropWith t (P .form) r) P) (cut (pick t (promote P) P) r)
 unfolding moved cropWith cut formWith pick promote alongFrom sized

@@ -7,7 +7,7 @@ use Rattle.image.specs.declared.format.Form.{Form}
 use Rattle.sizes.specs.declared.clap.CropRect.{CropRect}
 use Rattle.moves.specs.declared.walk.Axis.{Axis}
 use Rattle.moves.specs.declared.walk.Move.{Move}
-use Rattle.transform.specs.Turn.{Quarter, lopsided, q0, q1, q2, q3}
+use Rattle.motions.specs.Turn.{Quarter, lopsided, q0, q1, q2, q3}
 
 -- the form promoted or not
 unfoldable pub formWith : Bool → Form → Form

@@ -1,0 +1,5 @@
+pub mod Fits
+pub mod Draws
+pub mod Quarters
+pub mod Shown
+pub mod Carried

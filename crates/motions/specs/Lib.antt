@@ -1,0 +1,4 @@
+pub mod Turn
+pub mod Place
+pub mod Chain
+pub mod inner
