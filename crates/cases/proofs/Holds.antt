@@ -29,10 +29,10 @@ use Rattle.sampling.specs.Area.{area, areaMean, aroundOf, firstOf, footOf, past
 use Rattle.sampling.specs.Depth.{levelOf, rescaled, toDepth}
 use Rattle.sampling.specs.Rounded.{rounded}
 use Rattle.resample.specs.Run.{areaBytes, depthBytes, depthRun, isclRun}
-use Rattle.grid.specs.Cell.{tileForm, tilePic}
+use Rattle.cells.specs.Cell.{tileForm, tilePic}
 use Rattle.grid.specs.Mosaic.{gridPic, mosaicAt, opaqueAt, tileIndex}
 use Rattle.grid.specs.Run.{framesIn, gridOn}
-use Rattle.grid.specs.Tiles.{alikeFrom, canvasForm, countOf, spansCanvas, judgeOf, promotesOf, sameLayout, tilesAt}
+use Rattle.tiles.specs.Tiles.{alikeFrom, canvasForm, countOf, spansCanvas, judgeOf, promotesOf, sameLayout, tilesAt}
 use Rattle.overlay.specs.Overlay.{overAll, alphaOf, base, covers, coversAt, backdrop, over, overAt, overlayPic, overColour, placeAt, sampleOf, unpremultiply, finalSample, spotAt, overAlpha}
 use Rattle.inputs.specs.Layers.{oddAcross, oddDown, oddOffset, otherChroma, overlayForm, promotes, seeThrough, layerOf, layersOf}
 use Rattle.inputs.specs.Inputs.{alphaAbove, composedForm, firstForm, inputsAt, otherDepth}

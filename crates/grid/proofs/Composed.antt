@@ -29,17 +29,17 @@ use Rattle.planes.specs.Bytes.{decode, encode, headBytes, pictureIn, sizeOf}
 use Rattle.planes.specs.Picture.{Agree, Pic}
 use Rattle.paste.specs.Stored.{headed}
 use Rattle.derived.specs.declared.grid.GridDescriptor.{GridDescriptor}
-use Rattle.grid.proofs.CellLaws.{length-storePart}
+use Rattle.cells.proofs.CellLaws.{length-storePart}
 use Rattle.grid.proofs.MosaicLaws.{among-down, down-among, downFrom, pastes, pastes-at, pastes-form, tiles-pasted}
-use Rattle.grid.proofs.PasteLaws.{Meets}
-use Rattle.grid.proofs.Suited.{suits-bytes, suits-canvas, tile-parts, tile-sound, tilePic-form}
-use Rattle.grid.specs.Cell.{storeTile, tileForm, tilePic}
+use Rattle.cells.proofs.PasteLaws.{Meets}
+use Rattle.cells.proofs.Suited.{suits-bytes, suits-canvas, tile-parts, tile-sound, tilePic-form}
+use Rattle.cells.specs.Cell.{storeTile, tileForm, tilePic}
 use Rattle.grid.specs.Mosaic.{gridPic, mosaicAt, opaqueAt, plainAt, plainPic, tileIndex}
 use Rattle.grid.specs.Run.{framesIn, gridOn, gridRun}
-use Rattle.grid.specs.Tiles.{canvasForm, countOf, promotesOf, tilesOf}
-use Rattle.grid.specs.declared.tiles.Tiles.{Tiles}
+use Rattle.tiles.specs.Tiles.{canvasForm, countOf, promotesOf, tilesOf}
+use Rattle.tiles.specs.declared.judge.Tiles.{Tiles}
 use Rattle.grid.specs.inner.Ready.{TilesTaken}
-use Rattle.grid.specs.inner.Rows.{FitsCanvas}
+use Rattle.cells.specs.inner.Rows.{FitsCanvas}
 use Rattle.grid.specs.inner.Stored.{storeTiles}
 
 -- ---- a tile that was taken suits the canvas

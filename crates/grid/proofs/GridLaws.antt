@@ -28,10 +28,10 @@ use Rattle.derived.proofs.Taken.{grid-taken}
 use Rattle.derived.specs.Grid.{gridOf}
 use Rattle.derived.specs.declared.grid.GridDescriptor.{GridDescriptor}
 use Rattle.derived.specs.inner.Sound.{GridSound}
-use Rattle.grid.proofs.Suited.{tile-sound}
+use Rattle.cells.proofs.Suited.{tile-sound}
 use Rattle.grid.specs.Run.{framesIn}
-use Rattle.grid.specs.Tiles.{alikeFrom, canvasForm, countOf, spansCanvas, judgeOf, promotesOf, sameLayout, tilesAt, tilesOf}
-use Rattle.grid.specs.declared.tiles.Tiles.{Tiles}
+use Rattle.tiles.specs.Tiles.{alikeFrom, canvasForm, countOf, spansCanvas, judgeOf, promotesOf, sameLayout, tilesAt, tilesOf}
+use Rattle.tiles.specs.declared.judge.Tiles.{Tiles}
 use Rattle.grid.specs.inner.Ready.{Alike, TilesTaken}
 
 -- ---- what was judged

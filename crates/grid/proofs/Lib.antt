@@ -1,9 +1,4 @@
-pub mod CellLaws
-pub mod TilesLaws
-pub mod CellFits
-pub mod Suited
 pub mod PaintLaws
-pub mod PasteLaws
 pub mod MosaicLaws
 pub mod GridLaws
 pub mod Composed

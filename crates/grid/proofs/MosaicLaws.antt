@@ -17,10 +17,10 @@ use Rattle.planes.specs.Picture.{Pic}
 use Rattle.image.specs.declared.format.Form.{Form}
 use Rattle.image.specs.declared.format.Part.{Part}
 use Rattle.image.specs.declared.format.Part.the-variants.{Alpha, Cb, Cr, Luma}
-use Rattle.grid.proofs.CellLaws.{visible-shows, visible-tile}
+use Rattle.cells.proofs.CellLaws.{visible-shows, visible-tile}
 use Rattle.paste.proofs.HeadedLaws.{onPart-here, onPart-other, partNumber, samePart}
-use Rattle.grid.proofs.PasteLaws.{Meets, paste-form, pasteAt, pastePart, pasteTile, shows, tile-pasted}
-use Rattle.grid.specs.Cell.{storeTile, visibleOf}
+use Rattle.cells.proofs.PasteLaws.{Meets, paste-form, pasteAt, pastePart, pasteTile, shows, tile-pasted}
+use Rattle.cells.specs.Cell.{storeTile, visibleOf}
 use Rattle.grid.specs.Mosaic.{among, tileIndex}
 use Rattle.paste.specs.Stored.{headed}
 use Rattle.grid.specs.inner.Stored.{storeTiles}

@@ -1,5 +1,3 @@
-pub mod Cell
-pub mod Tiles
 pub mod Mosaic
 pub mod Run
 pub mod inner

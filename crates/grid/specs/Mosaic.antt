@@ -12,9 +12,9 @@ use Rattle.image.specs.declared.format.PixelFormat.{PixelFormat}
 use Rattle.planes.specs.Bytes.{headBytes}
 use Rattle.planes.specs.Picture.{Pic}
 use Rattle.paste.specs.Stored.{headed}
-use Rattle.grid.specs.Cell.{tileForm, tilePic}
-use Rattle.grid.specs.Tiles.{canvasForm, promotesOf}
-use Rattle.grid.specs.declared.tiles.Tiles.{Tiles}
+use Rattle.cells.specs.Cell.{tileForm, tilePic}
+use Rattle.tiles.specs.Tiles.{canvasForm, promotesOf}
+use Rattle.tiles.specs.declared.judge.Tiles.{Tiles}
 
 -- ---- the picture
 

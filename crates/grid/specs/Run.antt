@@ -7,8 +7,8 @@ use Rattle.records.specs.declared.record.Frame.{Frame}
 use Rattle.planes.specs.Bytes.{encode, pictureIn}
 use Rattle.planes.specs.Picture.{Pic}
 use Rattle.grid.specs.Mosaic.{gridPic}
-use Rattle.grid.specs.Tiles.{countOf, tilesOf}
-use Rattle.grid.specs.declared.tiles.Tiles.{Tiles}
+use Rattle.tiles.specs.Tiles.{countOf, tilesOf}
+use Rattle.tiles.specs.declared.judge.Tiles.{Tiles}
 
 unfoldable pub framesIn : List ℕ → Tiles → List Frame
 framesIn tray t = takenOf (framesAt (countOf (t .desc)) tray (t .first))

@@ -5,19 +5,19 @@ ghost use lib.ListN.{length};
 ghost use Rattle.laws.specs.Out.{answerOf, written};
 ghost use Rattle.laws.specs.Puts.{puts};
 ghost use Rattle.planes.specs.Bytes.{encode, sizeOf};
-ghost use Rattle.grid.specs.Tiles.{canvasForm};
+ghost use Rattle.tiles.specs.Tiles.{canvasForm};
 ghost use Rattle.grid.specs.inner.Ready.{TilesTaken};
 ghost use Rattle.grid.specs.Run.{gridOn, gridRun};
-use crate::cell::draw_tile;
 use crate::paint::outline_canvas;
-use crate::tiles::Tiles;
-use crate::tiles::TilesRead;
-use crate::tiles::canvas_form;
-use crate::tiles::promotes;
-use crate::tiles::read_tiles;
+use cells::draw_tile;
 use laws::Answer;
 use laws::Refusal;
 use records::FrameRead;
+use tiles::Tiles;
+use tiles::TilesRead;
+use tiles::canvas_form;
+use tiles::promotes;
+use tiles::read_tiles;
 
 // The composed picture at the start of `out`: each tile is read once, in its order in the tray.
 pub fn draw_grid(out: &mut [u8], tray: &[u8], t: Tiles)

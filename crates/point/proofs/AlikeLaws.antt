@@ -26,7 +26,7 @@ use Rattle.records.specs.declared.record.Plane.{Plane}
 use Rattle.derived.specs.Grid.{gridOf}
 use Rattle.derived.specs.Overlay.{overlayOf}
 use Rattle.props.specs.Chain.{chainAt}
-use Rattle.grid.specs.Tiles.{countOf, judgeOf, tilesAt}
+use Rattle.tiles.specs.Tiles.{countOf, judgeOf, tilesAt}
 use Rattle.laws.specs.Any.{any}
 use Rattle.inputs.specs.Inputs.{firstFormat, inputsAt, otherDepth}
 use Rattle.point.specs.Alike.{SameBytes, SameHead, SameNumber, SameParts, SameRecords, SameTray}

@@ -33,13 +33,13 @@ use Rattle.derived.specs.declared.grid.GridDescriptor.{GridDescriptor}
 use Rattle.motions.specs.Place.{Place}
 use Rattle.sight.proofs.Agreement.{covered}
 use Rattle.grid.proofs.Composed.{below, canvas-chroma, mono-same, promotes-colour, tile-chroma, tile-depth, tile-width}
-use Rattle.grid.proofs.Suited.{tile-parts, tilePic-form}
-use Rattle.grid.specs.Cell.{tileForm, tilePic}
+use Rattle.cells.proofs.Suited.{tile-parts, tilePic-form}
+use Rattle.cells.specs.Cell.{tileForm, tilePic}
 use Rattle.grid.specs.Mosaic.{gridPic, mosaicAt, opaqueAt, tileIndex}
 use Rattle.grid.specs.inner.Ready.{Alike, TilesTaken}
 use Rattle.grid.specs.Run.{framesIn, gridOn}
-use Rattle.grid.specs.Tiles.{canvasForm, countOf, judgeOf, promotesOf, tilesAt}
-use Rattle.grid.specs.declared.tiles.Tiles.{Tiles}
+use Rattle.tiles.specs.Tiles.{canvasForm, countOf, judgeOf, promotesOf, tilesAt}
+use Rattle.tiles.specs.declared.judge.Tiles.{Tiles}
 use Rattle.point.specs.Agreement.{InTray}
 use Rattle.point.specs.Point.{gridNames}
 use Rattle.point.specs.Read.{gridReads, readAt}

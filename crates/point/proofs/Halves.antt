@@ -12,7 +12,7 @@ use Rattle.props.specs.Chain.{chainAt}
 use Rattle.props.specs.declared.entry.PropertyEntry.{PropertyEntry}
 use Rattle.motions.specs.Place.{Place}
 use Rattle.sight.specs.Sight.{sightOf}
-use Rattle.grid.specs.Tiles.{tilesAt}
+use Rattle.tiles.specs.Tiles.{tilesAt}
 use Rattle.laws.specs.Any.{any}
 use Rattle.inputs.specs.Inputs.{inputsAt}
 use Rattle.point.specs.Point.{gridLook, gridNames, gridPoint, lookOn, overlayLook, overlayNames, overlayPoint, pointFrom, seeThroughFrame}

@@ -37,8 +37,8 @@ use Rattle.sight.specs.inner.Bounded.{Bounded}
 use Rattle.sight.specs.declared.CanvasPlace.{CanvasPlace}
 use Rattle.sight.specs.declared.Sight.{Sight}
 use Rattle.grid.proofs.GridLaws.{tiles-taken}
-use Rattle.grid.specs.Tiles.{tilesOf}
-use Rattle.grid.specs.declared.tiles.Tiles.{Tiles}
+use Rattle.tiles.specs.Tiles.{tilesOf}
+use Rattle.tiles.specs.declared.judge.Tiles.{Tiles}
 use Rattle.inputs.proofs.FrameLaws.{frames-from, from-next, from-refused}
 use Rattle.records.specs.inner.Frames.{framesFrom}
 use Rattle.overlay.specs.Overlay.{covers, spotAt}

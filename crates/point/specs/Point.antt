@@ -15,8 +15,8 @@ use Rattle.props.specs.declared.entry.PropertyEntry.{PropertyEntry}
 use Rattle.motions.specs.Place.{Place}
 use Rattle.sight.specs.Sight.{sourcePlace, sightOf}
 use Rattle.sight.specs.declared.Sight.{Sight}
-use Rattle.grid.specs.Tiles.{tilesAt}
-use Rattle.grid.specs.declared.tiles.Tiles.{Tiles}
+use Rattle.tiles.specs.Tiles.{tilesAt}
+use Rattle.tiles.specs.declared.judge.Tiles.{Tiles}
 use Rattle.overlay.specs.Overlay.{covers, spotAt}
 use Rattle.laws.specs.Any.{any}
 use Rattle.inputs.specs.Inputs.{Inputs, inputsAt}

@@ -9,8 +9,6 @@ use crate::PointRead;
 use crate::names::name_tile;
 use crate::names::name_topmost;
 use derived::OverlayDescriptor;
-use grid::Tiles;
-use grid::TilesRead;
 use inputs::PlanRead;
 use laws::Refusal;
 use numbers::NumberRead;
@@ -18,6 +16,8 @@ use props::ChainRead;
 use sight::PlaceRead;
 use sight::Sight;
 use sight::SightRead;
+use tiles::Tiles;
+use tiles::TilesRead;
 
 // Everything before the place of a grid: the chain's rectangle and turn, and the tiles.
 pub struct GridLook {
@@ -86,7 +86,7 @@ pub fn look_grid(body: &[u8], tray: &[u8], chain: &[u8], essential_only: bool) -
     };
     match props::check_chain(chain, 0) {
         ChainRead::Refused(e) => GridLookRead::Refused(e),
-        ChainRead::Read(c) => match grid::read_tiles(body, tray) {
+        ChainRead::Read(c) => match tiles::read_tiles(body, tray) {
             TilesRead::Refused(e) => GridLookRead::Refused(e),
             TilesRead::Read(tiles) => {
                 let g = tiles.desc;

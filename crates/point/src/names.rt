@@ -12,11 +12,11 @@ use crate::Named;
 use crate::Spot;
 use derived::OverlayDescriptor;
 use derived::Placement;
-use grid::Tiles;
 use numbers::Offset;
 use records::Frame;
 use records::FrameRead;
 use sight::CanvasPlace;
+use tiles::Tiles;
 
 // The tile that covers a place of the canvas.
 pub(crate) fn name_tile(t: Tiles, l: CanvasPlace) -> Named

@@ -24,10 +24,10 @@ use Rattle.motions.specs.Chain.{NotIscl}
 use Rattle.motions.specs.Place.{Place}
 use Rattle.sight.specs.declared.Sight.{Sight}
 use Rattle.grid.proofs.GridLaws.{tiles-taken}
-use Rattle.grid.proofs.TilesLaws.{tiles-number}
+use Rattle.tiles.proofs.TilesLaws.{tiles-number}
 use Rattle.grid.specs.Run.{gridOn}
-use Rattle.grid.specs.Tiles.{tilesAt}
-use Rattle.grid.specs.declared.tiles.Tiles.{Tiles}
+use Rattle.tiles.specs.Tiles.{tilesAt}
+use Rattle.tiles.specs.declared.judge.Tiles.{Tiles}
 use Rattle.grid.specs.inner.Ready.{TilesTaken}
 use Rattle.overlay.proofs.RunLaws.{Took, took}
 use Rattle.inputs.specs.Inputs.{Inputs, alphaAbove, firstFormat, inputsAt}

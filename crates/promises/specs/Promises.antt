@@ -45,8 +45,8 @@ use Rattle.sampling.specs.Depth.{levelOf, rescaled}
 use Rattle.sampling.specs.Nearest.{nearest}
 use Rattle.grid.specs.Mosaic.{among}
 use Rattle.grid.specs.Run.{framesIn, gridRun}
-use Rattle.grid.specs.Tiles.{countOf, tilesOf}
-use Rattle.grid.specs.declared.tiles.Tiles.{Tiles}
+use Rattle.tiles.specs.Tiles.{countOf, tilesOf}
+use Rattle.tiles.specs.declared.judge.Tiles.{Tiles}
 use Rattle.inputs.specs.Inputs.{Inputs, firstFormat, inputsAt}
 use Rattle.inputs.specs.Layers.{layersOf}
 use Rattle.overlay.specs.Covered.{AllCut, endsAs, hides, topmost}

@@ -34,11 +34,11 @@ use Rattle.fill.specs.declared.Colour.{Colour}
 use Rattle.derived.proofs.Taken.{overlay-fill}
 use Rattle.grid.proofs.Composed.{canvas-depth}
 use Rattle.grid.proofs.GridLaws.{tiles-taken}
-use Rattle.grid.specs.Cell.{tilePic}
+use Rattle.cells.specs.Cell.{tilePic}
 use Rattle.grid.specs.Mosaic.{gridPic, mosaicAt, opaqueAt}
 use Rattle.grid.specs.Run.{framesIn, gridOn}
-use Rattle.grid.specs.Tiles.{canvasForm, countOf, tilesAt, tilesOf}
-use Rattle.grid.specs.declared.tiles.Tiles.{Tiles}
+use Rattle.tiles.specs.Tiles.{canvasForm, countOf, tilesAt, tilesOf}
+use Rattle.tiles.specs.declared.judge.Tiles.{Tiles}
 use Rattle.grid.specs.inner.Ready.{TilesTaken}
 use Rattle.inputs.specs.Inputs.{Inputs, composedForm, firstFormat, inputsAt}
 use Rattle.inputs.specs.Layers.{overlayForm}

@@ -39,8 +39,8 @@ use Rattle.props.specs.inner.Judged.{Judged, judgedAt}
 use Rattle.grid.proofs.GridLaws.{tiles-taken}
 use Rattle.grid.specs.Mosaic.{gridPic}
 use Rattle.grid.specs.Run.{gridOn}
-use Rattle.grid.specs.Tiles.{canvasForm, tilesAt, tilesOf}
-use Rattle.grid.specs.declared.tiles.Tiles.{Tiles}
+use Rattle.tiles.specs.Tiles.{canvasForm, tilesAt, tilesOf}
+use Rattle.tiles.specs.declared.judge.Tiles.{Tiles}
 use Rattle.grid.specs.inner.Ready.{TilesTaken}
 use Rattle.inputs.proofs.FrameLaws.{frames-from}
 use Rattle.inputs.specs.Inputs.{Inputs, alphaAbove, composedForm, firstFormat, inputsAt}

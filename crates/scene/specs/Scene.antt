@@ -11,7 +11,7 @@ use Rattle.image.specs.Format.{topOf}
 use Rattle.fill.specs.declared.Colour.{Colour}
 use Rattle.props.specs.Chain.{chainAt}
 use Rattle.grid.specs.Run.{gridOn}
-use Rattle.grid.specs.Tiles.{tilesAt}
+use Rattle.tiles.specs.Tiles.{tilesAt}
 use Rattle.laws.specs.Any.{any}
 use Rattle.inputs.specs.Inputs.{alphaAbove, firstFormat, inputsAt}
 use Rattle.overlay.specs.Run.{composed}

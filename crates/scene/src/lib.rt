@@ -13,7 +13,6 @@ pub use crate::room::overlay_room;
 pub use crate::transforms::apply_transforms;
 use chains::finish_scene;
 use fill::Colour;
-use grid::TilesRead;
 use inputs::PlanRead;
 use laws::Answer;
 use laws::Refusal;
@@ -21,6 +20,7 @@ use numbers::NumberRead;
 use plans::CurrentRead;
 use plans::plan_scene;
 use props::ChainRead;
+use tiles::TilesRead;
 
 // A grid, then a chain. Refusals: 5 a tray count that cannot be read; the chain's form; the body's; the tiles'; the entries' in turn;
 // 17 output or spare shorter than the longest of the composed and step records.
@@ -41,10 +41,10 @@ pub fn grid_scene(
     };
     match props::check_chain(chain, 0) {
         ChainRead::Refused(e) => Answer::Refused(e),
-        ChainRead::Read(c) => match grid::read_tiles(body, tray) {
+        ChainRead::Read(c) => match tiles::read_tiles(body, tray) {
             TilesRead::Refused(e) => Answer::Refused(e),
             TilesRead::Read(t) => {
-                let form = grid::canvas_form(t.desc, t.tile, t.alpha);
+                let form = tiles::canvas_form(t.desc, t.tile, t.alpha);
                 match plan_scene(chain, c, essential_only, form, output.len(), spare.len()) {
                     CurrentRead::Refused(e) => Answer::Refused(e),
                     CurrentRead::Current(held) => {

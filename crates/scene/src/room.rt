@@ -8,7 +8,6 @@ ghost use Rattle.fill.specs.declared.Colour.{Colour};
 ghost use Rattle.plans.specs.inner.ChainPlan.{chainPlanOf};
 ghost use Rattle.scene.specs.Scene.{gridDrawn, overlayDrawn};
 ghost use Rattle.scene.specs.Room.{longestOf, roomOut};
-use grid::TilesRead;
 use image::Form;
 use inputs::PlanRead;
 use laws::Refusal;
@@ -17,6 +16,7 @@ use plans::ChainPlanRead;
 use plans::plan_chain;
 use props::Chain;
 use props::ChainRead;
+use tiles::TilesRead;
 
 // So many bytes are enough, and fewer are not.
 pub enum RoomRead {
@@ -44,10 +44,10 @@ pub fn grid_room(body: &[u8], tray: &[u8], chain: &[u8], essential_only: bool) -
     };
     match props::check_chain(chain, 0) {
         ChainRead::Refused(e) => RoomRead::Refused(e),
-        ChainRead::Read(c) => match grid::read_tiles(body, tray) {
+        ChainRead::Read(c) => match tiles::read_tiles(body, tray) {
             TilesRead::Refused(e) => RoomRead::Refused(e),
             TilesRead::Read(t) => {
-                let form = grid::canvas_form(t.desc, t.tile, t.alpha);
+                let form = tiles::canvas_form(t.desc, t.tile, t.alpha);
                 chain_room(chain, c, essential_only, form)
             }
         },

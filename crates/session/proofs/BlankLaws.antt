@@ -22,12 +22,12 @@ use Rattle.derived.specs.inner.Sound.{GridSound}
 use Rattle.session.specs.declared.state.Canvas.{Canvas}
 use Rattle.derived.specs.declared.grid.GridDescriptor.{GridDescriptor}
 use Rattle.paste.proofs.RowLaws.{rows-cong}
-use Rattle.grid.proofs.Suited.{suits-bytes, suits-canvas, suits-rows, tile-bytes, tile-parts, tile-sample, tilePic-form}
-use Rattle.grid.specs.Cell.{cellOf, storeCell, storePart, storeTile, tileForm, tilePic}
+use Rattle.cells.proofs.Suited.{suits-bytes, suits-canvas, suits-rows, tile-bytes, tile-parts, tile-sample, tilePic-form}
+use Rattle.cells.specs.Cell.{cellOf, storeCell, storePart, storeTile, tileForm, tilePic}
 use Rattle.paste.specs.Stored.{storeRows}
-use Rattle.grid.specs.inner.Rows.{FitsCanvas}
-use Rattle.grid.specs.Tiles.{canvasForm, countOf, promotesOf}
-use Rattle.grid.specs.declared.cell.Cell.{Cell}
+use Rattle.cells.specs.inner.Rows.{FitsCanvas}
+use Rattle.tiles.specs.Tiles.{canvasForm, countOf, promotesOf}
+use Rattle.cells.specs.declared.cell.Cell.{Cell}
 use Rattle.session.proofs.StateLaws.{place-suits}
 use Rattle.session.specs.Marks.{markOf}
 use Rattle.session.specs.Session.{alphaTold, blankAt, blankOf, blankPic, blankedAs, drawnOn, markedOn, reservedForm}

@@ -30,14 +30,14 @@ use Rattle.derived.specs.Grid.{gridOf}
 use Rattle.derived.specs.declared.grid.GridDescriptor.{GridDescriptor}
 use Rattle.grid.proofs.Composed.{below, canvas-alpha-is, canvas-columns, canvas-depth, columns-same, promotes-colour, rows-same-form}
 use Rattle.grid.proofs.MosaicLaws.{pastes, pastes-at, pastes-form}
-use Rattle.grid.proofs.PasteLaws.{Meets, pasteTile}
-use Rattle.grid.proofs.Suited.{suits-bytes, suits-canvas, tile-alpha, tile-parts, tile-sample, tile-sound, tilePic-form}
-use Rattle.grid.specs.Cell.{tileForm, tilePic}
+use Rattle.cells.proofs.PasteLaws.{Meets, pasteTile}
+use Rattle.cells.proofs.Suited.{suits-bytes, suits-canvas, tile-alpha, tile-parts, tile-sample, tile-sound, tilePic-form}
+use Rattle.cells.specs.Cell.{tileForm, tilePic}
 use Rattle.grid.specs.Mosaic.{among, plainAt, plainPic, tileIndex}
 use Rattle.paste.specs.Stored.{headed}
-use Rattle.grid.specs.Tiles.{canvasForm, spansCanvas, promotesOf, sameLayout}
+use Rattle.tiles.specs.Tiles.{canvasForm, spansCanvas, promotesOf, sameLayout}
 use Rattle.grid.specs.inner.Ready.{Alike}
-use Rattle.grid.specs.inner.Rows.{FitsCanvas}
+use Rattle.cells.specs.inner.Rows.{FitsCanvas}
 use Rattle.session.proofs.BlankLaws.{blank-suits}
 use Rattle.session.proofs.DrawLaws.{begun-later}
 use Rattle.session.proofs.KeepLaws.{Blanking, Placing, accept-first, accept-later, bare-state, blank-taken, place-taken, state-covers, wide-tile}

@@ -32,22 +32,22 @@ use Rattle.planes.specs.Picture.{Agree, Pic}
 use Rattle.derived.proofs.Taken.{grid-taken}
 use Rattle.derived.specs.declared.grid.GridDescriptor.{GridDescriptor}
 use Rattle.derived.specs.inner.Sound.{GridSound}
-use Rattle.grid.proofs.CellLaws.{length-storePart}
+use Rattle.cells.proofs.CellLaws.{length-storePart}
 use Rattle.grid.proofs.Composed.{canvas-alpha-is, column-in, columns-of, grid-agree, grid-fits, index-in, plain-form, rows-of}
 use Rattle.grid.proofs.GridLaws.{TilesFrom, tiles-from, tiles-taken}
 use Rattle.grid.proofs.MosaicLaws.{among-down, down-among, downFrom, pastes, pastes-at, pastes-form}
 use Rattle.grid.proofs.PaintLaws.{head-alpha}
-use Rattle.grid.proofs.PasteLaws.{Meets, pasteTile}
-use Rattle.grid.proofs.Suited.{covered-column, covered-row, suits-bytes, suits-canvas, tile-parts, tile-sample, tile-sound, tilePic-form}
-use Rattle.grid.proofs.TilesLaws.{count-some}
-use Rattle.grid.specs.Cell.{storeTile, tileForm, tilePic}
+use Rattle.cells.proofs.PasteLaws.{Meets, pasteTile}
+use Rattle.cells.proofs.Suited.{covered-column, covered-row, suits-bytes, suits-canvas, tile-parts, tile-sample, tile-sound, tilePic-form}
+use Rattle.tiles.proofs.TilesLaws.{count-some}
+use Rattle.cells.specs.Cell.{storeTile, tileForm, tilePic}
 use Rattle.grid.specs.Mosaic.{among, plainAt, plainPic, tileIndex}
 use Rattle.paste.specs.Stored.{headed}
 use Rattle.grid.specs.Run.{framesIn, gridOn, gridRun}
-use Rattle.grid.specs.Tiles.{canvasForm, countOf, spansCanvas, promotesOf, sameLayout, tilesOf}
-use Rattle.grid.specs.declared.tiles.Tiles.{Tiles}
+use Rattle.tiles.specs.Tiles.{canvasForm, countOf, spansCanvas, promotesOf, sameLayout, tilesOf}
+use Rattle.tiles.specs.declared.judge.Tiles.{Tiles}
 use Rattle.grid.specs.inner.Ready.{Alike, TilesTaken}
-use Rattle.grid.specs.inner.Rows.{FitsCanvas}
+use Rattle.cells.specs.inner.Rows.{FitsCanvas}
 use Rattle.session.proofs.DrawLaws.{begun-later, length-begun, length-told, place-done}
 use Rattle.session.proofs.KeepLaws.{open-ok, place-ok, wide-tile}
 use Rattle.session.proofs.MarkLaws.{all-of, mark-marks, none-marked}

@@ -28,7 +28,7 @@ use Rattle.derived.proofs.Taken.{grid-taken}
 use Rattle.derived.specs.Grid.{gridOf}
 use Rattle.derived.specs.declared.grid.GridDescriptor.{GridDescriptor}
 use Rattle.derived.specs.inner.Sound.{GridSound}
-use Rattle.grid.specs.Tiles.{countOf, spansCanvas}
+use Rattle.tiles.specs.Tiles.{countOf, spansCanvas}
 use Rattle.session.proofs.MarkLaws.{any-get, any-none, any-some, clear-all, clear-get, length-mark, mark-clear, mark-some, zero-words}
 use Rattle.session.proofs.StateLaws.{count-small, state-grid, state-parts, state-tile}
 use Rattle.session.specs.Marks.{anyWord, clearFrom, markOf, noMarks}

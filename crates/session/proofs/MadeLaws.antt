@@ -32,7 +32,7 @@ use Rattle.derived.specs.Canvas.{canvasAt, fieldBytes, startOf}
 use Rattle.derived.specs.Grid.{gridAt, gridOf}
 use Rattle.derived.specs.declared.grid.GridDescriptor.{GridDescriptor}
 use Rattle.derived.specs.inner.Sound.{GridSound}
-use Rattle.grid.specs.Tiles.{canvasForm, countOf, spansCanvas}
+use Rattle.tiles.specs.Tiles.{canvasForm, countOf, spansCanvas}
 use Rattle.grid.specs.inner.Ready.{Alike}
 use Rattle.session.proofs.BlankLaws.{blank-done}
 use Rattle.session.proofs.ComposeLaws.{length-drawn, take-first, take-later}

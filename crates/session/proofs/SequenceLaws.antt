@@ -19,11 +19,11 @@ use Rattle.image.specs.declared.format.Part.the-variants.{Alpha, Cb, Cr, Luma}
 use Rattle.derived.specs.declared.grid.GridDescriptor.{GridDescriptor}
 use Rattle.grid.proofs.Composed.{canvas-alpha-is}
 use Rattle.grid.proofs.PaintLaws.{head-alpha, length-canvas}
-use Rattle.grid.proofs.PasteLaws.{Meets, pasteTile, tile-pasted}
-use Rattle.grid.specs.Cell.{storeTile, tilePic}
+use Rattle.cells.proofs.PasteLaws.{Meets, pasteTile, tile-pasted}
+use Rattle.cells.specs.Cell.{storeTile, tilePic}
 use Rattle.grid.specs.Mosaic.{canvasBytes, plainPic}
 use Rattle.paste.specs.Stored.{headed}
-use Rattle.grid.specs.Tiles.{promotesOf}
+use Rattle.tiles.specs.Tiles.{promotesOf}
 use Rattle.session.proofs.DrawLaws.{begun-first}
 use Rattle.session.specs.Session.{alphaPlace, alphaTold, begun, drawnOn, reservedForm}
 

@@ -21,8 +21,8 @@ use Rattle.derived.specs.declared.grid.GridDescriptor.{GridDescriptor}
 use Rattle.derived.specs.inner.Sound.{GridSound}
 use Rattle.grid.proofs.Composed.{canvas-alpha-is, canvas-chroma, canvas-depth, mono-same, promotes-colour, tile-chroma}
 use Rattle.grid.proofs.GridLaws.{canvas-sound}
-use Rattle.grid.specs.Tiles.{canvasForm, spansCanvas, promotesOf, sameLayout}
-use Rattle.grid.specs.inner.Rows.{FitsCanvas}
+use Rattle.tiles.specs.Tiles.{canvasForm, spansCanvas, promotesOf, sameLayout}
+use Rattle.cells.specs.inner.Rows.{FitsCanvas}
 use Rattle.session.specs.State.{acceptOf, bareOk, formOk, gridOk, hasTile, stateOk, tiledOk}
 use Rattle.session.specs.declared.state.Canvas.{Canvas}
 

@@ -16,11 +16,11 @@ use Rattle.image.specs.declared.format.Form.{Form}
 use Rattle.image.specs.declared.format.Part.{Part}
 use Rattle.records.specs.declared.record.Frame.{Frame}
 use Rattle.derived.specs.declared.grid.GridDescriptor.{GridDescriptor}
-use Rattle.grid.specs.Cell.{tileForm, tilePic}
+use Rattle.cells.specs.Cell.{tileForm, tilePic}
 use Rattle.paste.specs.Stored.{headed}
 use Rattle.grid.specs.Mosaic.{plainAt, tileIndex}
 use Rattle.records.specs.Tray.{noFrame, noForm}
-use Rattle.grid.specs.Tiles.{canvasForm, promotesOf}
+use Rattle.tiles.specs.Tiles.{canvasForm, promotesOf}
 use Rattle.session.specs.declared.state.Canvas.{Canvas}
 use Rattle.session.specs.Session.{CanvasAfter, blankOf, blankPic, finishOf, placeOf, reservedForm, sessionOf}
 

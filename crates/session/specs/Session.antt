@@ -21,9 +21,9 @@ use Rattle.records.specs.declared.record.Frame.{Frame}
 use Rattle.derived.specs.Grid.{gridOf}
 use Rattle.session.specs.declared.state.Canvas.{Canvas}
 use Rattle.derived.specs.declared.grid.GridDescriptor.{GridDescriptor}
-use Rattle.grid.specs.Cell.{storeTile, tilePic}
+use Rattle.cells.specs.Cell.{storeTile, tilePic}
 use Rattle.grid.specs.Mosaic.{canvasBytes}
-use Rattle.grid.specs.Tiles.{canvasForm, countOf, promotesOf}
+use Rattle.tiles.specs.Tiles.{canvasForm, countOf, promotesOf}
 use Rattle.session.specs.Marks.{allMarked, markOf}
 use Rattle.session.specs.State.{acceptOf, hasTile, openOf, stateOk}
 use Rattle.session.specs.declared.canvas.Called.{Called}

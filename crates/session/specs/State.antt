@@ -9,7 +9,7 @@ use Rattle.image.specs.Format.{formOf, hasSize, judgedSize}
 use Rattle.records.specs.Tray.{noForm}
 use Rattle.image.specs.declared.format.Form.{Form}
 use Rattle.derived.specs.declared.grid.GridDescriptor.{GridDescriptor}
-use Rattle.grid.specs.Tiles.{countOf, spansCanvas, sameLayout}
+use Rattle.tiles.specs.Tiles.{countOf, spansCanvas, sameLayout}
 use Rattle.session.specs.Marks.{anyWord, clearFrom, noMarks}
 use Rattle.session.specs.declared.state.Canvas.{Canvas}
 use Rattle.session.specs.declared.state.TileRead.{TileRead}

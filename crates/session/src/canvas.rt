@@ -62,10 +62,10 @@ impl Canvas {
         if !all_marked(&self.marks, g.rows * g.columns) {
             return Answer::Refused(Refusal::MISSING);
         }
-        if room < planes::record_size(grid::canvas_form(g, t, 1)) {
+        if room < planes::record_size(tiles::canvas_form(g, t, 1)) {
             return Answer::Refused(Refusal::ROOM);
         }
-        Answer::Wrote(planes::record_size(grid::canvas_form(g, t, self.alpha)))
+        Answer::Wrote(planes::record_size(tiles::canvas_form(g, t, self.alpha)))
     }
 
     // A tile's record in its cell. Refusals: 5; 11 index outside; the record's; 12, 13, 14; 17.
@@ -88,14 +88,14 @@ impl Canvas {
                 match self.accept(m) {
                     TileRead::Refused(e) => refused(self, e),
                     TileRead::Read(t) => {
-                        let form = grid::canvas_form(g, t, 1);
+                        let form = tiles::canvas_form(g, t, 1);
                         if buffer.len() < planes::record_size(form) {
                             return refused(self, Refusal::ROOM);
                         }
-                        let promoted = grid::promotes(g, t);
+                        let promoted = tiles::promotes(g, t);
                         begin(buffer, !self.has_tile(), form);
                         tell_alpha(buffer, form, m);
-                        grid::draw_tile(
+                        cells::draw_tile(
                             buffer,
                             planes::tight(form),
                             record,
@@ -104,7 +104,7 @@ impl Canvas {
                             index % columns,
                             index / columns,
                         );
-                        let canvas = self.drawn(index, t, grid::with_tile(self.alpha, m));
+                        let canvas = self.drawn(index, t, tiles::with_tile(self.alpha, m));
                         Called {
                             canvas,
                             answer: Answer::Wrote(0),
@@ -132,11 +132,11 @@ impl Canvas {
         if index >= g.rows * columns {
             return refused(self, Refusal::COUNT);
         }
-        let form = grid::canvas_form(g, t, 1);
+        let form = tiles::canvas_form(g, t, 1);
         if buffer.len() < planes::record_size(form) {
             return refused(self, Refusal::ROOM);
         }
-        let promoted = grid::promotes(g, t);
+        let promoted = tiles::promotes(g, t);
         tell_alpha(buffer, form, t);
         draw_blank(
             buffer,

@@ -5,9 +5,9 @@ ghost use lib.ListN.{length};
 ghost use Rattle.planes.specs.Bytes.{sizeOf, encode, samplesOf, tightAt};
 ghost use Rattle.image.specs.Sound.{FormSound};
 ghost use Prim.Native.Nat.{ℕ};
-ghost use Rattle.grid.specs.Cell.{storePart, storeTile, tilePic};
+ghost use Rattle.cells.specs.Cell.{storePart, storeTile, tilePic};
 ghost use Rattle.paste.specs.Stored.{storeRows};
-ghost use Rattle.grid.specs.inner.Rows.{FitsCanvas};
+ghost use Rattle.cells.specs.inner.Rows.{FitsCanvas};
 ghost use Rattle.session.specs.Session.{begun, alphaTold, blankAt, blankPic};
 use image::Form;
 use image::Part;
@@ -63,7 +63,7 @@ fn blank_part(
 {
     let f = tile.format;
     if f.has(part) {
-        let cell = grid::cell_of(to, grid::tile_form(promoted, tile), column, row, part);
+        let cell = cells::cell_of(to, cells::tile_form(promoted, tile), column, row, part);
         paste::store_even(
             out,
             cell.at,

@@ -145,7 +145,7 @@ impl Canvas {
         if !form_ok(t) {
             return false;
         }
-        if !grid::spans_canvas(g, t) {
+        if !tiles::spans_canvas(g, t) {
             return false;
         }
         if self.alpha > 1 {
@@ -190,12 +190,12 @@ impl Canvas {
             if !m.has_size(t.width, t.height) {
                 return TileRead::Refused(Refusal::TILE);
             }
-            if !grid::same_layout(t, m) {
+            if !tiles::same_layout(t, m) {
                 return TileRead::Refused(Refusal::LAYOUT);
             }
             return TileRead::Read(t);
         }
-        if !grid::spans_canvas(self.desc, m) {
+        if !tiles::spans_canvas(self.desc, m) {
             return TileRead::Refused(Refusal::COVER);
         }
         TileRead::Read(m)

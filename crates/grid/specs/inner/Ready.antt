@@ -9,8 +9,8 @@ use Rattle.records.specs.inner.Placed.{Sound}
 use Rattle.records.specs.Tray.{framesAt, noFrame}
 use Rattle.image.specs.declared.format.Form.{Form}
 use Rattle.grid.specs.Run.{framesIn}
-use Rattle.grid.specs.Tiles.{canvasForm, countOf}
-use Rattle.grid.specs.declared.tiles.Tiles.{Tiles}
+use Rattle.tiles.specs.Tiles.{canvasForm, countOf}
+use Rattle.tiles.specs.declared.judge.Tiles.{Tiles}
 
 -- a tile's form beside the first's
 pub record Alike (t m : Form) : Type 0 where

@@ -8,7 +8,7 @@ use Rattle.image.specs.declared.format.Part.{Part}
 use Rattle.image.specs.declared.format.Part.the-variants.{Alpha, Cb, Cr, Luma}
 use Rattle.image.specs.declared.format.PixelFormat.{PixelFormat}
 use Rattle.planes.specs.Picture.{Pic}
-use Rattle.grid.specs.Cell.{storeTile}
+use Rattle.cells.specs.Cell.{storeTile}
 
 -- one plane's samples, whatever they are
 unfoldable pub anyPic : Form → (ℕ → ℕ → ℕ) → Pic

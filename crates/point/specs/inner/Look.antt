@@ -7,7 +7,7 @@ use Rattle.sizes.specs.Sound.{Inside}
 use Rattle.motions.specs.Place.{Place}
 use Rattle.sight.specs.inner.Bounded.{Bounded}
 use Rattle.sight.specs.declared.CanvasPlace.{CanvasPlace}
-use Rattle.grid.specs.declared.tiles.Tiles.{Tiles}
+use Rattle.tiles.specs.declared.judge.Tiles.{Tiles}
 use Rattle.records.specs.inner.Frames.{framesFrom}
 use Rattle.point.specs.Point.{Look, gridNames, overlayNames}
 use Rattle.point.specs.declared.look.GridLook.{GridLook}

@@ -8,7 +8,7 @@ use Rattle.laws.specs.Out.{done}
 use Rattle.laws.specs.Puts.{Bytes}
 use Rattle.props.specs.Chain.{chainOut}
 use Rattle.grid.specs.Run.{gridOn}
-use Rattle.grid.specs.Tiles.{tilesOut}
+use Rattle.tiles.specs.Tiles.{tilesOut}
 use Rattle.scene.proofs.SceneLaws.{GridKnown, first-output, first-spare, grid-chain, grid-form, grid-malformed, grid-read, grid-size, grid-tiles, held-refused, ready-output, ready-spare, scene-output, scene-refused, scene-spare}
 use Rattle.plans.specs.inner.ChainPlan.{currentOf, currentOut}
 use Rattle.scene.proofs.grid_scene.Statement.{statement}
@@ -16,8 +16,8 @@ use Rattle.scene.proofs.grid_scene.Tie as tie
 use Rattle.scene.proofs.grid_scene.Reads as reads
 use Rattle.scene.proofs.grid_scene.Lts as lts
 use Rattle.grid.proofs.draw_grid.Reads as draw-grid-reads
-use Rattle.grid.proofs.canvas_form.Reads as canvas-form-reads
-use Rattle.grid.proofs.read_tiles.Reads as read-tiles-reads
+use Rattle.tiles.proofs.canvas_form.Reads as canvas-form-reads
+use Rattle.tiles.proofs.read_tiles.Reads as read-tiles-reads
 use Rattle.numbers.proofs.read_number.Reads as read-number-reads
 use Rattle.props.proofs.check_chain.Reads as check-chain-reads
 use Rattle.chains.proofs.finish_scene.Reads as finish-scene-reads

@@ -11,13 +11,13 @@ use Rattle.grid.proofs.GridLaws.{tiles-taken}
 use Rattle.grid.proofs.compose.composite_grid.Statement.{statement}
 use Rattle.grid.specs.inner.Ready.{TilesTaken}
 use Rattle.grid.specs.Run.{gridRun}
-use Rattle.grid.specs.Tiles.{tilesOf, tilesOut}
+use Rattle.tiles.specs.Tiles.{tilesOf, tilesOut}
 use Rattle.grid.proofs.compose.composite_grid.Tie as tie
 use Rattle.grid.proofs.compose.composite_grid.Reads as reads
 use Rattle.grid.proofs.compose.composite_grid.Lts as lts
 use Rattle.grid.proofs.compose.draw_grid.Reads as draw-grid-reads
-use Rattle.grid.proofs.tiles.canvas_form.Reads as canvas-form-reads
-use Rattle.grid.proofs.tiles.read_tiles.Reads as read-tiles-reads
+use Rattle.tiles.proofs.canvas_form.Reads as canvas-form-reads
+use Rattle.tiles.proofs.read_tiles.Reads as read-tiles-reads
 use Rattle.planes.proofs.record_size.Reads as record-size-reads
 
 taken : (c : tie.After-t) → tilesOf (now (c .before .before .before .before .before .before .args .body)) (now (c .before .before .before .before .before .before .args .tray)) ≡ done (c .t .given .0 .0)

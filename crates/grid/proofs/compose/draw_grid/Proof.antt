@@ -17,20 +17,20 @@ use Rattle.records.specs.declared.record.Frame.{Frame}
 use Rattle.planes.specs.Bytes.{decode, encode, pictureIn}
 use Rattle.paste.proofs.HeadedLaws.{tight-form}
 use Rattle.grid.proofs.Composed.{composed, drop-head, length-storeTiles, suits-at, tiles-more}
-use Rattle.grid.proofs.TilesLaws.{first-not-refused, first-read}
+use Rattle.tiles.proofs.TilesLaws.{first-not-refused, first-read}
 use Rattle.grid.proofs.compose.draw_grid.Statement.{statement}
-use Rattle.grid.specs.Cell.{storeTile, tilePic}
+use Rattle.cells.specs.Cell.{storeTile, tilePic}
 use Rattle.grid.specs.Run.{framesIn}
-use Rattle.grid.specs.Tiles.{countOf}
+use Rattle.tiles.specs.Tiles.{countOf}
 use Rattle.grid.specs.inner.Stored.{storeTiles, underAt, underPic}
-use Rattle.grid.specs.inner.Taken.{FramesTaken}
+use Rattle.tiles.specs.inner.Taken.{FramesTaken}
 use Rattle.grid.proofs.compose.draw_grid.Tie as tie
 use Rattle.grid.proofs.compose.draw_grid.Reads as reads
 use Rattle.grid.proofs.compose.draw_grid.Lts as lts
-use Rattle.grid.proofs.cell.draw_tile.Reads as draw-tile-reads
+use Rattle.cells.proofs.draw_tile.Reads as draw-tile-reads
 use Rattle.grid.proofs.paint.outline_canvas.Reads as outline-canvas-reads
-use Rattle.grid.proofs.tiles.canvas_form.Reads as canvas-form-reads
-use Rattle.grid.proofs.tiles.promotes.Reads as promotes-reads
+use Rattle.tiles.proofs.canvas_form.Reads as canvas-form-reads
+use Rattle.tiles.proofs.promotes.Reads as promotes-reads
 use Rattle.records.proofs.read_record.Reads as read-record-reads
 use Rattle.planes.proofs.tight.Reads as tight-reads
 

@@ -5,13 +5,13 @@ use Rattle.laws.specs.Puts.{Bytes}
 use Rattle.props.proofs.ChainLaws.{judged-chain}
 use Rattle.props.specs.Chain.{chainOut}
 use Rattle.sight.specs.Sight.{sightOut}
-use Rattle.grid.specs.Tiles.{tilesOut}
+use Rattle.tiles.specs.Tiles.{tilesOut}
 use Rattle.point.proofs.PointLaws.{grid-chain, grid-done, grid-malformed, grid-sight, grid-tiles}
 use Rattle.point.proofs.look.look_grid.Statement.{statement}
 use Rattle.point.proofs.look.look_grid.Tie as tie
 use Rattle.point.proofs.look.look_grid.Reads as reads
 use Rattle.point.proofs.look.look_grid.Lts as lts
-use Rattle.grid.proofs.read_tiles.Reads as read-tiles-reads
+use Rattle.tiles.proofs.read_tiles.Reads as read-tiles-reads
 use Rattle.numbers.proofs.read_number.Reads as read-number-reads
 use Rattle.props.proofs.check_chain.Reads as check-chain-reads
 use Rattle.sight.proofs.reduce_judged.Reads as reduce-judged-reads

@@ -5,15 +5,15 @@ use borrow.Author.Needs.{needs}
 use Rattle.laws.proofs.Out.{then-done}
 use Rattle.laws.specs.Puts.{Bytes}
 use Rattle.props.specs.Chain.{chainOut}
-use Rattle.grid.specs.Tiles.{tilesOut}
+use Rattle.tiles.specs.Tiles.{tilesOut}
 use Rattle.scene.proofs.SceneLaws.{GridKnown, grid-drawn-chain, grid-drawn-malformed, grid-drawn-tiles, grid-form, grid-read, room-on, room-refused-as}
 use Rattle.scene.proofs.room.grid_room.Statement.{statement}
 use Rattle.scene.specs.Room.{longestOf}
 use Rattle.scene.proofs.room.grid_room.Tie as tie
 use Rattle.scene.proofs.room.grid_room.Reads as reads
 use Rattle.scene.proofs.room.grid_room.Lts as lts
-use Rattle.grid.proofs.canvas_form.Reads as canvas-form-reads
-use Rattle.grid.proofs.read_tiles.Reads as read-tiles-reads
+use Rattle.tiles.proofs.canvas_form.Reads as canvas-form-reads
+use Rattle.tiles.proofs.read_tiles.Reads as read-tiles-reads
 use Rattle.numbers.proofs.read_number.Reads as read-number-reads
 use Rattle.props.proofs.check_chain.Reads as check-chain-reads
 use Rattle.scene.proofs.room.chain_room.Reads as chain-room-reads

@@ -5,15 +5,15 @@ use borrow.Author.Needs.{needs}
 use Rattle.image.proofs.FormLaws.{bytes-few}
 use Rattle.image.specs.Format.{hasPart}
 use Rattle.image.specs.declared.format.Form.{Form}
-use Rattle.grid.proofs.Suited.{tile-sound}
-use Rattle.grid.specs.Cell.{cellOf, tileForm}
+use Rattle.cells.proofs.Suited.{tile-sound}
+use Rattle.cells.specs.Cell.{cellOf, tileForm}
 use Rattle.session.proofs.BlankLaws.{blank-bytes, blank-colour, blank-has, blank-lacks, blank-stored, blank-tile, blank-writes}
 use Rattle.session.proofs.draw.blank_part.Statement.{statement}
 use Rattle.session.proofs.draw.blank_part.Tie as tie
 use Rattle.session.proofs.draw.blank_part.Reads as reads
 use Rattle.session.proofs.draw.blank_part.Lts as lts
-use Rattle.grid.proofs.cell_of.Reads as cell-of-reads
-use Rattle.grid.proofs.tile_form.Reads as tile-form-reads
+use Rattle.cells.proofs.cell_of.Reads as cell-of-reads
+use Rattle.cells.proofs.tile_form.Reads as tile-form-reads
 use Rattle.image.proofs.format.PixelFormat.bytes_per_sample.Reads as bytes-per-sample-reads
 use Rattle.image.proofs.format.PixelFormat.has.Reads as has-reads
 use Rattle.session.proofs.draw.blank_sample.Reads as blank-sample-reads

@@ -3,8 +3,8 @@ use native.Mathlib.Omega.{arith}
 use lib.ListN.{length}
 use borrow.Author.Needs.{needs}
 use Rattle.image.specs.declared.format.Part.the-variants.{Alpha, Cb, Cr}
-use Rattle.grid.proofs.CellLaws.{length-storePart}
-use Rattle.grid.specs.Cell.{storePart, storeTile}
+use Rattle.cells.proofs.CellLaws.{length-storePart}
+use Rattle.cells.specs.Cell.{storePart, storeTile}
 use Rattle.session.proofs.draw.draw_blank.Statement.{statement}
 use Rattle.session.proofs.draw.draw_blank.Tie as tie
 use Rattle.session.proofs.draw.draw_blank.Reads as reads

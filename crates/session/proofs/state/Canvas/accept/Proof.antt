@@ -8,8 +8,8 @@ use Rattle.session.specs.State.{acceptOf}
 use Rattle.session.proofs.state.Canvas.accept.Tie as tie
 use Rattle.session.proofs.state.Canvas.accept.Reads as reads
 use Rattle.session.proofs.state.Canvas.accept.Lts as lts
-use Rattle.grid.proofs.spans_canvas.Reads as spans-canvas-reads
-use Rattle.grid.proofs.same_layout.Reads as same-layout-reads
+use Rattle.tiles.proofs.spans_canvas.Reads as spans-canvas-reads
+use Rattle.tiles.proofs.same_layout.Reads as same-layout-reads
 use Rattle.image.proofs.format.Form.has_size.Reads as has-size-reads
 use Rattle.session.proofs.state.Canvas.has_tile.Reads as has-tile-reads
 

@@ -11,7 +11,7 @@ use Rattle.image.specs.declared.format.Form.{Form}
 use Rattle.planes.specs.Bytes.{sizeOf}
 use Rattle.paste.proofs.HeadedLaws.{tight-form}
 use Rattle.grid.proofs.Composed.{canvas-alpha-is}
-use Rattle.grid.specs.Tiles.{canvasForm}
+use Rattle.tiles.specs.Tiles.{canvasForm}
 use Rattle.session.proofs.BlankLaws.{blank-bare, blank-done, blank-outside, blank-short, blank-suits, blank-unsound, blanked-buffer, blanked-canvas}
 use Rattle.session.proofs.DrawLaws.{drawn-done, drawn-refused, fits-as, length-told}
 use Rattle.session.proofs.StateLaws.{count-small, held-canvas, state-grid, state-tile}
@@ -20,8 +20,8 @@ use Rattle.session.specs.State.{hasTile, stateOk}
 use Rattle.session.proofs.state.Canvas.blank.Tie as tie
 use Rattle.session.proofs.state.Canvas.blank.Reads as reads
 use Rattle.session.proofs.state.Canvas.blank.Lts as lts
-use Rattle.grid.proofs.canvas_form.Reads as canvas-form-reads
-use Rattle.grid.proofs.promotes.Reads as promotes-reads
+use Rattle.tiles.proofs.canvas_form.Reads as canvas-form-reads
+use Rattle.tiles.proofs.promotes.Reads as promotes-reads
 use Rattle.planes.proofs.record_size.Reads as record-size-reads
 use Rattle.planes.proofs.tight.Reads as tight-reads
 use Rattle.session.proofs.canvas.refused.Reads as refused-reads

@@ -13,7 +13,7 @@ use Rattle.session.specs.State.{hasTile, stateOk}
 use Rattle.session.proofs.state.Canvas.finish.Tie as tie
 use Rattle.session.proofs.state.Canvas.finish.Reads as reads
 use Rattle.session.proofs.state.Canvas.finish.Lts as lts
-use Rattle.grid.proofs.canvas_form.Reads as canvas-form-reads
+use Rattle.tiles.proofs.canvas_form.Reads as canvas-form-reads
 use Rattle.planes.proofs.record_size.Reads as record-size-reads
 use Rattle.session.proofs.marks.all_marked.Reads as all-marked-reads
 use Rattle.session.proofs.state.Canvas.has_tile.Reads as has-tile-reads

@@ -15,7 +15,7 @@ use Rattle.planes.specs.Bytes.{sizeOf}
 use Rattle.paste.proofs.HeadedLaws.{tight-form}
 use Rattle.grid.proofs.Composed.{canvas-alpha-is, length-storeTile}
 use Rattle.grid.proofs.GridLaws.{canvas-sound}
-use Rattle.grid.specs.Tiles.{canvasForm}
+use Rattle.tiles.specs.Tiles.{canvasForm}
 use Rattle.session.proofs.DrawLaws.{drawn-done, drawn-refused, fits-as, length-begun, length-told, place-done, place-form, place-outside, place-record, place-short, place-unsound, placed-buffer, placed-canvas}
 use Rattle.session.proofs.StateLaws.{Accepted, accept-done, count-small, place-suits, state-grid}
 use Rattle.session.proofs.state.Canvas.place.Statement.{statement}
@@ -23,10 +23,10 @@ use Rattle.session.specs.State.{acceptOf, stateOk, tileOut}
 use Rattle.session.proofs.state.Canvas.place.Tie as tie
 use Rattle.session.proofs.state.Canvas.place.Reads as reads
 use Rattle.session.proofs.state.Canvas.place.Lts as lts
-use Rattle.grid.proofs.draw_tile.Reads as draw-tile-reads
-use Rattle.grid.proofs.canvas_form.Reads as canvas-form-reads
-use Rattle.grid.proofs.promotes.Reads as promotes-reads
-use Rattle.grid.proofs.with_tile.Reads as with-tile-reads
+use Rattle.cells.proofs.draw_tile.Reads as draw-tile-reads
+use Rattle.tiles.proofs.canvas_form.Reads as canvas-form-reads
+use Rattle.tiles.proofs.promotes.Reads as promotes-reads
+use Rattle.tiles.proofs.with_tile.Reads as with-tile-reads
 use Rattle.records.proofs.parse_record.Reads as parse-record-reads
 use Rattle.planes.proofs.record_size.Reads as record-size-reads
 use Rattle.planes.proofs.tight.Reads as tight-reads

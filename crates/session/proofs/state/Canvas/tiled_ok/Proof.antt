@@ -2,14 +2,14 @@ use mathlib.Core.Path.{_∙_, sym}
 use native.Mathlib.Omega.{arith}
 use borrow.Author.Needs.{needs}
 use borrow.Author.Tests.{le-leb, lt-leb, not-false, not-true}
-use Rattle.grid.specs.Tiles.{countOf}
+use Rattle.tiles.specs.Tiles.{countOf}
 use Rattle.session.proofs.StateLaws.{count-small, grid-sound}
 use Rattle.session.proofs.state.Canvas.tiled_ok.Statement.{statement}
 use Rattle.session.specs.State.{tiledOk}
 use Rattle.session.proofs.state.Canvas.tiled_ok.Tie as tie
 use Rattle.session.proofs.state.Canvas.tiled_ok.Reads as reads
 use Rattle.session.proofs.state.Canvas.tiled_ok.Lts as lts
-use Rattle.grid.proofs.spans_canvas.Reads as spans-canvas-reads
+use Rattle.tiles.proofs.spans_canvas.Reads as spans-canvas-reads
 use Rattle.session.proofs.marks.any_marked.Reads as any-marked-reads
 use Rattle.session.proofs.marks.none_beyond.Reads as none-beyond-reads
 use Rattle.session.proofs.state.form_ok.Reads as form-ok-reads

@@ -1,0 +1,4 @@
+pub mod CellLaws
+pub mod CellFits
+pub mod Suited
+pub mod PasteLaws
