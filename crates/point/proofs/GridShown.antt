@@ -40,9 +40,8 @@ use Rattle.grid.specs.inner.Ready.{Alike, TilesTaken}
 use Rattle.grid.specs.Run.{framesIn, gridOn}
 use Rattle.tiles.specs.Tiles.{canvasForm, countOf, judgeOf, promotesOf, tilesAt}
 use Rattle.tiles.specs.declared.judge.Tiles.{Tiles}
-use Rattle.point.specs.Agreement.{InTray}
+use Rattle.point.specs.Read.{InTray, gridReads, readAt}
 use Rattle.point.specs.Point.{gridNames}
-use Rattle.point.specs.Read.{gridReads, readAt}
 use Rattle.point.specs.declared.Named.{Named}
 use Rattle.point.specs.declared.Spot.{Spot}
 

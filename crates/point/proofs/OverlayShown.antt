@@ -44,9 +44,8 @@ use Rattle.overlay.specs.Overlay.{alphaOf, covers, coversAt, overlayPic, sample
 use Rattle.inputs.specs.Inputs.{Inputs, alphaAbove, composedForm, firstFormat, otherDepth}
 use Rattle.overlay.specs.Run.{composed, fillFor}
 use Rattle.point.proofs.GridShown.{spot-same}
-use Rattle.point.specs.Agreement.{InTray}
+use Rattle.point.specs.Read.{InTray, canvasFill, overlayReads, readAt}
 use Rattle.point.specs.Point.{liesOver, overlayNames, seeThroughFrame, spotUnder, topmostNamed}
-use Rattle.point.specs.Read.{canvasFill, overlayReads, readAt}
 use Rattle.point.specs.declared.Named.{Named}
 use Rattle.point.specs.declared.Spot.{Spot}
 

@@ -37,15 +37,15 @@ use Rattle.scene.proofs.ComposedLaws.{grid-in-range, overlay-in-range}
 use Rattle.plans.proofs.ChainPlanLaws.{chain-in-range}
 use Rattle.stages.specs.Chain.{Drawn, chainDrawn}
 use Rattle.scene.specs.Scene.{gridDrawn, gridScene, overlayDrawn, overlayScene}
-use Rattle.point.proofs.AlikeLaws.{grid-blind, overlay-blind}
-use Rattle.point.proofs.Chained.{ReadsBack, chain-agrees, chain-names, chain-once, chain-sighted, chain-stays, chain-through}
+use Rattle.agreement.proofs.AlikeLaws.{grid-blind, overlay-blind}
+use Rattle.agreement.proofs.Chained.{ReadsBack, chain-agrees, chain-names, chain-once, chain-sighted, chain-stays, chain-through}
 use Rattle.point.proofs.GridShown.{grid-even, grid-form, grid-once, grid-reads, grid-sides, grid-there, tiles-records}
-use Rattle.point.proofs.Halves.{grid-steps, overlay-steps, pointOn}
+use Rattle.agreement.proofs.Halves.{grid-steps, overlay-steps, pointOn}
 use Rattle.point.proofs.OverlayShown.{inputs-records, none-above, overlay-even, overlay-once, overlay-reads, overlay-sides, overlay-there}
-use Rattle.point.proofs.Runs.{Agrees, agrees-as, agrees-number, agrees-then, on-taken, unscaled}
-use Rattle.point.specs.Agreement.{CarriedFrom, CarriedTo, InTray, NoAlpha, NoScaling, canvasHeight, canvasWidth, chainCarries, chainSight, noChain}
+use Rattle.agreement.proofs.Runs.{Agrees, agrees-as, agrees-number, agrees-then, on-taken, unscaled}
+use Rattle.agreement.specs.Agreement.{CarriedFrom, CarriedTo, NoAlpha, NoScaling, canvasHeight, canvasWidth, chainCarries, chainSight, noChain}
+use Rattle.point.specs.Read.{InTray, gridReads, overlayReads}
 use Rattle.point.specs.Point.{gridNames, gridPoint, overlayNames, overlayPoint, seeThroughFrame}
-use Rattle.point.specs.Read.{gridReads, overlayReads}
 use Rattle.point.specs.declared.Named.{Named}
 use Rattle.point.specs.declared.Point.{Point}
 use Rattle.point.specs.declared.Spot.{Spot}

@@ -58,10 +58,10 @@ use Rattle.session.specs.State.{stateOk}
 use Rattle.session.specs.declared.state.Canvas.{Canvas}
 use Rattle.stages.specs.Chain.{Drawn}
 use Rattle.scene.specs.Scene.{gridDrawn, gridScene, overlayDrawn, overlayScene}
-use Rattle.point.specs.Agreement.{Agreement, CarriedFrom, CarriedTo, InTray, NoAlpha, NoScaling, Room, canvasHeight, canvasWidth, chainCarries, chainSight, noChain}
-use Rattle.point.specs.Alike.{SameTray}
+use Rattle.agreement.specs.Agreement.{Agreement, CarriedFrom, CarriedTo, NoAlpha, NoScaling, Room, canvasHeight, canvasWidth, chainCarries, chainSight, noChain}
+use Rattle.point.specs.Read.{InTray, gridReads, overlayReads}
+use Rattle.agreement.specs.Alike.{SameTray}
 use Rattle.point.specs.Point.{gridPoint, overlayPoint}
-use Rattle.point.specs.Read.{gridReads, overlayReads}
 use Rattle.point.specs.declared.Named.{Named}
 use Rattle.point.specs.declared.Point.{Point}
 use Rattle.point.specs.declared.Spot.{Spot}

@@ -36,12 +36,12 @@ use Rattle.sight.specs.declared.Sight.{Sight}
 use Rattle.sight.specs.inner.Seen.{PlaceAgrees, Seen}
 use Rattle.stages.specs.Chain.{Drawn, firstDrawn, chainDrawn, drawnAfter, scaled}
 use Rattle.scene.specs.Scene.{roomFor}
-use Rattle.point.proofs.Halves.{pointOn}
-use Rattle.point.specs.Agreement.{Agreement, CarriedFrom, CarriedTo, Pictured, Room, Shown, canvasHeight, canvasWidth, inside, outside}
+use Rattle.agreement.proofs.Halves.{pointOn}
+use Rattle.agreement.specs.Agreement.{Agreement, CarriedFrom, CarriedTo, Pictured, Room, Shown, canvasHeight, canvasWidth, inside, outside}
 use Rattle.point.specs.Point.{pointFrom}
 use Rattle.point.specs.declared.Named.{Named}
 use Rattle.point.specs.declared.Point.{Point}
 use Rattle.point.specs.declared.Spot.{Spot}
 
 -- ---- the pictures that a run draws are those of the chain
 

@@ -4,29 +4,27 @@ use mathlib.Core.Bool.{Bool, false, true}
 use mathlib.Core.List.{List, [], _∷_}
 use mathlib.Core.Path.{_≡_}
 use Prim.Native.Nat.{_<_, _≤_, ℕ}
-use lib.ListN.{length}
+use Rattle.laws.specs.Any.{any}
 use Rattle.laws.specs.Out.{Out, andThen, done, reason, refused}
 use Rattle.laws.specs.declared.Refusal.{Refusal}
-use Rattle.planes.specs.Bytes.{decode, inputIn}
-use Rattle.image.specs.Format.{hasPart, Covers}
-use Rattle.planes.specs.Picture.{Pic}
-use Rattle.records.specs.Record.{recordOf}
+use Rattle.image.specs.Format.{Covers, hasPart}
 use Rattle.image.specs.declared.format.Part.{Part}
+use Rattle.records.specs.Record.{recordOf}
+use Rattle.records.specs.Tray.{recordsIn}
 use Rattle.records.specs.declared.record.Frame.{Frame}
+use Rattle.planes.specs.Bytes.{decode}
+use Rattle.planes.specs.Picture.{Pic}
 use Rattle.props.specs.Chain.{applies, chainAt}
 use Rattle.props.specs.declared.entry.PropertyEntry.{PropertyEntry}
+use Rattle.motions.specs.Chain.{NotIscl}
 use Rattle.motions.specs.Place.{Place}
 use Rattle.sight.specs.Carry.{Follows, Tracked, carryOf, kept}
-use Rattle.motions.specs.Chain.{NotIscl}
 use Rattle.sight.specs.Sight.{finalHeight, finalWidth, sightOf}
 use Rattle.sight.specs.declared.Sight.{Sight}
-use Rattle.laws.specs.Any.{any}
 use Rattle.stages.specs.Chain.{Drawn}
 use Rattle.point.specs.Point.{seeThroughFrame}
-use Rattle.records.specs.Tray.{recordsIn}
 use Rattle.point.specs.declared.Named.{Named}
 use Rattle.point.specs.declared.Point.{Point}
-use Rattle.point.specs.declared.Spot.{Spot}
 
 -- ---- one picture run and one point run
 
@@ -54,14 +52,6 @@ pub data Agreement (reads : Named → Part → ℕ) (x y : ℕ) : Out (List ℕ)
 -- enough room: output and spare are as long as the longest record of the run
 unfoldable pub Room : Out Drawn → ℕ → ℕ → Type 0
 Room o output spare = (d : Drawn) → o ≡ done d → (d .longest ≤ output) × (d .longest ≤ spare)
-
--- ---- what a point run names
-
--- a spot of an input of the tray
-pub record InTray (tray : List ℕ) (k : Spot) : Type 0 where
-  pub input : k .input < length (recordsIn tray)
-  pub across : k .x < inputIn tray (k .input) .form .width
-  pub down : k .y < inputIn tray (k .input) .form .height
 
 -- ---- what the entries of a chain make of a canvas
 

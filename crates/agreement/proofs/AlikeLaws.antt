@@ -29,8 +29,8 @@ use Rattle.props.specs.Chain.{chainAt}
 use Rattle.tiles.specs.Tiles.{countOf, judgeOf, tilesAt}
 use Rattle.laws.specs.Any.{any}
 use Rattle.inputs.specs.Inputs.{firstFormat, inputsAt, otherDepth}
-use Rattle.point.specs.Alike.{SameBytes, SameHead, SameNumber, SameParts, SameRecords, SameTray}
+use Rattle.agreement.specs.Alike.{SameBytes, SameHead, SameNumber, SameParts, SameRecords, SameTray}
 use Rattle.point.specs.Point.{Look, gridLook, gridNames, gridPoint, lookOn, overlayLook, overlayNames, overlayPoint, pointFrom, seeThroughFrame}
 
 -- ---- runs step by step, of two that read the same
 

@@ -13,9 +13,9 @@ use Rattle.props.specs.declared.entry.PropertyEntry.{PropertyEntry}
 use Rattle.motions.specs.Chain.{NotIscl}
 use Rattle.stages.specs.Chain.{Drawn}
 use Rattle.scene.specs.Scene.{roomFor}
-use Rattle.point.specs.Agreement.{Agreement, Room, Unscaled}
+use Rattle.agreement.specs.Agreement.{Agreement, Room, Unscaled}
 use Rattle.point.specs.declared.Named.{Named}
 use Rattle.point.specs.declared.Point.{Point}
 
 -- a number that was read, and what goes on with it
 pub on-taken : {A : Type 0} {o : NumberRead} {n at : ℕ} (k : ℕ → ℕ → Out A) → o ≡ Number n at → onNumber o k ≡ k n at

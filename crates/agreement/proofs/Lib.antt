@@ -1,0 +1,4 @@
+pub mod Halves
+pub mod AlikeLaws
+pub mod Chained
+pub mod Runs
