@@ -27,9 +27,9 @@ use Rattle.sampling.proofs.MeanLaws.{area-constant, weights-whole}
 use Rattle.sampling.proofs.SameLaws.{area-same, nearest-same, rescaled-same}
 use Rattle.sampling.specs.Depth.{levelOf}
 use Rattle.overlay.proofs.Sentences.{composed-settled, composed-uncovered}
-use Rattle.session.proofs.CallLaws.{blank-before-alpha, blank-leaves, blank-over, calls-leave, other-cell, place-leaves, place-over}
-use Rattle.session.proofs.ComposeLaws.{any-order-composes}
-use Rattle.session.proofs.MadeLaws.{made-ok, ok-made}
+use Rattle.sequence.proofs.CallLaws.{blank-before-alpha, blank-leaves, blank-over, calls-leave, other-cell, place-leaves, place-over}
+use Rattle.sequence.proofs.ComposeLaws.{any-order-composes}
+use Rattle.sequence.proofs.MadeLaws.{made-ok, ok-made}
 use Rattle.cases.proofs.Holds.{table-holds}
 use Rattle.words.proofs.CanvasLaws.{canvas-words, words-small}
 use Rattle.promises.proofs.DemandLaws.{grid-demand, overlay-demand}

@@ -52,7 +52,7 @@ use Rattle.inputs.specs.Layers.{layersOf}
 use Rattle.overlay.specs.Covered.{AllCut, endsAs, hides, topmost}
 use Rattle.overlay.specs.Overlay.{coversAt}
 use Rattle.overlay.specs.Run.{composed, fillFor}
-use Rattle.session.specs.Sequence.{Call, MadeBy, alphaNumber, blank, callsRun, cellAt, cellIn, drawnAt, drawnPic, firstTile, leftAt, leftBytes, pictureOf, place, sessionRun}
+use Rattle.sequence.specs.Sequence.{Call, MadeBy, alphaNumber, blank, callsRun, cellAt, cellIn, drawnAt, drawnPic, firstTile, leftAt, leftBytes, pictureOf, place, sessionRun}
 use Rattle.session.specs.Session.{CanvasAfter, blankAt, reservedForm}
 use Rattle.session.specs.State.{stateOk}
 use Rattle.session.specs.declared.state.Canvas.{Canvas}

@@ -2,8 +2,4 @@ pub mod MarkLaws
 pub mod StateLaws
 pub mod DrawLaws
 pub mod BlankLaws
-pub mod SequenceLaws
 pub mod KeepLaws
-pub mod ComposeLaws
-pub mod CallLaws
-pub mod MadeLaws

@@ -1,4 +1,3 @@
 pub mod Marks
 pub mod State
 pub mod Session
-pub mod Sequence

@@ -48,16 +48,16 @@ use Rattle.tiles.specs.Tiles.{canvasForm, countOf, spansCanvas, promotesOf, sam
 use Rattle.tiles.specs.declared.judge.Tiles.{Tiles}
 use Rattle.grid.specs.inner.Ready.{Alike, TilesTaken}
 use Rattle.cells.specs.inner.Rows.{FitsCanvas}
 use Rattle.session.proofs.DrawLaws.{begun-later, length-begun, length-told, place-done}
 use Rattle.session.proofs.KeepLaws.{open-ok, place-ok, wide-tile}
 use Rattle.session.proofs.MarkLaws.{all-of, mark-marks, none-marked}
-use Rattle.session.proofs.SequenceLaws.{alpha-small, alphaAfter, begun-laid, drawn-laid}
+use Rattle.sequence.proofs.SequenceLaws.{alpha-small, alphaAfter, begun-laid, drawn-laid}
 use Rattle.session.proofs.StateLaws.{count-small, place-suits}
 use Rattle.session.specs.Marks.{allMarked, isMarked, markOf, noMarks}
-use Rattle.session.specs.Sequence.{placeAll, sessionRun}
+use Rattle.sequence.specs.Sequence.{placeAll, sessionRun}
 use Rattle.session.specs.Session.{CanvasAfter, alphaTold, begun, drawnOn, finishOf, markedOn, placeOf, placedAs, reservedForm, sessionOf}
 use Rattle.session.specs.State.{acceptOf, hasTile, openOf, stateOk}
 use Rattle.session.specs.declared.state.Canvas.{Canvas}
 
 -- ---- forms of one size, chroma and depth fix the same canvas
 

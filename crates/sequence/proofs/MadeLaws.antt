@@ -34,17 +34,17 @@ use Rattle.derived.specs.declared.grid.GridDescriptor.{GridDescriptor}
 use Rattle.derived.specs.inner.Sound.{GridSound}
 use Rattle.tiles.specs.Tiles.{canvasForm, countOf, spansCanvas}
 use Rattle.grid.specs.inner.Ready.{Alike}
 use Rattle.session.proofs.BlankLaws.{blank-done}
-use Rattle.session.proofs.ComposeLaws.{length-drawn, take-first, take-later}
+use Rattle.sequence.proofs.ComposeLaws.{length-drawn, take-first, take-later}
 use Rattle.session.proofs.DrawLaws.{length-begun, place-done}
 use Rattle.session.proofs.KeepLaws.{Ready, bare-state, bare-zero, blank-ok, blank-taken, open-ok, place-ok, place-taken, ready-tiled, side-small, start-ok, state-marked, wide-tile}
 use Rattle.session.proofs.MarkLaws.{any-none, length-mark, mark-marks, none-marked, zero-words}
 use Rattle.session.proofs.StateLaws.{TileHeld, count-small, state-grid, state-parts, state-tile}
 use Rattle.session.specs.Marks.{anyWord, bitOf, isMarked, markOf, noMarks}
-use Rattle.session.specs.Sequence.{Call, MadeBy, blank, callAll, callOf, callsRun, place}
+use Rattle.sequence.specs.Sequence.{Call, MadeBy, blank, callAll, callOf, callsRun, place}
 use Rattle.session.specs.Session.{CanvasAfter, blankPic, blankedAs, markedOn, placedAs, sessionOf}
 use Rattle.session.specs.State.{acceptOf, bareOk, hasTile, openOf, stateOk, tiledOk}
 use Rattle.session.specs.declared.state.Canvas.{Canvas}
 
 -- ---- words and marks by their bits
 

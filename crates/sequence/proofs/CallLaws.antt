@@ -38,15 +38,15 @@ use Rattle.paste.specs.Stored.{headed}
 use Rattle.tiles.specs.Tiles.{canvasForm, spansCanvas, promotesOf, sameLayout}
 use Rattle.grid.specs.inner.Ready.{Alike}
 use Rattle.cells.specs.inner.Rows.{FitsCanvas}
 use Rattle.session.proofs.BlankLaws.{blank-suits}
 use Rattle.session.proofs.DrawLaws.{begun-later}
 use Rattle.session.proofs.KeepLaws.{Blanking, Placing, accept-first, accept-later, bare-state, blank-taken, place-taken, state-covers, wide-tile}
-use Rattle.session.proofs.SequenceLaws.{begun-laid, drawn-laid}
+use Rattle.sequence.proofs.SequenceLaws.{begun-laid, drawn-laid}
 use Rattle.session.proofs.StateLaws.{Accepted, TileHeld, accept-done, place-suits, state-grid, state-tile}
-use Rattle.session.specs.Sequence.{Call, alphaNumber, blank, callAll, callOf, callsRun, cellAt, cellIn, drawnAt, drawnPic, firstTile, leftAt, leftBytes, leftPic, pictureOf, place, shownIn}
+use Rattle.sequence.specs.Sequence.{Call, alphaNumber, blank, callAll, callOf, callsRun, cellAt, cellIn, drawnAt, drawnPic, firstTile, leftAt, leftBytes, leftPic, pictureOf, place, shownIn}
 use Rattle.session.specs.Session.{CanvasAfter, begun, blankAt, blankOf, blankPic, blankedAs, drawnOn, markedOn, placeOf, placedAs, reservedForm, sessionOf}
 use Rattle.session.specs.State.{acceptOf, hasTile, openOf, stateOk}
 use Rattle.session.specs.declared.state.Canvas.{Canvas}
 
 -- ---- what an accepted call draws
 

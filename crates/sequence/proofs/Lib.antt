@@ -1,0 +1,4 @@
+pub mod SequenceLaws
+pub mod ComposeLaws
+pub mod CallLaws
+pub mod MadeLaws
