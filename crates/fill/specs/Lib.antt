@@ -1,3 +1,2 @@
 pub mod Rounded
 pub mod Fill
-pub mod Figure

@@ -10,8 +10,8 @@ use Rattle.numbers.proofs.Number.{read-shortest, round-trip}
 use Rattle.numbers.specs.Number.{numberBytes, readNumber}
 use Rattle.numbers.specs.declared.NumberRead.the-variants.{Number}
 use Rattle.image.specs.Sound.{SizeSound}
-use Rattle.fill.proofs.Bound.{fill-within}
-use Rattle.fill.specs.Figure.{AllWithin, figuresOf}
+use Rattle.figures.proofs.Bound.{fill-within}
+use Rattle.figures.specs.Figure.{AllWithin, figuresOf}
 use Rattle.fill.specs.Fill.{fillOf}
 use Rattle.fill.specs.declared.Colour.{Colour}
 use Rattle.fill.specs.declared.Ycbcr.{Ycbcr}

@@ -23,7 +23,7 @@ use Rattle.records.specs.declared.record.Frame.{Frame}
 use Rattle.image.specs.declared.size.Size.{Size}
 use Rattle.planes.specs.Bytes.{decode, pictureIn, sizeOf}
 use Rattle.planes.specs.Picture.{Agree, Pic, pixel}
-use Rattle.fill.specs.Figure.{AllWithin, figuresOf}
+use Rattle.figures.specs.Figure.{AllWithin, figuresOf}
 use Rattle.fill.specs.Fill.{fillOf}
 use Rattle.fill.specs.declared.Colour.{Colour}
 use Rattle.fill.specs.declared.Ycbcr.{Ycbcr}

@@ -8,8 +8,8 @@ use native.Mathlib.Omega.{arith}
 use lib.Ieee.{Float, add, binary64, div, down, fin, inf, mul, nan, neg, sub, up}
 use lib.Ieee.Back.{round-whole}
 use lib.Ieee.Exact.{HasValue}
-use Rattle.fill.proofs.Rounding.{E, Rounded, W, W-is, W-pos, add-units, div-units, less, mul-left, mul-right, neg-units, plus, rounded, sub-neg}
+use Rattle.figures.proofs.Rounding.{E, Rounded, W, W-is, W-pos, add-units, div-units, less, mul-left, mul-right, neg-units, plus, rounded, sub-neg}
 use Rattle.fill.specs.Rounded.{lit}
 
 -- p - q units lie within f of (a - b) / Q
 pub record Close (p q a b Q f : ℕ) : Type 0 where

@@ -16,12 +16,12 @@ use Rattle.laws.specs.Pick.{pick}
 use Rattle.image.proofs.FormLaws.{top-high}
 use Rattle.image.proofs.JudgedLaws.{depth-sound}
 use Rattle.image.specs.Format.{isDepth, topAt}
-use Rattle.fill.proofs.NearLaws.{Close, Near, NearPos, near-add, near-div, near-lit, near-more, near-mul, near-over, near-pos, near-raise, near-sub, near-times, near-times-right, near-whole, signed}
-use Rattle.fill.proofs.Rounding.{E, E-pos, W, W-is, W-pos, less, plus}
-use Rattle.fill.specs.Figure.{AllWithin, Fraction, Within, figuresOf, greenOf, identityFigures, lumaN, primary, raised, times, weightedFigures}
+use Rattle.figures.proofs.NearLaws.{Close, Near, NearPos, near-add, near-div, near-lit, near-more, near-mul, near-over, near-pos, near-raise, near-sub, near-times, near-times-right, near-whole, signed}
+use Rattle.figures.proofs.Rounding.{E, E-pos, W, W-is, W-pos, less, plus}
+use Rattle.figures.specs.Figure.{AllWithin, Fraction, Within, figuresOf, greenOf, identityFigures, lumaN, primary, raised, times, weightedFigures}
 use Rattle.fill.specs.Fill.{blueOf, cbOf, crOf, fillOf, fullChromaOf, fullOf, identityOf, lumaOf, nclxOf, partOf, redOf, studioOf, tableOf, weightedOf, weightsOf, ycbcrOf}
 use Rattle.fill.specs.Rounded.{lit, wholeOf}
 use Rattle.fill.specs.declared.Colour.{Colour}
 
 abbrev fraction : ℕ → ℕ → ℕ → Fraction
 fraction a b Q = record { plus = a; minus = b; over = Q }
