@@ -2,7 +2,8 @@
 ghost use mathlib.Core.Path.{_≡_};
 ghost use lib.ListN.{length};
 ghost use Rattle.laws.specs.Out.{answerOf, written};
-ghost use Rattle.resample.specs.Run.{attachRun, depthRun, isclRun, nearestRun};
+ghost use Rattle.attach.specs.Attach.{attachRun};
+ghost use Rattle.resample.specs.Run.{depthRun, isclRun, nearestRun};
 ghost use Rattle.words.specs.Code.{answerCode};
 use sizes::Iscl;
 
@@ -60,5 +61,5 @@ pub extern "C" fn compose_attach_alpha(master: &[u8], alpha: &[u8], out: &mut [u
     ensures { λ r. ⌜ (r ≡ answerCode (answerOf (attachRun (now (master .entry)) (now (alpha .entry)) (length (now (out .entry))))))
         × (now (out .exit) ≡ written (attachRun (now (master .entry)) (now (alpha .entry)) (length (now (out .entry)))) (now (out .entry))) ⌝ }
 {
-    words::answer_code(resample::attach_alpha(master, alpha, out))
+    words::answer_code(attach::attach_alpha(master, alpha, out))
 }

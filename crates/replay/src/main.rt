@@ -186,7 +186,7 @@ fn write(op: u32, head: &[u8], one: &[u8], two: &[u8], three: &[u8], out: &mut [
         return on_record(op, head, one, out);
     }
     if op == 8 {
-        return resample::attach_alpha(one, two, out);
+        return attach::attach_alpha(one, two, out);
     }
     if op == 10 {
         return grid::composite_grid(one, two, out);

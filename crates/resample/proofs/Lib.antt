@@ -1,2 +1,1 @@
-pub mod AttachLaws
 pub mod RunLaws

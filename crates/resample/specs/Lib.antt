@@ -1,3 +1,1 @@
-pub mod Attach
 pub mod Run
-pub mod inner

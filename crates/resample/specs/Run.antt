@@ -5,14 +5,13 @@ use Prim.Native.Nat.{ℕ}
 use lib.Dec.{eqb}
 use Rattle.laws.specs.Out.{Out, andThen, fitted, refuse}
 use Rattle.laws.specs.Pick.{pick}
-use Rattle.image.specs.Format.{isDepth, judgedSize, hasSize}
+use Rattle.image.specs.Format.{hasSize, isDepth, judgedSize}
 use Rattle.records.specs.Record.{recordOf}
 use Rattle.records.specs.declared.record.Frame.{Frame}
 use Rattle.planes.specs.Bytes.{decode, encode}
 use Rattle.sizes.specs.Scale.{scaleOf}
 use Rattle.sizes.specs.declared.iscl.Iscl.{Iscl}
 use Rattle.sampling.specs.Area.{area}
-use Rattle.resample.specs.Attach.{attachBytes}
 use Rattle.sampling.specs.Depth.{rescaled}
 use Rattle.sampling.specs.Nearest.{nearest}
 
@@ -36,7 +35,3 @@ areaBytes s fr w h = pick (hasSize (fr .form) w h) s (encode (area (decode s fr)
 
 unfoldable pub isclRun : List ℕ → Iscl → ℕ → Out (List ℕ)
 isclRun s k room = andThen (recordOf s) (λ fr. andThen (scaleOf k (fr .form .width) (fr .form .height)) (λ z. fitted room (areaBytes s fr (z .width) (z .height))))
-
--- attach: the master's record, then the alpha's, then 17
-unfoldable pub attachRun : List ℕ → List ℕ → ℕ → Out (List ℕ)
-attachRun s t room = andThen (recordOf s) (λ fr. andThen (recordOf t) (λ gr. fitted room (attachBytes s fr t gr)))

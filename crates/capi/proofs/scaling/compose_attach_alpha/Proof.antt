@@ -6,7 +6,7 @@ use Rattle.capi.proofs.scaling.compose_attach_alpha.Tie as tie
 use Rattle.capi.proofs.scaling.compose_attach_alpha.Reads as reads
 use Rattle.capi.proofs.scaling.compose_attach_alpha.Lts as lts
 use Rattle.words.proofs.answer_code.Reads as answer-code-reads
-use Rattle.resample.proofs.attach_alpha.Reads as attach-alpha-reads
+use Rattle.attach.proofs.attach_alpha.Reads as attach-alpha-reads
 
 attach-alpha-requires : tie.Need-attach-alpha-requires
 attach-alpha-requires c κs = search needs

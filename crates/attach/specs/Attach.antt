@@ -5,13 +5,14 @@ use mathlib.Core.Bool.{Bool, _&&_}
 use mathlib.Core.List.{List, [], _++_}
 use Prim.Native.Nat.{ℕ}
 use lib.Dec.{eqb}
+use Rattle.laws.specs.Out.{Out, andThen, fitted}
 use Rattle.laws.specs.Pick.{pick}
 use Rattle.numbers.specs.Number.{numberBytes}
 use Rattle.image.specs.Format.{hasPart, hasSize, withAlpha}
-use Rattle.records.specs.Record.{dataOf, planeOf}
 use Rattle.image.specs.declared.format.Form.{Form}
 use Rattle.image.specs.declared.format.Part.{Part}
 use Rattle.image.specs.declared.format.Part.the-variants.{Cb, Cr, Luma}
+use Rattle.records.specs.Record.{dataOf, planeOf, recordOf}
 use Rattle.records.specs.declared.record.Frame.{Frame}
 use Rattle.records.specs.declared.record.Plane.{Plane}
 use Rattle.planes.specs.Bytes.{decode, headBytes, planeBytes}
@@ -45,3 +46,7 @@ alphaBytes m t gr =
 unfoldable pub attachBytes : List ℕ → Frame → List ℕ → Frame → List ℕ
 attachBytes s fr t gr =
     headBytes (withAlpha (fr .form) 1) ++ (keptPart s fr Luma ++ (keptPart s fr Cb ++ (keptPart s fr Cr ++ alphaBytes (fr .form) t gr)))
+
+-- attach: the master's record, then the alpha's, then 17
+unfoldable pub attachRun : List ℕ → List ℕ → ℕ → Out (List ℕ)
+attachRun s t room = andThen (recordOf s) (λ fr. andThen (recordOf t) (λ gr. fitted room (attachBytes s fr t gr)))

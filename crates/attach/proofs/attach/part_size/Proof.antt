@@ -5,15 +5,15 @@ use lib.ListN.{length}
 use borrow.Author.Needs.{needs}
 use denote.Ref.{now}
 use Rattle.image.specs.Format.{hasPart}
-use Rattle.resample.proofs.AttachLaws.{kept-fits, kept-none, kept-some}
-use Rattle.resample.proofs.attach.part_size.Statement.{statement}
-use Rattle.resample.specs.Attach.{keptPlane}
-use Rattle.resample.proofs.attach.part_size.Tie as tie
-use Rattle.resample.proofs.attach.part_size.Reads as reads
-use Rattle.resample.proofs.attach.part_size.Lts as lts
+use Rattle.attach.proofs.AttachLaws.{kept-fits, kept-none, kept-some}
+use Rattle.attach.proofs.attach.part_size.Statement.{statement}
+use Rattle.attach.specs.Attach.{keptPlane}
+use Rattle.attach.proofs.attach.part_size.Tie as tie
+use Rattle.attach.proofs.attach.part_size.Reads as reads
+use Rattle.attach.proofs.attach.part_size.Lts as lts
 use Rattle.image.proofs.format.PixelFormat.has.Reads as has-reads
 use Rattle.records.proofs.record.Frame.plane.Reads as plane-reads
-use Rattle.resample.proofs.attach.kept_size.Reads as kept-size-reads
+use Rattle.attach.proofs.attach.kept_size.Reads as kept-size-reads
 
 there : (c : tie.After-plane) → hasPart (c .before .before .before .before .before .before .args .fr .form .format) (c .before .before .before .before .before .before .args .part) ≡ true
 there c = sym (c .before .before .has .ensures) ∙ c .before .if1 .taken

@@ -1,10 +1,10 @@
 use mathlib.Core.Path.{sym}
 use borrow.Author.Needs.{needs}
-use Rattle.resample.proofs.attach.alpha_kept.Statement.{statement}
-use Rattle.resample.specs.Attach.{alphaKept}
-use Rattle.resample.proofs.attach.alpha_kept.Tie as tie
-use Rattle.resample.proofs.attach.alpha_kept.Reads as reads
-use Rattle.resample.proofs.attach.alpha_kept.Lts as lts
+use Rattle.attach.proofs.attach.alpha_kept.Statement.{statement}
+use Rattle.attach.specs.Attach.{alphaKept}
+use Rattle.attach.proofs.attach.alpha_kept.Tie as tie
+use Rattle.attach.proofs.attach.alpha_kept.Reads as reads
+use Rattle.attach.proofs.attach.alpha_kept.Lts as lts
 use Rattle.image.proofs.format.Form.has_size.Reads as has-size-reads
 
 has-size-requires : tie.Need-has-size-requires

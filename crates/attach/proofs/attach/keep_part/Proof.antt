@@ -8,15 +8,15 @@ use denote.Ref.{now}
 use Rattle.laws.proofs.Writing.{writing-none}
 use Rattle.laws.specs.Puts.{puts}
 use Rattle.image.specs.Format.{hasPart}
-use Rattle.resample.proofs.AttachLaws.{kept-fits, kept-none, kept-some}
-use Rattle.resample.proofs.attach.keep_part.Statement.{statement}
-use Rattle.resample.specs.Attach.{keptPart, keptPlane}
-use Rattle.resample.proofs.attach.keep_part.Tie as tie
-use Rattle.resample.proofs.attach.keep_part.Reads as reads
-use Rattle.resample.proofs.attach.keep_part.Lts as lts
+use Rattle.attach.proofs.AttachLaws.{kept-fits, kept-none, kept-some}
+use Rattle.attach.proofs.attach.keep_part.Statement.{statement}
+use Rattle.attach.specs.Attach.{keptPart, keptPlane}
+use Rattle.attach.proofs.attach.keep_part.Tie as tie
+use Rattle.attach.proofs.attach.keep_part.Reads as reads
+use Rattle.attach.proofs.attach.keep_part.Lts as lts
 use Rattle.image.proofs.format.PixelFormat.has.Reads as has-reads
 use Rattle.records.proofs.record.Frame.plane.Reads as plane-reads
-use Rattle.resample.proofs.attach.keep_plane.Reads as keep-plane-reads
+use Rattle.attach.proofs.attach.keep_plane.Reads as keep-plane-reads
 
 there : (c : tie.After-plane) → hasPart (c .before .before .before .before .before .before .before .before .args .fr .form .format) (c .before .before .before .before .before .before .before .before .args .part) ≡ true
 there c = sym (c .before .before .before .has .ensures) ∙ c .before .before .if1 .taken

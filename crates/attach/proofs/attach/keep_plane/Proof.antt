@@ -9,11 +9,11 @@ use Rattle.laws.proofs.Writing.{Writing, writing-fits, writing-last, writing-ru
 use Rattle.laws.specs.Puts.{puts}
 use Rattle.numbers.specs.Number.{numberBytes}
 use Rattle.records.specs.Record.{dataOf}
-use Rattle.resample.proofs.attach.keep_plane.Statement.{statement}
-use Rattle.resample.specs.Attach.{keptPlane}
-use Rattle.resample.proofs.attach.keep_plane.Tie as tie
-use Rattle.resample.proofs.attach.keep_plane.Reads as reads
-use Rattle.resample.proofs.attach.keep_plane.Lts as lts
+use Rattle.attach.proofs.attach.keep_plane.Statement.{statement}
+use Rattle.attach.specs.Attach.{keptPlane}
+use Rattle.attach.proofs.attach.keep_plane.Tie as tie
+use Rattle.attach.proofs.attach.keep_plane.Reads as reads
+use Rattle.attach.proofs.attach.keep_plane.Lts as lts
 use Rattle.planes.proofs.copy_row.Reads as copy-row-reads
 use Rattle.planes.proofs.plane_data.Reads as plane-data-reads
 use Rattle.numbers.proofs.write_number.Reads as write-number-reads

@@ -5,9 +5,8 @@ ghost use lib.ListN.{length};
 ghost use Rattle.laws.specs.Out.{answerOf, written};
 ghost use Rattle.laws.specs.Puts.{puts};
 ghost use Rattle.image.specs.Sound.{FormSound};
-ghost use Rattle.resample.specs.Attach.{lumaForm, keptPlane, keptPart, alphaKept, alphaBytes, attachBytes};
-ghost use Rattle.resample.specs.inner.Kept.{KeptFits, Whole};
-ghost use Rattle.resample.specs.Run.{attachRun};
+ghost use Rattle.attach.specs.Attach.{lumaForm, keptPlane, keptPart, alphaKept, alphaBytes, attachBytes, attachRun};
+ghost use Rattle.attach.specs.inner.Kept.{KeptFits, Whole};
 use image::Form;
 use image::Part;
 use image::PixelFormat;
@@ -106,7 +105,7 @@ fn write_alpha(out: &mut [u8], at: usize, m: Form, t: &[u8], gr: Frame) -> usize
         old: g.depth,
         new: f.depth,
     });
-    crate::draw::write_plane(out, at, t, gr, alpha_form(m), rule, Part::Luma)
+    resample::write_plane(out, at, t, gr, alpha_form(m), rule, Part::Luma)
 }
 
 fn alpha_size(m: Form, t: &[u8], gr: Frame) -> usize

@@ -22,12 +22,11 @@ use Rattle.image.specs.declared.format.Part.{Part}
 use Rattle.image.specs.declared.format.Part.the-variants.{Alpha, Cb, Cr, Luma}
 use Rattle.records.specs.declared.record.Frame.{Frame}
 use Rattle.records.specs.declared.record.Plane.{Plane}
-use Rattle.resample.specs.Attach.{attachBytes, alphaBytes, alphaKept, keptPart, keptPlane, lumaForm, lumaOf}
-use Rattle.resample.specs.inner.Kept.{KeptFits, Whole}
+use Rattle.attach.specs.Attach.{attachBytes, alphaBytes, alphaKept, keptPart, keptPlane, lumaForm, lumaOf, attachRun}
+use Rattle.attach.specs.inner.Kept.{KeptFits, Whole}
 use Rattle.sampling.specs.Depth.{rescaled, toDepth}
 use Rattle.sampling.specs.Nearest.{nearest}
 use Rattle.sampling.specs.inner.Redraw.{RedrawFits, RuleFits, acrossOf, downOf, redrawn, rowAt, rowOf, ruleAt}
-use Rattle.resample.specs.Run.{attachRun}
 use Rattle.sampling.specs.declared.raster.Rule.{Rule}
 
 pub length-keptPlane : (s : List ℕ) (q : Plane) → q .start + q .len ≤ length s → length (keptPlane s q) ≡ length (numberBytes (q .stride)) + length (numberBytes (q .len)) + q .len

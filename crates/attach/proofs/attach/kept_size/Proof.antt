@@ -1,11 +1,11 @@
 use native.Mathlib.Omega.{arith}
 use borrow.Author.Needs.{needs}
 use denote.Ref.{now}
-use Rattle.resample.proofs.AttachLaws.{length-keptPlane}
-use Rattle.resample.proofs.attach.kept_size.Statement.{statement}
-use Rattle.resample.proofs.attach.kept_size.Tie as tie
-use Rattle.resample.proofs.attach.kept_size.Reads as reads
-use Rattle.resample.proofs.attach.kept_size.Lts as lts
+use Rattle.attach.proofs.AttachLaws.{length-keptPlane}
+use Rattle.attach.proofs.attach.kept_size.Statement.{statement}
+use Rattle.attach.proofs.attach.kept_size.Tie as tie
+use Rattle.attach.proofs.attach.kept_size.Reads as reads
+use Rattle.attach.proofs.attach.kept_size.Lts as lts
 use Rattle.numbers.proofs.number_length.Reads as number-length-reads
 
 cast-number-length : tie.Need-cast-number-length

@@ -6,16 +6,15 @@ use denote.Ref.{now}
 use Rattle.laws.proofs.Out.{done-answers, fitted-room, fitted-short, refused-answers, then-refused}
 use Rattle.laws.specs.Out.{done}
 use Rattle.records.specs.Record.{frameOut, recordOf}
-use Rattle.resample.proofs.AttachLaws.{attach-refused, attach-run, whole-of}
-use Rattle.resample.proofs.attach.attach_alpha.Statement.{statement}
-use Rattle.resample.specs.Attach.{attachBytes}
-use Rattle.resample.specs.Run.{attachRun}
-use Rattle.resample.proofs.attach.attach_alpha.Tie as tie
-use Rattle.resample.proofs.attach.attach_alpha.Reads as reads
-use Rattle.resample.proofs.attach.attach_alpha.Lts as lts
+use Rattle.attach.proofs.AttachLaws.{attach-refused, attach-run, whole-of}
+use Rattle.attach.proofs.attach.attach_alpha.Statement.{statement}
+use Rattle.attach.specs.Attach.{attachBytes, attachRun}
+use Rattle.attach.proofs.attach.attach_alpha.Tie as tie
+use Rattle.attach.proofs.attach.attach_alpha.Reads as reads
+use Rattle.attach.proofs.attach.attach_alpha.Lts as lts
 use Rattle.records.proofs.parse_record.Reads as parse-record-reads
-use Rattle.resample.proofs.attach.attached_size.Reads as attached-size-reads
-use Rattle.resample.proofs.attach.write_attached.Reads as write-attached-reads
+use Rattle.attach.proofs.attach.attached_size.Reads as attached-size-reads
+use Rattle.attach.proofs.attach.write_attached.Reads as write-attached-reads
 
 taken : (c : tie.After-f) → recordOf (now (c .before .before .before .before .before .before .args .master)) ≡ done (c .f .given .0 .0)
 taken c = sym (c .before .before .parse-record .ensures) ∙ ap frameOut (c .f .given .1)

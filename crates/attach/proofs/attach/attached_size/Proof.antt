@@ -5,14 +5,14 @@ use borrow.Author.Needs.{needs}
 use denote.Ref.{now}
 use Rattle.planes.specs.Bytes.{headBytes}
 use Rattle.image.specs.declared.format.Form.{Form}
-use Rattle.resample.proofs.AttachLaws.{length-attach}
-use Rattle.resample.proofs.attach.attached_size.Statement.{statement}
-use Rattle.resample.proofs.attach.attached_size.Tie as tie
-use Rattle.resample.proofs.attach.attached_size.Reads as reads
-use Rattle.resample.proofs.attach.attached_size.Lts as lts
+use Rattle.attach.proofs.AttachLaws.{length-attach}
+use Rattle.attach.proofs.attach.attached_size.Statement.{statement}
+use Rattle.attach.proofs.attach.attached_size.Tie as tie
+use Rattle.attach.proofs.attach.attached_size.Reads as reads
+use Rattle.attach.proofs.attach.attached_size.Lts as lts
 use Rattle.planes.proofs.head_size.Reads as head-size-reads
-use Rattle.resample.proofs.attach.alpha_size.Reads as alpha-size-reads
-use Rattle.resample.proofs.attach.part_size.Reads as part-size-reads
+use Rattle.attach.proofs.attach.alpha_size.Reads as alpha-size-reads
+use Rattle.attach.proofs.attach.part_size.Reads as part-size-reads
 use Rattle.image.proofs.format.Form.with_alpha.Reads as with-alpha-reads
 
 with-alpha-requires : tie.Need-with-alpha-requires

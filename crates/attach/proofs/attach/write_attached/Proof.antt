@@ -9,16 +9,16 @@ use Rattle.laws.specs.Puts.{puts}
 use Rattle.planes.specs.Bytes.{headBytes}
 use Rattle.image.specs.declared.format.Part.{Part}
 use Rattle.image.specs.declared.format.Part.the-variants.{Cb, Cr, Luma}
-use Rattle.resample.proofs.attach.write_attached.Statement.{statement}
-use Rattle.resample.specs.Attach.{attachBytes, alphaBytes, keptPart}
+use Rattle.attach.proofs.attach.write_attached.Statement.{statement}
+use Rattle.attach.specs.Attach.{attachBytes, alphaBytes, keptPart}
 use Rattle.image.specs.Format.{withAlpha}
-use Rattle.resample.proofs.attach.write_attached.Tie as tie
-use Rattle.resample.proofs.attach.write_attached.Reads as reads
-use Rattle.resample.proofs.attach.write_attached.Lts as lts
+use Rattle.attach.proofs.attach.write_attached.Tie as tie
+use Rattle.attach.proofs.attach.write_attached.Reads as reads
+use Rattle.attach.proofs.attach.write_attached.Lts as lts
 use Rattle.image.proofs.format.Form.with_alpha.Reads as with-alpha-reads
 use Rattle.planes.proofs.write_head.Reads as write-head-reads
-use Rattle.resample.proofs.attach.keep_part.Reads as keep-part-reads
-use Rattle.resample.proofs.attach.write_alpha.Reads as write-alpha-reads
+use Rattle.attach.proofs.attach.keep_part.Reads as keep-part-reads
+use Rattle.attach.proofs.attach.write_alpha.Reads as write-alpha-reads
 
 -- the head, the colour planes and the alpha plane in turn
 abbrev all : (c : tie.Start) → List ℕ

@@ -4,15 +4,15 @@ use borrow.Author.Needs.{needs}
 use Rattle.planes.specs.Bytes.{planeSize}
 use Rattle.image.specs.declared.format.Form.{Form}
 use Rattle.image.specs.declared.format.Part.the-variants.{Luma}
-use Rattle.resample.proofs.AttachLaws.{cover-as-is, length-cover, luma-fits, luma-sound}
-use Rattle.resample.proofs.attach.alpha_size.Statement.{statement}
-use Rattle.resample.proofs.attach.alpha_size.Tie as tie
-use Rattle.resample.proofs.attach.alpha_size.Reads as reads
-use Rattle.resample.proofs.attach.alpha_size.Lts as lts
+use Rattle.attach.proofs.AttachLaws.{cover-as-is, length-cover, luma-fits, luma-sound}
+use Rattle.attach.proofs.attach.alpha_size.Statement.{statement}
+use Rattle.attach.proofs.attach.alpha_size.Tie as tie
+use Rattle.attach.proofs.attach.alpha_size.Reads as reads
+use Rattle.attach.proofs.attach.alpha_size.Lts as lts
 use Rattle.planes.proofs.plane_size.Reads as plane-size-reads
-use Rattle.resample.proofs.attach.alpha_form.Reads as alpha-form-reads
-use Rattle.resample.proofs.attach.alpha_kept.Reads as alpha-kept-reads
-use Rattle.resample.proofs.attach.kept_size.Reads as kept-size-reads
+use Rattle.attach.proofs.attach.alpha_form.Reads as alpha-form-reads
+use Rattle.attach.proofs.attach.alpha_kept.Reads as alpha-kept-reads
+use Rattle.attach.proofs.attach.kept_size.Reads as kept-size-reads
 
 alpha-kept-requires : tie.Need-alpha-kept-requires
 alpha-kept-requires c κs = search needs

@@ -8,17 +8,17 @@ use Rattle.laws.specs.Puts.{puts}
 use Rattle.planes.specs.Bytes.{decode, planeBytes}
 use Rattle.image.specs.declared.format.Form.{Form}
 use Rattle.image.specs.declared.format.Part.the-variants.{Luma}
-use Rattle.resample.proofs.AttachLaws.{cover-as-is, cover-drawn, cover-fits, coverRule, luma-fits}
-use Rattle.resample.proofs.attach.write_alpha.Statement.{statement}
-use Rattle.resample.specs.Attach.{alphaBytes}
+use Rattle.attach.proofs.AttachLaws.{cover-as-is, cover-drawn, cover-fits, coverRule, luma-fits}
+use Rattle.attach.proofs.attach.write_alpha.Statement.{statement}
+use Rattle.attach.specs.Attach.{alphaBytes}
 use Rattle.sampling.specs.inner.Redraw.{redrawn}
-use Rattle.resample.proofs.attach.write_alpha.Tie as tie
-use Rattle.resample.proofs.attach.write_alpha.Reads as reads
-use Rattle.resample.proofs.attach.write_alpha.Lts as lts
-use Rattle.resample.proofs.attach.alpha_kept.Reads as alpha-kept-reads
-use Rattle.resample.proofs.attach.keep_plane.Reads as keep-plane-reads
-use Rattle.resample.proofs.attach.alpha_form.Reads as alpha-form-reads
-use Rattle.resample.proofs.draw.write_plane.Reads as write-plane-reads
+use Rattle.attach.proofs.attach.write_alpha.Tie as tie
+use Rattle.attach.proofs.attach.write_alpha.Reads as reads
+use Rattle.attach.proofs.attach.write_alpha.Lts as lts
+use Rattle.attach.proofs.attach.alpha_kept.Reads as alpha-kept-reads
+use Rattle.attach.proofs.attach.keep_plane.Reads as keep-plane-reads
+use Rattle.attach.proofs.attach.alpha_form.Reads as alpha-form-reads
+use Rattle.resample.proofs.write_plane.Reads as write-plane-reads
 
 same : (c : tie.After-alpha-form)
     → let start = c .before .before .before .before .before .before .before .before .before in
