@@ -35,7 +35,7 @@ use Rattle.sight.specs.Sight.{back, backFrom, exchange, finalHeight, finalWidth
 use Rattle.sight.specs.declared.Sight.{Sight}
 use Rattle.sight.specs.inner.Seen.{PlaceAgrees, Seen}
 use Rattle.stages.specs.Chain.{Drawn, firstDrawn, chainDrawn, drawnAfter, scaled}
-use Rattle.scene.specs.Scene.{roomFor}
+use Rattle.scene_room.specs.Scene.{roomFor}
 use Rattle.agreement.proofs.Halves.{pointOn}
 use Rattle.agreement.specs.Agreement.{Agreement, CarriedFrom, CarriedTo, Pictured, Room, Shown, canvasHeight, canvasWidth, inside, outside}
 use Rattle.point.specs.Point.{pointFrom}

@@ -12,7 +12,7 @@ use Rattle.props.proofs.ChainLaws.{Applied}
 use Rattle.props.specs.declared.entry.PropertyEntry.{PropertyEntry}
 use Rattle.motions.specs.Chain.{NotIscl}
 use Rattle.stages.specs.Chain.{Drawn}
-use Rattle.scene.specs.Scene.{roomFor}
+use Rattle.scene_room.specs.Scene.{roomFor}
 use Rattle.agreement.specs.Agreement.{Agreement, Room, Unscaled}
 use Rattle.point.specs.declared.Named.{Named}
 use Rattle.point.specs.declared.Point.{Point}

@@ -4,13 +4,13 @@ ghost use Rattle.laws.specs.Out.{andThen, done};
 ghost use Rattle.image.specs.Format.{formOf};
 ghost use Rattle.planes.specs.Bytes.{sizeOf};
 ghost use Rattle.fill.specs.declared.Colour.{Colour};
-ghost use Rattle.scene.specs.Room.{longestOf};
-ghost use Rattle.scene.specs.Scene.{gridDrawn, overlayDrawn};
+ghost use Rattle.scene_room.specs.Room.{longestOf};
+ghost use Rattle.scene_room.specs.Scene.{gridDrawn, overlayDrawn};
 ghost use Rattle.words.specs.Code.{codeOf};
 ghost use Rattle.words.specs.Spots.{flagOf};
 use image::Form;
 use image::FormRead;
-use scene::RoomRead;
+use scene_room::RoomRead;
 
 // The length of the tight record of a form. Refusals: 5 chroma above 3 or alpha above 1, 6 a depth outside 8 to 16, 3 a side 0, 4.
 #[no_mangle]
@@ -39,7 +39,7 @@ pub extern "C" fn compose_grid_scene_room(
 ) -> u64
     ensures { λ r. ⌜ r ≡ codeOf (longestOf (gridDrawn (now (body .entry)) (now (tray .entry)) (now (chain .entry)) (flagOf «essential_only»))) ⌝ }
 {
-    match scene::grid_room(body, tray, chain, essential_only != 0) {
+    match scene_room::grid_room(body, tray, chain, essential_only != 0) {
         RoomRead::Refused(e) => words::refusal_code(e),
         RoomRead::Room(n) => n as u64,
     }
@@ -56,7 +56,7 @@ pub extern "C" fn compose_overlay_scene_room(
 ) -> u64
     ensures { λ r. ⌜ ((colour : Colour) → r ≡ codeOf (longestOf (overlayDrawn (now (body .entry)) (now (tray .entry)) (now (chain .entry)) (flagOf «essential_only») (now (premultiplied .entry)) colour))) ⌝ }
 {
-    match scene::overlay_room(body, tray, chain, essential_only != 0, premultiplied) {
+    match scene_room::overlay_room(body, tray, chain, essential_only != 0, premultiplied) {
         RoomRead::Refused(e) => words::refusal_code(e),
         RoomRead::Room(n) => n as u64,
     }

@@ -3,8 +3,8 @@
 ghost use mathlib.Core.Path.{_≡_};
 ghost use lib.ListN.{length};
 ghost use Rattle.laws.specs.Out.{answerOf};
-ghost use Rattle.scene.specs.Scene.{gridScene, overlayScene, outputOf, spareOf};
-ghost use Rattle.scene.specs.Transforms.{transformsRun};
+ghost use Rattle.scene_room.specs.Scene.{gridScene, overlayScene, outputOf, spareOf};
+ghost use Rattle.scene_room.specs.Transforms.{transformsRun};
 ghost use Rattle.words.specs.Code.{answerCode};
 ghost use Rattle.words.specs.Fill.{colourOf};
 ghost use Rattle.words.specs.Spots.{flagOf};
@@ -70,5 +70,5 @@ pub extern "C" fn compose_transforms(
         × (now (output .exit) ≡ outputOf (transformsRun (now («record» .entry)) (now (chain .entry)) (flagOf «essential_only») (length (now (output .entry))) (length (now (spare .entry)))) (now (output .entry)))
         × (now (spare .exit) ≡ spareOf (transformsRun (now («record» .entry)) (now (chain .entry)) (flagOf «essential_only») (length (now (output .entry))) (length (now (spare .entry)))) (now (spare .entry))) ⌝ }
 {
-    words::answer_code(scene::apply_transforms(record, chain, essential_only != 0, output, spare))
+    words::answer_code(transforms::apply_transforms(record, chain, essential_only != 0, output, spare))
 }

@@ -38,7 +38,7 @@ use Rattle.inputs.specs.Layers.{oddAcross, oddDown, oddOffset, otherChroma, ove
 use Rattle.inputs.specs.Inputs.{alphaAbove, composedForm, firstForm, inputsAt, otherDepth}
 use Rattle.overlay.specs.Run.{composed, fillFor, fillPart}
 use Rattle.stages.specs.Chain.{firstDrawn, chainDrawn, drawnAfter}
-use Rattle.scene.specs.Scene.{gridDrawn, gridScene, overlayDrawn, overlayScene, roomFor}
+use Rattle.scene_room.specs.Scene.{gridDrawn, gridScene, overlayDrawn, overlayScene, roomFor}
 use Rattle.point.specs.Point.{gridLook, gridNames, gridPoint, lookOn, pointFrom}
 use Rattle.cases.specs.Table.{AllHold, areaRow, body, clapEdge, depth8, gives, irot1, isclWidth, joined, mono, noEntry, overBlack, spotIn, spotOf, table, tiles}
 

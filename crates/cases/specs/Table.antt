@@ -9,7 +9,7 @@ use Rattle.fill.specs.declared.Colour.{Colour}
 use Rattle.sizes.specs.Aperture.{resolveOf}
 use Rattle.sizes.specs.Scale.{scaleOf}
 use Rattle.resample.specs.Run.{depthRun, isclRun}
-use Rattle.scene.specs.Scene.{gridScene, overlayScene}
+use Rattle.scene_room.specs.Scene.{gridScene, overlayScene}
 use Rattle.point.specs.Point.{gridPoint}
 use Rattle.point.specs.declared.Named.{Named}
 

@@ -33,10 +33,10 @@ use Rattle.overlay.proofs.RunLaws.{Took, took}
 use Rattle.inputs.specs.Inputs.{Inputs, alphaAbove, firstFormat, inputsAt}
 use Rattle.overlay.specs.Run.{composed}
 use Rattle.stages.proofs.AfterLaws.{in-range-back}
-use Rattle.scene.proofs.ComposedLaws.{grid-in-range, overlay-in-range}
+use Rattle.scene_room.proofs.ComposedLaws.{grid-in-range, overlay-in-range}
 use Rattle.plans.proofs.ChainPlanLaws.{chain-in-range}
 use Rattle.stages.specs.Chain.{Drawn, chainDrawn}
-use Rattle.scene.specs.Scene.{gridDrawn, gridScene, overlayDrawn, overlayScene}
+use Rattle.scene_room.specs.Scene.{gridDrawn, gridScene, overlayDrawn, overlayScene}
 use Rattle.agreement.proofs.AlikeLaws.{grid-blind, overlay-blind}
 use Rattle.agreement.proofs.Chained.{ReadsBack, chain-agrees, chain-names, chain-once, chain-sighted, chain-stays, chain-through}
 use Rattle.point.proofs.GridShown.{grid-even, grid-form, grid-once, grid-reads, grid-sides, grid-there, tiles-records}

@@ -57,7 +57,7 @@ use Rattle.session.specs.Session.{CanvasAfter, blankAt, reservedForm}
 use Rattle.session.specs.State.{stateOk}
 use Rattle.session.specs.declared.state.Canvas.{Canvas}
 use Rattle.stages.specs.Chain.{Drawn}
-use Rattle.scene.specs.Scene.{gridDrawn, gridScene, overlayDrawn, overlayScene}
+use Rattle.scene_room.specs.Scene.{gridDrawn, gridScene, overlayDrawn, overlayScene}
 use Rattle.agreement.specs.Agreement.{Agreement, CarriedFrom, CarriedTo, NoAlpha, NoScaling, Room, canvasHeight, canvasWidth, chainCarries, chainSight, noChain}
 use Rattle.point.specs.Read.{InTray, gridReads, overlayReads}
 use Rattle.agreement.specs.Alike.{SameTray}

@@ -1,16 +1,9 @@
 // The scene calls (document 01, "The scene call"): a grid or an overlay composed, then a chain of transforms, from bytes to a record
 // in the lent output. All refusals are found before anything is written.
-mod room;
-mod transforms;
-
 ghost use mathlib.Core.Path.{_≡_};
 ghost use lib.ListN.{length};
 ghost use Rattle.laws.specs.Out.{answerOf};
-ghost use Rattle.scene.specs.Scene.{gridScene, overlayScene, outputOf, spareOf};
-pub use crate::room::RoomRead;
-pub use crate::room::grid_room;
-pub use crate::room::overlay_room;
-pub use crate::transforms::apply_transforms;
+ghost use Rattle.scene_room.specs.Scene.{gridScene, overlayScene, outputOf, spareOf};
 use chains::finish_scene;
 use fill::Colour;
 use inputs::PlanRead;

@@ -9,7 +9,7 @@ use Rattle.laws.specs.Puts.{Bytes}
 use Rattle.props.specs.Chain.{chainOut}
 use Rattle.grid.specs.Run.{gridOn}
 use Rattle.tiles.specs.Tiles.{tilesOut}
-use Rattle.scene.proofs.SceneLaws.{GridKnown, first-output, first-spare, grid-chain, grid-form, grid-malformed, grid-read, grid-size, grid-tiles, held-refused, ready-output, ready-spare, scene-output, scene-refused, scene-spare}
+use Rattle.scene_room.proofs.SceneLaws.{GridKnown, first-output, first-spare, grid-chain, grid-form, grid-malformed, grid-read, grid-size, grid-tiles, held-refused, ready-output, ready-spare, scene-output, scene-refused, scene-spare}
 use Rattle.plans.specs.inner.ChainPlan.{currentOf, currentOut}
 use Rattle.scene.proofs.grid_scene.Statement.{statement}
 use Rattle.scene.proofs.grid_scene.Tie as tie

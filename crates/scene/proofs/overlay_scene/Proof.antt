@@ -9,7 +9,7 @@ use Rattle.laws.specs.Puts.{Bytes}
 use Rattle.props.specs.Chain.{chainOut}
 use Rattle.overlay.proofs.RunLaws.{above-is, planPic}
 use Rattle.inputs.specs.inner.Summary.{planOut}
-use Rattle.scene.proofs.SceneLaws.{OverlayKnown, first-output, first-spare, held-refused, overlay-chain, overlay-inputs, overlay-malformed, overlay-read, plan-form, ready-output, ready-spare, scene-output, scene-refused, scene-spare}
+use Rattle.scene_room.proofs.SceneLaws.{OverlayKnown, first-output, first-spare, held-refused, overlay-chain, overlay-inputs, overlay-malformed, overlay-read, plan-form, ready-output, ready-spare, scene-output, scene-refused, scene-spare}
 use Rattle.plans.specs.inner.ChainPlan.{currentOf, currentOut}
 use Rattle.scene.proofs.overlay_scene.Statement.{statement}
 use Rattle.scene.proofs.overlay_scene.Tie as tie

@@ -6,7 +6,7 @@ use Rattle.capi.proofs.scenes.compose_transforms.Statement.{statement}
 use Rattle.capi.proofs.scenes.compose_transforms.Tie as tie
 use Rattle.capi.proofs.scenes.compose_transforms.Reads as reads
 use Rattle.capi.proofs.scenes.compose_transforms.Lts as lts
-use Rattle.scene.proofs.apply_transforms.Reads as apply-transforms-reads
+use Rattle.transforms.proofs.apply_transforms.Reads as apply-transforms-reads
 use Rattle.words.proofs.answer_code.Reads as answer-code-reads
 
 apply-transforms-requires : tie.Need-apply-transforms-requires

@@ -2,8 +2,8 @@
 ghost use mathlib.Core.Path.{_≡_};
 ghost use lib.ListN.{length};
 ghost use Rattle.laws.specs.Out.{answerOf};
-ghost use Rattle.scene.specs.Scene.{outputOf, spareOf};
-ghost use Rattle.scene.specs.Transforms.{transformsRun};
+ghost use Rattle.scene_room.specs.Scene.{outputOf, spareOf};
+ghost use Rattle.scene_room.specs.Transforms.{transformsRun};
 use chains::finish_scene;
 use laws::Answer;
 use plans::CurrentRead;

@@ -1,11 +1,11 @@
 use mathlib.Core.Path.{_∙_, ap, sym}
 use borrow.Author.Needs.{needs}
 use Rattle.laws.proofs.Out.{then-done, then-refused}
-use Rattle.scene.proofs.room.chain_room.Statement.{statement}
+use Rattle.scene_room.proofs.room.chain_room.Statement.{statement}
 use Rattle.plans.specs.inner.ChainPlan.{chainPlanOut}
-use Rattle.scene.proofs.room.chain_room.Tie as tie
-use Rattle.scene.proofs.room.chain_room.Reads as reads
-use Rattle.scene.proofs.room.chain_room.Lts as lts
+use Rattle.scene_room.proofs.room.chain_room.Tie as tie
+use Rattle.scene_room.proofs.room.chain_room.Reads as reads
+use Rattle.scene_room.proofs.room.chain_room.Lts as lts
 use Rattle.plans.proofs.plan_chain.Reads as plan-chain-reads
 
 plan-chain-requires : tie.Need-plan-chain-requires

@@ -7,7 +7,7 @@ use Rattle.records.specs.Record.{recordOf}
 use Rattle.planes.specs.Bytes.{decode}
 use Rattle.props.specs.Chain.{chainAt}
 use Rattle.stages.specs.Chain.{Drawn, chainDrawn}
-use Rattle.scene.specs.Scene.{roomFor}
+use Rattle.scene_room.specs.Scene.{roomFor}
 
 -- the record's refusals, the chain's form, then the entries in turn
 unfoldable pub recordDrawn : List ℕ → List ℕ → Bool → Out Drawn

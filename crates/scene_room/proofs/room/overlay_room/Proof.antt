@@ -8,18 +8,18 @@ use Rattle.fill.specs.declared.Colour.{Colour}
 use Rattle.props.specs.Chain.{chainOut}
 use Rattle.inputs.specs.inner.Summary.{planOut}
 use Rattle.overlay.proofs.RunLaws.{above-is}
-use Rattle.scene.proofs.SceneLaws.{OverlayKnown, overlay-drawn-chain, overlay-drawn-inputs, overlay-drawn-malformed, overlay-read, plan-form, room-on, room-refused-as}
-use Rattle.scene.proofs.room.overlay_room.Statement.{statement}
-use Rattle.scene.specs.Room.{longestOf}
-use Rattle.scene.proofs.room.overlay_room.Tie as tie
-use Rattle.scene.proofs.room.overlay_room.Reads as reads
-use Rattle.scene.proofs.room.overlay_room.Lts as lts
+use Rattle.scene_room.proofs.SceneLaws.{OverlayKnown, overlay-drawn-chain, overlay-drawn-inputs, overlay-drawn-malformed, overlay-read, plan-form, room-on, room-refused-as}
+use Rattle.scene_room.proofs.room.overlay_room.Statement.{statement}
+use Rattle.scene_room.specs.Room.{longestOf}
+use Rattle.scene_room.proofs.room.overlay_room.Tie as tie
+use Rattle.scene_room.proofs.room.overlay_room.Reads as reads
+use Rattle.scene_room.proofs.room.overlay_room.Lts as lts
 use Rattle.image.proofs.format.PixelFormat.top.Reads as top-reads
 use Rattle.inputs.proofs.alpha_above.Reads as alpha-above-reads
 use Rattle.inputs.proofs.read_inputs.Reads as read-inputs-reads
 use Rattle.numbers.proofs.read_number.Reads as read-number-reads
 use Rattle.props.proofs.check_chain.Reads as check-chain-reads
-use Rattle.scene.proofs.room.chain_room.Reads as chain-room-reads
+use Rattle.scene_room.proofs.room.chain_room.Reads as chain-room-reads
 
 ready : (c : tie.After-plan) (colour : Colour) →
     let start = c .before .before .before .before .before .before .before .before .before .before .before .before .before .before .before in

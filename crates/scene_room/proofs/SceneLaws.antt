@@ -55,11 +55,11 @@ use Rattle.chains.proofs.ApplyLaws.{Carried, chain-carried}
 use Rattle.plans.proofs.ChainPlanLaws.{Leads, plan-drawn, plan-lands}
 use Rattle.stages.proofs.StageLaws.{plain-bytes, stage-at}
 use Rattle.chains.proofs.GoingLaws.{start-lands}
-use Rattle.scene.proofs.ComposedLaws.{grid-in-range, overlay-in-range, record-in-range}
+use Rattle.scene_room.proofs.ComposedLaws.{grid-in-range, overlay-in-range, record-in-range}
 use Rattle.stages.specs.Chain.{Drawn, chainDrawn, firstDrawn}
-use Rattle.scene.specs.Room.{longestOf}
-use Rattle.scene.specs.Scene.{gridDrawn, gridScene, outputOf, overlayDrawn, overlayScene, roomFor, spareOf}
-use Rattle.scene.specs.Transforms.{recordDrawn, transformsRun}
+use Rattle.scene_room.specs.Room.{longestOf}
+use Rattle.scene_room.specs.Scene.{gridDrawn, gridScene, outputOf, overlayDrawn, overlayScene, roomFor, spareOf}
+use Rattle.scene_room.specs.Transforms.{recordDrawn, transformsRun}
 use Rattle.stages.specs.declared.stage.Current.{Current}
 use Rattle.plans.specs.declared.chain_plan.ChainPlan.{ChainPlan}
 use Rattle.chains.specs.inner.Apply.{Finished, Ready, bytesIn, chainBytes, lying}

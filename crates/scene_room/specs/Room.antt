@@ -2,7 +2,7 @@
 use Prim.Native.Nat.{ℕ}
 use Rattle.laws.specs.Out.{Out, andThen, done, refused}
 use Rattle.stages.specs.Chain.{Drawn}
-use Rattle.scene.specs.declared.room.RoomRead.{RoomRead}
+use Rattle.scene_room.specs.declared.room.RoomRead.{RoomRead}
 
 -- of a scene that was drawn, or why there is none
 unfoldable pub longestOf : Out Drawn → Out ℕ

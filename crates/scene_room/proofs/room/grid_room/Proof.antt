@@ -6,17 +6,17 @@ use Rattle.laws.proofs.Out.{then-done}
 use Rattle.laws.specs.Puts.{Bytes}
 use Rattle.props.specs.Chain.{chainOut}
 use Rattle.tiles.specs.Tiles.{tilesOut}
-use Rattle.scene.proofs.SceneLaws.{GridKnown, grid-drawn-chain, grid-drawn-malformed, grid-drawn-tiles, grid-form, grid-read, room-on, room-refused-as}
-use Rattle.scene.proofs.room.grid_room.Statement.{statement}
-use Rattle.scene.specs.Room.{longestOf}
-use Rattle.scene.proofs.room.grid_room.Tie as tie
-use Rattle.scene.proofs.room.grid_room.Reads as reads
-use Rattle.scene.proofs.room.grid_room.Lts as lts
+use Rattle.scene_room.proofs.SceneLaws.{GridKnown, grid-drawn-chain, grid-drawn-malformed, grid-drawn-tiles, grid-form, grid-read, room-on, room-refused-as}
+use Rattle.scene_room.proofs.room.grid_room.Statement.{statement}
+use Rattle.scene_room.specs.Room.{longestOf}
+use Rattle.scene_room.proofs.room.grid_room.Tie as tie
+use Rattle.scene_room.proofs.room.grid_room.Reads as reads
+use Rattle.scene_room.proofs.room.grid_room.Lts as lts
 use Rattle.tiles.proofs.canvas_form.Reads as canvas-form-reads
 use Rattle.tiles.proofs.read_tiles.Reads as read-tiles-reads
 use Rattle.numbers.proofs.read_number.Reads as read-number-reads
 use Rattle.props.proofs.check_chain.Reads as check-chain-reads
-use Rattle.scene.proofs.room.chain_room.Reads as chain-room-reads
+use Rattle.scene_room.proofs.room.chain_room.Reads as chain-room-reads
 
 ready : (c : tie.After-t) →
     let start = c .before .before .before .before .before .before .before .before .before .before .before .before .before in

@@ -1,0 +1,4 @@
+// A chain of transforms on one record.
+mod transforms;
+
+pub use crate::transforms::apply_transforms;
