@@ -27,10 +27,10 @@ use Rattle.motions.specs.Chain.{NotIscl, chainPic, picAfter}
 use Rattle.motions.specs.Place.{Place, sideways, swaps, unturn}
 use Rattle.motions.specs.Turn.{quarterOf}
 use Rattle.sight.proofs.Agreement.{chain-sight-plain, seen-place}
-use Rattle.sight.proofs.CarryLaws.{all-applied, back-carried, sight-carries}
+use Rattle.agreement.proofs.CarryLaws.{all-applied, back-carried, sight-carries}
 use Rattle.sight.proofs.Steps.{place-in, sight-inside}
 use Rattle.sight.proofs.Turns.{back-in, back-once, place-path}
-use Rattle.sight.specs.Carry.{carryOf}
+use Rattle.agreement.specs.Carry.{carryOf}
 use Rattle.sight.specs.Sight.{back, backFrom, exchange, finalHeight, finalWidth, highOf, sourcePlace, sightOf, whole, wideOf}
 use Rattle.sight.specs.declared.Sight.{Sight}
 use Rattle.sight.specs.inner.Seen.{PlaceAgrees, Seen}

@@ -1,3 +1,4 @@
+pub mod CarryLaws
 pub mod Halves
 pub mod AlikeLaws
 pub mod Chained

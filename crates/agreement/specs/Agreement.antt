@@ -18,7 +18,7 @@ use Rattle.props.specs.Chain.{applies, chainAt}
 use Rattle.props.specs.declared.entry.PropertyEntry.{PropertyEntry}
 use Rattle.motions.specs.Chain.{NotIscl}
 use Rattle.motions.specs.Place.{Place}
-use Rattle.sight.specs.Carry.{Follows, Tracked, carryOf, kept}
+use Rattle.agreement.specs.Carry.{Follows, Tracked, carryOf, kept}
 use Rattle.sight.specs.Sight.{finalHeight, finalWidth, sightOf}
 use Rattle.sight.specs.declared.Sight.{Sight}
 use Rattle.stages.specs.Chain.{Drawn}

@@ -70,5 +70,11 @@ pub extern "C" fn compose_transforms(
         × (now (output .exit) ≡ outputOf (transformsRun (now («record» .entry)) (now (chain .entry)) (flagOf «essential_only») (length (now (output .entry))) (length (now (spare .entry)))) (now (output .entry)))
         × (now (spare .exit) ≡ spareOf (transformsRun (now («record» .entry)) (now (chain .entry)) (flagOf «essential_only») (length (now (output .entry))) (length (now (spare .entry)))) (now (spare .entry))) ⌝ }
 {
-    words::answer_code(transforms::apply_transforms(record, chain, essential_only != 0, output, spare))
+    words::answer_code(transforms::apply_transforms(
+        record,
+        chain,
+        essential_only != 0,
+        output,
+        spare,
+    ))
 }

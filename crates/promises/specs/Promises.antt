@@ -37,7 +37,7 @@ use Rattle.sizes.specs.declared.clap.Clap.{Clap}
 use Rattle.sizes.specs.declared.clap.CropRect.{CropRect}
 use Rattle.props.specs.declared.entry.PropertyEntry.{PropertyEntry}
 use Rattle.motions.specs.Place.{Place}
-use Rattle.sight.specs.Carry.{Tracked}
+use Rattle.agreement.specs.Carry.{Tracked}
 use Rattle.sight.specs.declared.Sight.{Sight}
 use Rattle.steps_text.specs.Text.{textOf}
 use Rattle.sampling.specs.Area.{area, footOf, weighed}

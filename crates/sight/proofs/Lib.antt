@@ -3,4 +3,3 @@ pub mod Turns
 pub mod Steps
 pub mod Stops
 pub mod Agreement
-pub mod CarryLaws

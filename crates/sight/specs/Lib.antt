@@ -1,3 +1,2 @@
 pub mod Sight
-pub mod Carry
 pub mod inner

@@ -20,11 +20,11 @@ use Rattle.props.specs.declared.entry.PropertyEntry.{PropertyEntry}
 use Rattle.motions.specs.Place.{Place, sideways, swaps, unturn}
 use Rattle.motions.specs.inner.Shows.{unmirror}
 use Rattle.motions.specs.Turn.{Quarter, q0, q1, q2, q3, quarterOf}
 use Rattle.sight.proofs.Steps.{sight-inside, sight-turns}
 use Rattle.sight.proofs.Turns.{back-in, back-once, crop-back, crop-height, crop-inside, crop-width, exchange-in, exchange-row, mirror-back, mirror-height, mirror-width, place-path, turn-back, turn-height, turn-width}
-use Rattle.sight.specs.Carry.{Carried, Fate, Follows, Tracked, carryAfter, carryOf, cropPlace, cropped, inRect, kept, mirrorPlace, onward, turnPlace, forward}
+use Rattle.agreement.specs.Carry.{Carried, Fate, Follows, Tracked, carryAfter, carryOf, cropPlace, cropped, inRect, kept, mirrorPlace, onward, turnPlace, forward}
 use Rattle.sight.specs.Sight.{back, backFrom, exchange, finalHeight, finalWidth, highOf, sightAfter, sightOf, thenCrop, thenMirror, thenTurn, whole, wideOf}
 use Rattle.sight.specs.declared.Sight.{Sight}
 
 -- ---- a place of a rectangle
 
