@@ -19,7 +19,7 @@ extern "C" {
 
 /* The version of these calls: major * 10000 + minor * 100 + patch, as the crate's in rust/Cargo.toml is. It grows when a
  * call is added or changed. */
-#define COMPOSE_API_VERSION 200
+#define COMPOSE_API_VERSION 300
 
 /* Every call answers a number of 64 bits. Below 2^63 it is a length, a count, or 0 where there is none; from there on
  * it is 2^63 + the number of a refusal, and then nothing was written. */
@@ -74,6 +74,11 @@ uint64_t compose_overlay_descriptor(const uint8_t *body, size_t body_len, uint32
  * 4 words. */
 uint64_t compose_overlay_offset(const uint8_t *body, size_t body_len, uint32_t count, uint32_t index, uint64_t *answer,
                                 size_t answer_len);
+
+/* Where all inputs of an overlay go, in list order, in 4 words each, as compose_overlay_offset has them. Answers 0.
+ * Refusals: the body's; 17 an answer below 4 * count words. */
+uint64_t compose_overlay_offsets(const uint8_t *body, size_t body_len, uint32_t count, uint64_t *answer,
+                                 size_t answer_len);
 
 /* How many entries a chain has. Refusals: the chain's. */
 uint64_t compose_chain(const uint8_t *chain, size_t chain_len);

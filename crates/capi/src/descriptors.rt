@@ -3,7 +3,7 @@ ghost use mathlib.Core.Path.{_≡_};
 ghost use lib.ListN.{length};
 ghost use Rattle.laws.specs.Out.{written};
 ghost use Rattle.words.specs.Code.{codeOf, noneOf};
-ghost use Rattle.words.specs.Descriptors.{gridWords, overlayWords, offsetWords};
+ghost use Rattle.words.specs.Descriptors.{gridWords, overlayWords, offsetWords, offsetsWords};
 use derived::GridDescriptor;
 use derived::GridRead;
 use derived::OverlayDescriptor;
@@ -77,6 +77,24 @@ pub extern "C" fn compose_overlay_offset(
             let v = place.vertical;
             let a = words::put_words(answer, 0, h.ahead as u64, h.behind as u64);
             words::put_words(answer, a, v.ahead as u64, v.behind as u64);
+            0
+        }
+    }
+}
+
+// Where all inputs of an overlay go, in 4 words an input, as above. Refusals: the body's; 17 an answer below 4 words an input.
+#[no_mangle]
+pub extern "C" fn compose_overlay_offsets(body: &[u8], count: u32, answer: &mut [u64]) -> u64
+    ensures { λ r. ⌜ (r ≡ codeOf (noneOf (offsetsWords (now (body .entry)) count (length (now (answer .entry))))))
+        × (now (answer .exit) ≡ written (offsetsWords (now (body .entry)) count (length (now (answer .entry)))) (now (answer .entry))) ⌝ }
+{
+    match OverlayDescriptor::parse(body, count) {
+        OverlayRead::Refused(e) => words::refusal_code(e),
+        OverlayRead::Read(d) => {
+            if answer.len() < count as usize * 4 {
+                return words::refusal_code(Refusal::ROOM);
+            }
+            words::put_offsets(answer, body, d);
             0
         }
     }

@@ -3,6 +3,7 @@ use mathlib.Core.List.{List, [], _∷_}
 use Prim.Native.Nat.{ℕ}
 use lib.Dec.{leb}
 use Rattle.laws.specs.Out.{Out, andThen, fitted, refuse}
+use Rattle.laws.specs.Span.{span}
 use Rattle.derived.specs.Grid.{gridOf}
 use Rattle.derived.specs.Overlay.{overlayOf, placementAt}
 use Rattle.derived.specs.declared.grid.GridDescriptor.{GridDescriptor}
@@ -30,3 +31,10 @@ offsetFields p = p .horizontal .ahead ∷ p .horizontal .behind ∷ p .vertical 
 unfoldable pub offsetWords : List ℕ → ℕ → ℕ → ℕ → Out (List ℕ)
 offsetWords s count i room =
     andThen (overlayOf s count) (λ d. refuse (leb count i) 11 (fitted room (offsetFields (placementAt s d i))))
+
+-- all inputs in list order
+unfoldable pub offsetsFields : List ℕ → OverlayDescriptor → ℕ → List ℕ
+offsetsFields s d count = span (λ i. offsetFields (placementAt s d i)) 0 count
+
+unfoldable pub offsetsWords : List ℕ → ℕ → ℕ → Out (List ℕ)
+offsetsWords s count room = andThen (overlayOf s count) (λ d. fitted room (offsetsFields s d count))

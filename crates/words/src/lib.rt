@@ -3,6 +3,7 @@ mod answers;
 mod canvas;
 mod code;
 mod colour;
+mod offsets;
 
 pub use crate::answers::bit_of;
 pub use crate::answers::put_fill;
@@ -22,3 +23,4 @@ pub use crate::canvas::put_marks;
 pub use crate::code::answer_code;
 pub use crate::code::refusal_code;
 pub use crate::colour::colour_of;
+pub use crate::offsets::put_offsets;
