@@ -25,10 +25,31 @@ pub const MAX_DERIVATION_INPUTS: usize = 1 << 16;
 /// The most pixels of a canvas.
 pub const MAX_CANVAS_PIXELS: u64 = 1 << 30;
 
-/// An offset of its two parts, of which one is 0.
+/// An offset of its two parts, of which one is 0 and neither is above 2^31, as the call's contract has
+/// it.
 fn signed(ahead: u64, behind: u64) -> i32 {
-    let (ahead, behind): (u32, u32) = (narrow(ahead), narrow(behind));
-    ahead.wrapping_sub(behind).cast_signed()
+    ahead.wrapping_sub(behind) as i32
+}
+
+/// An input's offsets of their four words.
+fn pair([right, left, below, above]: &[u64; 4]) -> (i32, i32) {
+    (signed(*right, *left), signed(*below, *above))
+}
+
+/// The offsets of a body that was taken for so many inputs. The words of a few are lent from the stack.
+fn offsets(body: &[u8], count: u32) -> Result<Vec<(i32, i32)>> {
+    let length = 4 * count as usize;
+    let (mut few, mut many) = ([0; 64], Vec::new());
+    let words = match few.get_mut(..length) {
+        Some(words) => words,
+        None => {
+            many.resize(length, 0);
+            &mut many[..]
+        }
+    };
+    sys::compose_overlay_offsets(body, count, words)?;
+    let (inputs, _) = words.as_chunks();
+    Ok(inputs.iter().map(pair).collect())
 }
 
 /// A number of inputs; more than a call can count are too many as well.
@@ -151,17 +172,11 @@ impl OverlayDescriptor {
         let mut words = [0; 6];
         sys::compose_overlay_descriptor(body, count, &mut words)?;
         let [fill @ .., width, height] = words;
-        let offset = |index| {
-            let mut words = [0; 4];
-            sys::compose_overlay_offset(body, count, index, &mut words)?;
-            let [right, left, below, above] = words;
-            Ok((signed(right, left), signed(below, above)))
-        };
         Ok(Self {
             canvas_fill: fill.map(narrow),
             output_width: narrow(width),
             output_height: narrow(height),
-            offsets: (0..count).map(offset).collect::<Result<_>>()?,
+            offsets: offsets(body, count)?,
         })
     }
 

@@ -148,6 +148,10 @@ library! {
     /// edge, then how far below and how far above it; of each pair one is 0.
     fn compose_overlay_offset(body: &[u8], count: u32, index: u32, answer: &mut [u64]);
 
+    /// Where all inputs of an overlay go, in list order, in 4 words each, as
+    /// [`compose_overlay_offset`] has them.
+    fn compose_overlay_offsets(body: &[u8], count: u32, answer: &mut [u64]);
+
     /// How many entries a chain has.
     fn compose_chain(chain: &[u8]);
 

@@ -98,8 +98,12 @@ fn add_reading(calls: &mut Calls) {
     calls.add("compose_overlay_descriptor", move || {
         sys::compose_overlay_descriptor(&body, 3, &mut [0; 6])
     });
+    let body = overlay.clone();
     calls.add("compose_overlay_offset", move || {
-        sys::compose_overlay_offset(&overlay, 3, 2, &mut [0; 4])
+        sys::compose_overlay_offset(&body, 3, 2, &mut [0; 4])
+    });
+    calls.add("compose_overlay_offsets", move || {
+        sys::compose_overlay_offsets(&overlay, 3, &mut [0; 12])
     });
     let (entries, input) = (properties(true), steps::input(200, 160, &properties(true)));
     calls.add("compose_chain", move || sys::compose_chain(&entries));
