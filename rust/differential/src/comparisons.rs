@@ -361,36 +361,45 @@ fn split(offset: i32) -> [u64; 2] {
     if offset < 0 { [0, far] } else { [far, 0] }
 }
 
-/// The descriptor, then each input's offset, then one index past them and the last there is.
+/// Where an input goes, in four words.
+fn placed((across, down): &(i32, i32)) -> [u64; 4] {
+    let ([right, left], [below, above]) = (split(*across), split(*down));
+    [right, left, below, above]
+}
+
+/// The descriptor, then all offsets, then each input's, then one index past them and the last there
+/// is.
 fn overlay_descriptor(sides: &Sides, input: &Input) -> Verdict {
     let body = input.bytes("body");
     let inputs = input.numbers("inputs")[0] as u32;
     let wants = sides.wants(|build| expected::settle(build.parse_overlay(body, inputs as usize)));
     agree(wants, |want| {
-        let read = want.as_ref();
+        let read = want.as_ref().map_err(|number| *number);
         let words = read.map(|overlay| {
             let [red, green, blue, alpha] = overlay.fill.map(u64::from);
             let [width, height] = [overlay.width, overlay.height].map(u64::from);
             [red, green, blue, alpha, width, height]
         });
-        let words = words.map_err(|number| *number);
         let call = |lent: &mut [u64]| sides.ours.overlay_descriptor(body, inputs, lent);
+        let all = || {
+            let words = read.map(|overlay| overlay.offsets.iter().map(placed).collect::<Vec<_>>());
+            let words = words.map(|inputs| inputs.concat());
+            let call = |lent: &mut [u64]| sides.ours.overlay_offsets(body, inputs, lent);
+            ours::fills(&words, call).map(|shows| format!("all offsets: {shows}"))
+        };
         let offset = |index: u32| {
-            let words = read.map_err(|number| *number).and_then(|overlay| {
-                let (across, down) = overlay
-                    .offsets
-                    .get(index as usize)
-                    .ok_or(model::refusal::COUNT)?;
-                let ([right, left], [below, above]) = (split(*across), split(*down));
-                Ok([right, left, below, above])
+            let words = read.and_then(|overlay| {
+                let offset = overlay.offsets.get(index as usize);
+                offset.map(placed).ok_or(model::refusal::COUNT)
             });
             let call = |lent: &mut [u64]| sides.ours.overlay_offset(body, inputs, index, lent);
             ours::fills(&words, call).map(|shows| format!("offset {index}: {shows}"))
         };
-        let placed = read.map_or(0, |overlay| overlay.offsets.len() as u32);
+        let count = read.map_or(0, |overlay| overlay.offsets.len() as u32);
         model_answers(want, &parse_overlay(body, inputs as usize))
             .or_else(|| ours::fills(&words, call))
-            .or_else(|| (0..placed).chain([inputs, u32::MAX]).find_map(offset))
+            .or_else(all)
+            .or_else(|| (0..count).chain([inputs, u32::MAX]).find_map(offset))
     })
 }
 

@@ -49,6 +49,16 @@ pub trait Composer: Sync {
         None
     }
 
+    /// The same of all inputs, one after the other.
+    fn overlay_offsets(
+        &self,
+        _body: &[u8],
+        _count: u32,
+        _words: &mut [u64],
+    ) -> Option<Answer<u64>> {
+        None
+    }
+
     /// The count of a chain.
     fn chain(&self, _chain: &[u8]) -> Option<Answer<u32>> {
         None
@@ -219,6 +229,10 @@ impl Composer for Linked {
         words: &mut [u64],
     ) -> Option<Answer<u64>> {
         answer(sys::compose_overlay_offset(body, count, index, words))
+    }
+
+    fn overlay_offsets(&self, body: &[u8], count: u32, words: &mut [u64]) -> Option<Answer<u64>> {
+        answer(sys::compose_overlay_offsets(body, count, words))
     }
 
     fn chain(&self, chain: &[u8]) -> Option<Answer<u32>> {
@@ -509,7 +523,7 @@ fn fills_start<T: PartialEq + Clone + From<u8>, A: PartialEq + Debug + Clone>(
     call: impl Fn(&mut [T]) -> Option<Answer<A>>,
 ) -> Option<String> {
     let needed = want.as_ref().map_or(1, |(_, written)| written.len());
-    let lengths = [needed + 3, needed, needed - 1, 0];
+    let lengths = [needed + 3, needed, needed.saturating_sub(1), 0];
     lengths.into_iter().find_map(|length| {
         let want = want.clone().and_then(|(answer, mut written)| {
             if length < needed {
@@ -532,11 +546,11 @@ pub fn writes(
 }
 
 /// How a call departs from `want`, the words that it puts at the start. It answers 0.
-pub fn fills<T: PartialEq + Clone + From<u8>, const N: usize>(
-    want: &Answer<[T; N]>,
+pub fn fills<T: PartialEq + Clone + From<u8>>(
+    want: &Answer<impl AsRef<[T]>>,
     call: impl Fn(&mut [T]) -> Option<Answer<u64>>,
 ) -> Option<String> {
-    let want = want.as_ref().map(|words| (0, words.to_vec()));
+    let want = want.as_ref().map(|words| (0, words.as_ref().to_vec()));
     fills_start(want.map_err(|number| *number), call)
 }
 

@@ -258,6 +258,33 @@ impl Composer for Stacker {
     }
 }
 
+/// Wrong in all offsets at once: the last input's are exchanged, width with height.
+struct Exchanger;
+
+impl Composer for Exchanger {
+    fn overlay_offsets(&self, body: &[u8], count: u32, words: &mut [u64]) -> Option<Answer<u64>> {
+        let answer = Linked.overlay_offsets(body, count, words);
+        if answer == Some(Ok(0)) && count > 0 {
+            let last = 4 * (count as usize - 1);
+            words[last..][..4].rotate_left(2);
+        }
+        answer
+    }
+}
+
+/// Wrong in all offsets at once: a word less is taken as well.
+struct Cutter;
+
+impl Composer for Cutter {
+    fn overlay_offsets(&self, body: &[u8], count: u32, words: &mut [u64]) -> Option<Answer<u64>> {
+        let mut room = words.to_vec();
+        room.push(0);
+        let answer = Linked.overlay_offsets(body, count, &mut room);
+        words.copy_from_slice(&room[..words.len()]);
+        answer
+    }
+}
+
 /// Wrong in 11 alone: an index outside is the last one's.
 struct Clamper;
 
@@ -311,7 +338,7 @@ impl Composer for Sizer {
 #[test]
 fn a_wrong_composer_is_found() {
     let Some(sides) = Sides::open() else { return };
-    let wrong: [(&str, &'static dyn Composer, &[&str]); 16] = [
+    let wrong: [(&str, &'static dyn Composer, &[&str]); 18] = [
         ("judges every record malformed", &Stern, &["record"]),
         ("a plane too far, a tray's word", &Lax, &["record", "tray"]),
         ("turns clockwise", &CLOCKWISE, &["irot"]),
@@ -334,6 +361,8 @@ fn a_wrong_composer_is_found() {
             &["grid-descriptor", "overlay-descriptor", "chain"],
         ),
         ("one offset for another", &Stacker, &["overlay-descriptor"]),
+        ("a place turned", &Exchanger, &["overlay-descriptor"]),
+        ("a word short", &Cutter, &["overlay-descriptor"]),
         ("an index outside", &Clamper, &["overlay-descriptor"]),
         (
             "height first, no limit, no end of line",
