@@ -4,6 +4,7 @@ use crate::case::{Case, Row};
 use crate::operations::{named, picture};
 use compose::{GridDescriptor, OverlayDescriptor, Result, sys};
 use model::{Clap, Colour, Iscl, Work};
+use std::cell::RefCell;
 use std::hint::black_box;
 
 /// An answer that must come.
@@ -67,33 +68,27 @@ pub fn grid_body() -> Row {
     })
 }
 
-/// What is read of an overlay's body: its fields, and the offset of each input, as a list of pairs.
-fn read_overlay(body: &[u8], inputs: u32, offsets: &mut [u8]) {
-    taken(sys::compose_overlay_descriptor(
-        black_box(body),
-        inputs,
-        &mut [0; 6],
-    ));
-    for (index, pair) in (0..inputs).zip(offsets.chunks_exact_mut(8)) {
-        let mut words = [0; 4];
-        taken(sys::compose_overlay_offset(body, inputs, index, &mut words));
-        let [right, left, below, above] = words.map(|word| word as i32);
-        pair[..4].copy_from_slice(&right.wrapping_sub(left).to_ne_bytes());
-        pair[4..].copy_from_slice(&below.wrapping_sub(above).to_ne_bytes());
-    }
-}
-
-/// An overlay's body and the offset of each input.
+/// An overlay's body and the offsets of its inputs.
 pub fn overlay_body(inputs: u32) -> Row {
     let name = format!("overlay descriptor and its offsets, {inputs} inputs");
     Row::new(name, move || {
         let offsets = (0..inputs as i32).map(|at| (at, -at)).collect();
         let body = OverlayDescriptor::new([65_535; 4], 8_192, 8_192, offsets).to_bytes();
         let lent = body.clone();
+        let words = RefCell::new(vec![0; 4 * inputs as usize]);
+        let call = move || {
+            let body = black_box(&lent);
+            taken(sys::compose_overlay_descriptor(body, inputs, &mut [0; 6]));
+            taken(sys::compose_overlay_offsets(
+                body,
+                inputs,
+                &mut words.borrow_mut(),
+            ));
+        };
         Case {
-            room: 8 * inputs as usize,
+            room: 32 * inputs as usize,
             units: inputs as usize,
-            call: Box::new(move |offsets| read_overlay(&lent, inputs, offsets)),
+            call: Box::new(move |_| call()),
             work: Work::OverlayBody(body, inputs as usize),
         }
     })
