@@ -12,6 +12,7 @@ use crate::{Result, sys};
 /// assert_eq!(fill::samples([65_535, 0, 0], 8, None), Ok([76, 85, 255]));
 /// assert_eq!(fill::samples([65_535, 0, 0], 264, None), Err(Refusal::DEPTH));
 /// ```
+#[inline]
 pub fn samples(fill: [u16; 3], depth: u32, colr: Option<&Colr>) -> Result<[u16; 3]> {
     let [red, green, blue] = fill;
     let (colour, matrix, full_range) = Colr::words(colr);
@@ -43,6 +44,7 @@ pub fn samples(fill: [u16; 3], depth: u32, colr: Option<&Colr>) -> Result<[u16; 
 /// assert_eq!(fill_to_ycbcr([65_535; 3], 8, None), [255, 128, 128]);
 /// assert_eq!(fill_to_ycbcr([65_535; 3], 8, Some(&studio)), [235, 128, 128]);
 /// ```
+#[inline]
 pub fn fill_to_ycbcr(fill: [u16; 3], depth: u8, colr: Option<&Colr>) -> [u16; 3] {
     samples(fill, u32::from(depth), colr)
         .unwrap_or_else(|refusal| panic!("{refusal}: a fill at depth {depth}"))

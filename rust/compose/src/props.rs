@@ -203,6 +203,7 @@ impl Iscl {
     /// assert_eq!(Iscl::new(1, 2, 2, 3).output_size(5, 5), Ok((3, 4)));
     /// assert_eq!(Iscl::new(1, 2, 0, 3).output_size(5, 5), Err(Refusal::ZERO));
     /// ```
+    #[inline]
     pub fn output_size(&self, width: u32, height: u32) -> Result<(u32, u32)> {
         let mut words = [0; 2];
         sys::compose_iscl_size(
@@ -322,6 +323,7 @@ impl Colr {
     }
 
     /// As the calls take it: whether there is an nclx description, its matrix and its range.
+    #[inline]
     pub(crate) fn words(colr: Option<&Self>) -> (u8, u16, u8) {
         match colr {
             Some(Self::Nclx {
