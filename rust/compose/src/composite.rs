@@ -19,7 +19,7 @@ use crate::plan::{self, Asked};
 use crate::props::Colr;
 use crate::record::{LONGEST_NUMBER, push_number};
 use crate::sys::Fresh;
-use crate::{Refusal, Result};
+use crate::{Refusal, Result, stock};
 
 /// One input of an overlay.
 #[derive(Clone, Debug)]
@@ -61,7 +61,7 @@ fn tray_of<'a, F: Recorded + 'a>(frames: impl Iterator<Item = &'a F> + Clone) ->
         size += frame.record_size();
         count = count.checked_add(1).ok_or(Refusal::MALFORMED)?;
     }
-    let mut tray = Vec::with_capacity(size);
+    let mut tray = stock::take(size);
     push_number(&mut tray, count);
     frames.for_each(|frame| frame.push_record(&mut tray));
     Ok(tray)
@@ -73,7 +73,10 @@ pub(crate) fn grid_of(desc: &GridDescriptor, tiles: &[impl Recorded]) -> Result<
     if tiles.len() != desc.tile_count() {
         return Err(Refusal::COUNT);
     }
-    grid(&body, &tray_of(tiles.iter())?)
+    let tray = tray_of(tiles.iter())?;
+    let made = grid(&body, &tray);
+    stock::give(tray);
+    made
 }
 
 /// The record of an overlay's inputs, each with whether it is premultiplied.
@@ -85,7 +88,9 @@ pub(crate) fn overlay_of<'a, F: Recorded + 'a>(
     let body = desc.body(inputs.len())?;
     let list: Vec<u8> = inputs.clone().map(|(_, alpha)| alpha.into()).collect();
     let tray = tray_of(inputs.map(|(frame, _)| frame))?;
-    overlay(&body, &tray, &list, colr)
+    let made = overlay(&body, &tray, &list, colr);
+    stock::give(tray);
+    made
 }
 
 /// The record that a grid's body and a tray of tiles come to. Refusals: 5 a tray count that cannot
@@ -113,7 +118,7 @@ pub fn overlay(
 /// The tiles of a grid, each in its cell. Refusals: the descriptor's; 11 another number of tiles; the
 /// frames'; 12, 13, 14.
 pub fn composite_grid(desc: &GridDescriptor, tiles: &[HeifFrame]) -> Result<HeifFrame> {
-    HeifFrame::from_record(&grid_of(desc, tiles)?)
+    HeifFrame::of_made(grid_of(desc, tiles)?)
 }
 
 /// The inputs of an overlay, the last on top; `colr` is for the fill. Refusals: the descriptor's; 15 no
@@ -126,7 +131,7 @@ pub fn composite_overlay(
     let inputs = inputs
         .iter()
         .map(|input| (input.frame, input.premultiplied));
-    HeifFrame::from_record(&overlay_of(desc, inputs, colr)?)
+    HeifFrame::of_made(overlay_of(desc, inputs, colr)?)
 }
 
 #[cfg(test)]

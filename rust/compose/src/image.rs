@@ -8,7 +8,7 @@ use crate::composite::Recorded;
 use crate::form::{Form, plane_size, push_numbers};
 use crate::props::CropRect;
 use crate::record::{self, RecordInfo};
-use crate::{Refusal, Result, limits};
+use crate::{Refusal, Result, limits, stock};
 use std::ops::Range;
 
 /// Upper bound on the pixels of a frame.
@@ -456,6 +456,13 @@ impl HeifFrame {
     /// The frame that a record holds. Refusals: document 01's *Record*.
     pub fn from_record(record: &[u8]) -> Result<Self> {
         Ok(Self::of_parts(record, &record::inspect(record)?))
+    }
+
+    /// The same of a record that a call made, and that no one else needs.
+    pub(crate) fn of_made(record: Vec<u8>) -> Result<Self> {
+        let frame = Self::from_record(&record);
+        stock::give(record);
+        frame
     }
 
     /// The same of a record that is judged.

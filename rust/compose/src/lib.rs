@@ -152,6 +152,7 @@ pub mod recorded;
 mod refusal;
 pub mod scene;
 pub mod steps;
+mod stock;
 pub mod sys;
 pub mod transform;
 pub mod tray;

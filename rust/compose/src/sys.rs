@@ -4,7 +4,7 @@
 #![allow(unsafe_code)]
 #![allow(clippy::too_many_arguments)]
 
-use crate::{Refusal, Result};
+use crate::{Refusal, Result, stock};
 
 /// What a function's word says: below 2^63 a count, a length, or 0 where there is none; from there
 /// on 2^63 + a refusal's number.
@@ -117,12 +117,13 @@ macro_rules! fresh {
                     fn $name($($in_c)* $out: *mut u8, _: usize $(, $spare: *mut u8, _: usize)?)
                         -> u64;
                 }
-                let mut $out = Vec::with_capacity(room);
-                $(let mut $spare = Vec::<u8>::with_capacity(room);)?
+                let mut $out = stock::take(room);
+                $(let mut $spare = stock::take(room);)?
                 // SAFETY: as in `safe`; output and spare are the vectors' own memory.
                 let word = unsafe {
                     $name($($passes)* $out.as_mut_ptr(), room $(, $spare.as_mut_ptr(), room)?)
                 };
+                $(stock::give($spare);)?
                 Self::written($out, word)
             }
         }

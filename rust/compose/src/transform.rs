@@ -24,9 +24,10 @@
 //! ```
 
 use crate::bands::Bands;
+use crate::composite::Recorded;
 use crate::image::{Chroma, HeifFrame};
 use crate::props::{Clap, CropRect, Imir, Irot, Iscl, Property, PropertyEntry};
-use crate::{Refusal, Result, chain, operation};
+use crate::{Refusal, Result, chain, operation, stock};
 
 /// Whether an odd column or an odd row asks for a chroma sample that a picture of this chroma has
 /// not, so that it is promoted to 4:4:4 first.
@@ -45,9 +46,13 @@ pub fn needs_444(chroma: Chroma, x_odd: bool, y_odd: bool) -> bool {
 
 /// An operation on a record, on a frame.
 fn on_frame(f: &HeifFrame, operation: impl Fn(&[u8]) -> Result<Vec<u8>>) -> Result<HeifFrame> {
-    // The record is freed before planes are made.
-    let made = operation(&f.to_record()?)?;
-    HeifFrame::from_record(&made)
+    f.validate()?;
+    let mut record = stock::take(f.record_size());
+    f.push_record(&mut record);
+    let made = operation(&record);
+    // What is not kept is freed before planes are made.
+    stock::give(record);
+    HeifFrame::of_made(made?)
 }
 
 /// The `w` × `h` part of `f` from (`x`, `y`) on. Refusals: the frame's; 9 a rectangle outside.
@@ -75,8 +80,8 @@ fn promoted_part(f: &HeifFrame, to: CropRect) -> Result<HeifFrame> {
     let mut record = Vec::new();
     f.push_part(CropRect::new(left, top, width, height), &mut record);
     let made = operation::crop(&record, to.x - left, to.y - top, to.width, to.height);
-    drop(record);
-    HeifFrame::from_record(&made?)
+    stock::give(record);
+    HeifFrame::of_made(made?)
 }
 
 /// Applies a clap property. Refusals: the frame's; 7, 8, 9, the width axis first.
