@@ -18,14 +18,14 @@ use Rattle.sampling.proofs.MeanLaws.{weighed-constant}
 use Rattle.sampling.specs.Area.{areaMean, aroundOf, firstOf, footOf, pastOf, shareOf, sum, weighed, weightOf}
 use Rattle.sampling.specs.Rounded.{rounded}
 use Rattle.sampling.specs.declared.area.Foot.{Foot}
+use Rattle.sampling.specs.declared.raster.Axis.{Axis}
+use Rattle.sampling.specs.declared.raster.Raster.{Raster}
+use Rattle.sampling.specs.inner.Redraw.{AreaAxis, RuleRowFits}
+use Rattle.sampling.specs.inner.Sums.{AreaFits, FootIn}
 use Rattle.means.specs.declared.sums.Held.{Held}
 use Rattle.means.specs.declared.sums.Pace.{Pace}
 use Rattle.means.specs.declared.sums.Stand.{Stand}
-use Rattle.sampling.specs.declared.raster.Axis.{Axis}
-use Rattle.sampling.specs.declared.raster.Raster.{Raster}
 use Rattle.means.specs.inner.Columns.{MeansFits, SumsHeld, columnOf, footFrom, paceOf, placeOf, standOf}
-use Rattle.sampling.specs.inner.Redraw.{AreaAxis, RuleRowFits}
-use Rattle.sampling.specs.inner.Sums.{AreaFits, FootIn}
 
 -- ---- sums
 
@@ -383,3 +383,8 @@ place-fits a k s step by e f g some fits h =
     let u = stand-le (paceOf a .first + k * paceOf a .step) (paceOf a .by) in
     let v = stand-le (paceOf a .step) (paceOf a .by) in
     rw (e, f, g) (stand-rest _ _ (b .0), stand-rest _ _ (b .0), b .1, omega (arith, p .0, m, u), omega (arith, p .1, v))
+
+-- a sample of two bytes
+pub pair-is : (d : List ℕ) (b stride x y : ℕ) → b ≡ 2 → getD d (y * stride + x * 2) 0 + 256 * getD d (y * stride + x * 2 + 1) 0 ≡ sampleIn d b stride x y
+unfolding sampleIn sampleAt
+pair-is d b stride x y e = rw e (sym (pick-false _ _ _ refl))

@@ -113,7 +113,7 @@ fn clear(sums: &mut [u32], many: usize)
 }
 
 // Adds the samples of row y, from column `first` on, each times a weight.
-fn add_row(sums: &mut [u32], plane: &[u8], r: Raster, first: usize, many: usize, y: usize, w: u16)
+fn add_each(sums: &mut [u32], plane: &[u8], r: Raster, first: usize, many: usize, y: usize, w: u16)
     requires { ⌜ AddFits (now sums) (now plane) r first many y w ⌝ }
     ensures { λ _. ⌜ ((j : ℕ) → j < many → getD (now (sums .exit)) j 0 ≡ getD (now (sums .entry)) j 0 + sampleIn (now (plane .entry)) (r .bytes) (r .stride) (first + j) y * w) ⌝ }
 {
@@ -126,6 +126,34 @@ fn add_row(sums: &mut [u32], plane: &[u8], r: Raster, first: usize, many: usize,
         sums[j] = sum + v * (w as u32);
         j += 1;
     }
+}
+
+// The same of samples of two bytes.
+fn add_pairs(sums: &mut [u32], plane: &[u8], r: Raster, first: usize, many: usize, y: usize, w: u16)
+    requires { ⌜ AddFits (now sums) (now plane) r first many y w × (r .bytes ≡ 2) ⌝ }
+    ensures { λ _. ⌜ ((j : ℕ) → j < many → getD (now (sums .exit)) j 0 ≡ getD (now (sums .entry)) j 0 + sampleIn (now (plane .entry)) (r .bytes) (r .stride) (first + j) y * w) ⌝ }
+{
+    let stride = r.stride;
+    let mut j: usize = 0;
+    while j < many {
+        let i = y * stride + (first + j) * 2;
+        let v = plane[i] as u32 + 256 * (plane[i + 1] as u32);
+        let sum = sums[j];
+        sums[j] = sum + v * (w as u32);
+        j += 1;
+    }
+}
+
+// The same, the loop chosen once a row.
+fn add_row(sums: &mut [u32], plane: &[u8], r: Raster, first: usize, many: usize, y: usize, w: u16)
+    requires { ⌜ AddFits (now sums) (now plane) r first many y w ⌝ }
+    ensures { λ _. ⌜ ((j : ℕ) → j < many → getD (now (sums .exit)) j 0 ≡ getD (now (sums .entry)) j 0 + sampleIn (now (plane .entry)) (r .bytes) (r .stride) (first + j) y * w) ⌝ }
+{
+    if r.bytes == 2 {
+        add_pairs(sums, plane, r, first, many, y, w);
+        return;
+    }
+    add_each(sums, plane, r, first, many, y, w);
 }
 
 // Adds the rows under a footprint.

@@ -7,10 +7,10 @@ use denote.Ref.{now}
 use Rattle.laws.proofs.Order.{mul-below}
 use Rattle.planes.specs.Bytes.{sampleIn}
 use Rattle.means.proofs.ColumnLaws.{below-none, kept-beyond, stored-next}
-use Rattle.means.proofs.sums.add_row.Statement.{statement}
-use Rattle.means.proofs.sums.add_row.Tie as tie
-use Rattle.means.proofs.sums.add_row.Reads as reads
-use Rattle.means.proofs.sums.add_row.Lts as lts
+use Rattle.means.proofs.sums.add_each.Statement.{statement}
+use Rattle.means.proofs.sums.add_each.Tie as tie
+use Rattle.means.proofs.sums.add_each.Reads as reads
+use Rattle.means.proofs.sums.add_each.Lts as lts
 use Rattle.planes.proofs.sample.Reads as sample-reads
 
 abbrev Inv-loop : tie.InvT-loop
@@ -99,8 +99,8 @@ same-length c = c .before .loop .inv .1
 returns : tie.Need-returns Inv-loop μ-loop
 returns c = λ j h. c .before .loop .inv .2 j (omega (arith, h, c .loop-test .left))
 
-pub add-row-spec : {M : Type 1} → statement M
-add-row-spec =
+pub add-each-spec : {M : Type 1} → statement M
+add-each-spec =
     tie.close
     (tie.spec
     Inv-loop
