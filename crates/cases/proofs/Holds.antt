@@ -33,7 +33,7 @@ use Rattle.cells.specs.Cell.{tileForm, tilePic}
 use Rattle.grid.specs.Mosaic.{gridPic, mosaicAt, opaqueAt, tileIndex}
 use Rattle.grid.specs.Run.{framesIn, gridOn}
 use Rattle.tiles.specs.Tiles.{alikeFrom, canvasForm, countOf, spansCanvas, judgeOf, promotesOf, sameLayout, tilesAt}
-use Rattle.overlay.specs.Overlay.{overAll, alphaOf, base, covers, coversAt, backdrop, over, overAt, overlayPic, overColour, placeAt, sampleOf, unpremultiply, finalSample, spotAt, overAlpha}
+use Rattle.blend.specs.Overlay.{overAll, alphaOf, base, covers, coversAt, backdrop, over, overAt, overlayPic, overColour, placeAt, sampleOf, unpremultiply, finalSample, spotAt, overAlpha}
 use Rattle.inputs.specs.Layers.{oddAcross, oddDown, oddOffset, otherChroma, overlayForm, promotes, seeThrough, layerOf, layersOf}
 use Rattle.inputs.specs.Inputs.{alphaAbove, composedForm, firstForm, inputsAt, otherDepth}
 use Rattle.overlay.specs.Run.{composed, fillFor, fillPart}

@@ -10,16 +10,16 @@ use lib.Dec.{eqb}
 use lib.Pow.{low}
 use borrow.Author.Tests.{eq-eqb, ne-eqb}
 use Rattle.laws.proofs.Order.{by-equal, by-order, by-test, or-left, or-right, pick-false, pick-true, true-and}
+use Rattle.laws.specs.Any.{any}
 use Rattle.laws.specs.Pick.{pick}
 use Rattle.image.specs.Format.{cover, halfX, halfY, topOf}
-use Rattle.planes.specs.Picture.{pixel}
 use Rattle.image.specs.declared.format.Form.{Form}
 use Rattle.image.specs.declared.format.Part.{Part}
 use Rattle.image.specs.declared.format.Part.the-variants.{Alpha, Cb, Cr, Luma}
-use Rattle.overlay.specs.Covered.{AllCut, CutOut, Found, capped, endsAs, hides, layer, nowhere, topmost, topmostFrom}
+use Rattle.planes.specs.Picture.{pixel}
 use Rattle.inputs.specs.Layers.{Layer}
-use Rattle.overlay.specs.Overlay.{overAll, alphaOf, base, coversAt, backdrop, over, overAt, overlayPic, overColour, placeAt, sampleOf, unpremultiply, finalSample, overAlpha}
-use Rattle.laws.specs.Any.{any}
+use Rattle.blend.specs.Overlay.{alphaOf, backdrop, base, coversAt, finalSample, over, overAll, overAlpha, overAt, overColour, overlayPic, placeAt, sampleOf, unpremultiply}
+use Rattle.overlay.specs.Covered.{AllCut, CutOut, Found, capped, endsAs, hides, layer, nowhere, topmost, topmostFrom}
 
 -- ---- arithmetic
 
@@ -171,10 +171,14 @@ module _ (top : ℕ) (some-top : 0 < top) (fill : Part → ℕ) (low : (p : Part
   none-over p [] v e = refl
   none-over p (l ∷ ls) v e = ap (overAll top p x y ls) (pick-false _ _ _ (or-left (coversAt l x y) _ e)) ∙ none-over p ls v (or-right (coversAt l x y) _ e)
 
+  -- where nothing is laid the fill is left
+  pub unchanged : (ls : List Layer) → ((p : Part) → overAll top p x y ls (backdrop fill p) ≡ backdrop fill p) → (p : Part) → placeAt top fill ls p x y ≡ fill p
+  unfolding placeAt carried endsAs
+  unchanged ls e p = ap₂ (λ (a b : ℕ). finalSample top p (fill p) a b) (e p) (e Alpha) ∙ ends p nowhere
+
   -- the first
   pub uncovered : (ls : List Layer) → any (λ l. coversAt l x y) ls ≡ false → (p : Part) → placeAt top fill ls p x y ≡ fill p
-  unfolding placeAt carried endsAs
-  uncovered ls e p = ap₂ (λ (a b : ℕ). finalSample top p (fill p) a b) (none-over p ls (backdrop fill p) e) (none-over Alpha ls (backdrop fill Alpha) e) ∙ ends p nowhere
+  uncovered ls e p = unchanged ls (λ q. none-over q ls (backdrop fill q) e) p
 
 -- ---- a plane that is not halved reads at each place what is worked there
 

@@ -1,5 +1,5 @@
 -- Where nothing is promoted all lies even: a halved plane, too, reads at each place what is worked there.
-use mathlib.Core.Bool.{Bool, _&&_, _||_, false, not, true}
+use mathlib.Core.Bool.{Bool, _&&_, _||_, false, not, true, true≢false}
 use mathlib.Core.List.{List, [], _∷_}
 use mathlib.Core.Path.{_∙_, _≡_, ap, ap₂, refl, sym}
 use Prim.Native.Nat.{_%_, _*_, _/_, ℕ}
@@ -7,22 +7,22 @@ use native.Mathlib.Omega.{arith}
 use lib.Dec.{eqb, ltb}
 use borrow.Author.Tests.{eqb-true, not-false}
 use Rattle.laws.proofs.Order.{bool-same, by-test, or-left, or-right, pick-false, pick-true}
+use Rattle.laws.specs.Any.{any}
 use Rattle.laws.specs.Pick.{pick}
 use Rattle.numbers.specs.declared.Offset.{Offset}
-use Rattle.planes.proofs.PictureLaws.{evenly-if, needs-X, needs-Y, odd-false}
-use Rattle.image.specs.Format.{cover, halfX, halfY, halved, halvesX, halvesY, hasAlpha, hasPart, isMono, middleOf, topOf, odd}
-use Rattle.planes.specs.Picture.{full, pixel}
-use Rattle.planes.specs.inner.Even.{Evenly}
+use Rattle.image.proofs.FormLaws.{like-halved}
+use Rattle.image.specs.Format.{cover, halfX, halfY, halved, halvesX, halvesY, hasAlpha, hasPart, isMono, middleOf, odd, topOf}
 use Rattle.image.specs.declared.format.Form.{Form}
 use Rattle.image.specs.declared.format.Part.{Part}
 use Rattle.image.specs.declared.format.Part.the-variants.{Alpha, Cb, Cr, Luma}
 use Rattle.image.specs.declared.format.PixelFormat.{PixelFormat}
-use Rattle.image.proofs.FormLaws.{like-halved}
-use Rattle.overlay.proofs.CoveredLaws.{whole-pixel}
-use Rattle.overlay.proofs.ReachLaws.{covers-facts, facts-covers}
+use Rattle.planes.proofs.PictureLaws.{evenly-if, needs-X, needs-Y, odd-false}
+use Rattle.planes.specs.Picture.{full, pixel}
+use Rattle.planes.specs.inner.Even.{Evenly}
 use Rattle.inputs.specs.Layers.{Layer, oddAcross, oddDown, oddOffset, otherChroma, overlayForm, promotes, seeThrough}
-use Rattle.overlay.specs.Overlay.{overAll, alphaOf, base, covers, coversAt, backdrop, over, overAt, overlayPic, placeAt, sampleOf, finalSample, spotAt}
-use Rattle.laws.specs.Any.{any}
+use Rattle.blend.proofs.ReachLaws.{covers-facts, facts-covers}
+use Rattle.blend.specs.Overlay.{alphaOf, backdrop, base, covers, coversAt, finalSample, over, overAll, overAt, overlayPic, placeAt, sampleOf, spotAt}
+use Rattle.overlay.proofs.CoveredLaws.{whole-pixel}
 
 -- ---- along one axis: the first place of a sample, and any other that it covers
 
@@ -129,12 +129,27 @@ halved-true : (b : Bool) (p : Part) → halved b p ≡ true → b ≡ true
 halved-true true p e = refl
 halved-true false p e = sym (halved-not p) ∙ e
 
--- mono is halved nowhere
+-- mono and 4:4:4 are halved nowhere
+chroma-whole : (f : PixelFormat) (p : Part) (n : ℕ) → f .chroma ≡ n → (eqb n 1 || eqb n 2) ≡ false → eqb n 1 ≡ false → (halfX f p ≡ false) × (halfY f p ≡ false)
+unfolding halvesX halvesY
+chroma-whole f p n z a b =
+    (ap (λ (c : ℕ). halved (eqb c 1 || eqb c 2) p) z ∙ ap (λ (h : Bool). halved h p) a ∙ halved-not p, ap (λ (c : ℕ). halved (eqb c 1) p) z ∙ ap (λ (h : Bool). halved h p) b ∙ halved-not p)
+
 mono-whole : (f : PixelFormat) (p : Part) → isMono f ≡ true → (halfX f p ≡ false) × (halfY f p ≡ false)
-unfolding isMono halvesX halvesY
-mono-whole f p e =
-    let z = eqb-true (f .chroma) 0 e in
-    (ap (λ (c : ℕ). halved (eqb c 1 || eqb c 2) p) z ∙ halved-not p, ap (λ (c : ℕ). halved (eqb c 1) p) z ∙ halved-not p)
+unfolding isMono
+mono-whole f p e = chroma-whole f p 0 (eqb-true (f .chroma) 0 e) refl refl
+
+promotes-through : (f : PixelFormat) (w h : ℕ) (ls : List Layer) → isMono f ≡ false → any seeThrough ls ≡ true → promotes f w h ls ≡ true
+unfolding promotes
+promotes-through f w h ls m e = rw (m, e) refl
+
+-- where an input has alpha, so is the canvas
+pub alpha-whole : (f : PixelFormat) (w h a : ℕ) (ls : List Layer) → any seeThrough ls ≡ true → (p : Part) → (halfX (overlayForm f w h a ls .format) p ≡ false) × (halfY (overlayForm f w h a ls .format) p ≡ false)
+unfolding overlayForm isMono
+alpha-whole f w h a ls e p =
+    by-test (promotes f w h ls)
+    (λ q. chroma-whole _ p 3 (pick-true _ 3 (f .chroma) q) refl refl)
+    (λ q. by-test (isMono f) (λ m. chroma-whole _ p 0 (pick-false _ 3 (f .chroma) q ∙ eqb-true (f .chroma) 0 m) refl refl) (λ m. absurd (true≢false (sym (promotes-through f w h ls m e) ∙ q))))
 
 alpha-alike : (hX hY : Bool) (l : Layer) (top x y : ℕ) → (hX ≡ false) × (hY ≡ false) → alphaOf top l (base hX (cover hX x)) (base hY (cover hY y)) ≡ alphaOf top l x y
 unfolding base cover

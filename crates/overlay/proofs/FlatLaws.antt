@@ -1,35 +1,28 @@
 -- A plane's rows one after the other are one run of samples.
-use mathlib.Core.Bool.{Bool}
 use mathlib.Core.List.{List, _++_, append-nil}
 use mathlib.Core.Path.{_∙_, _≡_, ap, ap₂, sym}
-use Prim.Native.Nat.{_%_, _*_, _+_, _/_, _<_, _^_, _≤_, suc, zero, ℕ}
+use Prim.Native.Nat.{_%_, _*_, _+_, _/_, _<_, _≤_, suc, zero, ℕ}
 use native.Mathlib.Nat.{suc-mul}
 use native.Mathlib.Omega.{arith}
 use lib.Arith.{digits-div, digits-mod}
 use lib.ListN.{length}
-use Rattle.laws.proofs.Order.{mul-below}
 use Rattle.laws.proofs.Out.{refuse-no}
 use Rattle.laws.proofs.Span.{span-cong, span-end, span-shift, span-split, span-step}
 use Rattle.laws.specs.Out.{done}
 use Rattle.laws.specs.Puts.{puts}
 use Rattle.laws.specs.Span.{span}
-use Rattle.image.proofs.FormLaws.{columns-le, columns-some, rows-le, width-le}
 use Rattle.image.proofs.JudgedLaws.{depth-taken}
-use Rattle.image.specs.Format.{bytesOf, columnsOf, halfX, halfY, rowsOf, topOf}
-use Rattle.image.specs.Sound.{FormSound}
 use Rattle.image.specs.declared.format.Form.{Form}
 use Rattle.image.specs.declared.format.Part.{Part}
-use Rattle.image.specs.declared.format.Part.the-variants.{Alpha}
 use Rattle.planes.proofs.RoundTrip.{length-encode}
-use Rattle.planes.specs.Bytes.{encode, rowBytes, rowsBytes, sampleBytes, samplesOf, sizeOf}
+use Rattle.planes.specs.Bytes.{encode, sampleBytes, samplesOf, sizeOf}
 use Rattle.fill.specs.Fill.{fillOf, nclxOf, partOf, ycbcrOf}
 use Rattle.fill.specs.declared.Colour.{Colour}
 use Rattle.fill.specs.declared.Ycbcr.{Ycbcr}
 use Rattle.derived.specs.declared.overlay.Fill.{Fill}
 use Rattle.inputs.specs.Layers.{Layer}
-use Rattle.overlay.specs.Overlay.{backdrop, base, finalSample, overAll, overlayPic, placeAt}
+use Rattle.blend.specs.Overlay.{overlayPic}
 use Rattle.overlay.specs.Run.{fillPart}
-use Rattle.overlay.specs.inner.Block.{StripeFits}
 
 pub flat-rows : (bytes : ℕ) (f : ℕ → ℕ → ℕ) (c n : ℕ) → 1 ≤ c
     → span (λ y. samplesOf bytes (λ x. f x y) c) 0 n ≡ span (λ q. sampleBytes bytes (f (q % c) (q / c))) 0 (n * c)
@@ -48,44 +41,10 @@ flat-rows bytes f c (suc n) h =
     row : (x : ℕ) → x < c → sampleBytes bytes (f ((n * c + x) % c) ((n * c + x) / c)) ≡ sampleBytes bytes (f x n)
     row x b = ap₂ (λ (i j : ℕ). sampleBytes bytes (f i j)) (digits-mod n b) (digits-div n b)
 
--- so many of them from one on, and the rest
-pub flat-next : (bytes : ℕ) (g : ℕ → ℕ) (start count total : ℕ) → start + count ≤ total
-    → span (λ q. sampleBytes bytes (g q)) start total ≡ samplesOf bytes (λ j. g (start + j)) count ++ span (λ q. sampleBytes bytes (g q)) (start + count) total
-unfolding samplesOf
-flat-next bytes g start count total h =
-    span-split _ start (start + count) total (omega arith) h
-    ∙ ap (λ (l : List ℕ). l ++ span (λ q. sampleBytes bytes (g q)) (start + count) total) (span-shift (λ q. sampleBytes bytes (g q)) start count)
-
--- a sample of the canvas, where its two quantities were laid from the backdrop
-pub over-place : (top : ℕ) (p : Part) (x y : ℕ) (fill : Part → ℕ) (ls : List Layer) (v w a b : ℕ) → v ≡ backdrop fill p → w ≡ backdrop fill Alpha → a ≡ overAll top p x y ls v → b ≡ overAll top Alpha x y ls w
-    → finalSample top p (fill p) a b ≡ placeAt top fill ls p x y
-unfolding placeAt
-over-place top p x y fill ls v w a b e f g h = rw (g, h, e, f)
-
--- ---- the rows of a composed plane
-
-abbrev pub stripeItem : ℕ → ℕ → (Part → ℕ) → List Layer → Part → ℕ → Bool → Bool → ℕ → List ℕ
-stripeItem bytes top fill ls p c hx hy q = sampleBytes bytes (placeAt top fill ls p (base hx (q % c)) (base hy (q / c)))
-
-module _ (m : Form) (ok : FormSound m) (fill : Part → ℕ) (ls : List Layer) (p : Part) (top c n t : ℕ) (hx hy : Bool)
-    (et : top ≡ topOf (m .format)) (ec : c ≡ columnsOf m p) (en : n ≡ rowsOf m p) (ex : hx ≡ halfX (m .format) p) (ey : hy ≡ halfY (m .format) p) where
-  pub rows-flat : rowsBytes (overlayPic m fill ls) p ≡ span (stripeItem (bytesOf (m .format)) top fill ls p c hx hy) 0 (n * c)
-  unfolding rowsBytes rowBytes overlayPic
-  rows-flat = rw (et, en, ec, ex, ey) (flat-rows (bytesOf (m .format)) (λ x y. placeAt (topOf (m .format)) fill ls p (base (halfX (m .format) p) x) (base (halfY (m .format) p) y)) (columnsOf m p) (rowsOf m p) (columns-some m ok p))
-
-  pub total-small : n * c ≤ 2 ^ 30
-  total-small = rw (en, ec) (omega (arith, mul-below (m .height) (m .width) (rowsOf m p) (columnsOf m p) (rows-le m ok p) (columns-le m ok p), ok .area))
-
-  pub stripe-fits : (start count : ℕ) → start + count ≤ n * c → StripeFits (record { columns = c; «half_across» = hx; «half_down» = hy; start = start; count = count })
-  stripe-fits start count h = record { wide = rw ec (columns-some m ok p); narrow = rw ec (omega (arith, columns-le m ok p, width-le m ok)); ends = omega (arith, total-small) }
-
 -- a depth that was taken has a fill
 pub fill-taken : (k : Fill) (depth : ℕ) (colour : Colour) → 8 ≤ depth → depth ≤ 16 → fillOf (k .red) (k .green) (k .blue) depth colour ≡ done (ycbcrOf (partOf (k .red)) (partOf (k .green)) (partOf (k .blue)) depth (nclxOf colour))
 unfolding fillOf
 fill-taken k depth colour l h = refuse-no _ _ (depth-taken depth l h)
-
-pub drawn-room : (m : Form) (s s′ : Ycbcr) (a a′ : ℕ) (ls : List Layer) (k : ℕ) → s ≡ s′ → a ≡ a′ → length (encode (overlayPic m (fillPart s′ a′) ls)) ≤ k → length (encode (overlayPic m (fillPart s a) ls)) ≤ k
-drawn-room m s s′ a a′ ls k e f h = rw (e, f) h
 
 pub drawn-answer : (m : Form) (s s′ : Ycbcr) (a a′ : ℕ) (ls : List Layer) (r : ℕ) (d d′ : List ℕ) → s ≡ s′ → a ≡ a′
     → (r ≡ length (encode (overlayPic m (fillPart s a) ls))) × (d′ ≡ puts d 0 (encode (overlayPic m (fillPart s a) ls))) → (r ≡ length (encode (overlayPic m (fillPart s′ a′) ls))) × (d′ ≡ puts d 0 (encode (overlayPic m (fillPart s′ a′) ls)))

@@ -1,7 +1,6 @@
-pub mod ReachLaws
-pub mod StripeLaws
 pub mod FlatLaws
 pub mod OpaqueLaws
+pub mod StripedLaws
 pub mod RunLaws
 pub mod CoveredLaws
 pub mod EvenLaws

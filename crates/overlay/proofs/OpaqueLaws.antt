@@ -32,9 +32,9 @@ use Rattle.opaque.proofs.WindowLaws.{window-spot}
 use Rattle.opaque.specs.inner.Laid.{acrossOf, downOf, laidAt, layFrames, unfit}
 use Rattle.opaque.specs.inner.Window.{spotOf, windowOf}
 use Rattle.overlay.proofs.CoveredLaws.{settles}
-use Rattle.overlay.proofs.ReachLaws.{stretch-covers, stretch-from}
+use Rattle.blend.proofs.ReachLaws.{stretch-covers, stretch-from}
 use Rattle.overlay.specs.Covered.{AllCut, Found, capped, endsAs, hides, layer, nowhere, topmost, topmostFrom}
-use Rattle.overlay.specs.Overlay.{alphaOf, base, covers, coversAt, overlayPic, sampleOf, spotAt}
+use Rattle.blend.specs.Overlay.{alphaOf, base, covers, coversAt, overlayPic, sampleOf, spotAt}
 use Rattle.overlay.specs.Run.{fillPart}
 
 -- ---- along one axis
@@ -155,7 +155,7 @@ module _ (c : Form) (fill : Part → ℕ) (some : 0 < topOf (c .format)) (low : 
         laid-place c fill p x y (rw laid-form at l) (rw laid-form at m) some low (rw laid-form at h) ls a;
   }
 
-flat-encode : (c : Form) (s : Ycbcr) (alpha : ℕ) → headed (headBytes c) (flatPic c (byPart (s .y) (s .cb) (s .cr) alpha)) ≡ encode (flatPic c (fillPart s alpha))
+pub flat-encode : (c : Form) (s : Ycbcr) (alpha : ℕ) → headed (headBytes c) (flatPic c (byPart (s .y) (s .cb) (s .cr) alpha)) ≡ encode (flatPic c (fillPart s alpha))
 unfolding headed flatPic byPart fillPart encode planeBytes rowsBytes rowBytes
 flat-encode c s alpha = refl
 

@@ -1,5 +1,5 @@
 -- The run step by step: what holds of a plan that was read, and what is left to answer.
-use mathlib.Core.Bool.{Bool, false}
+use mathlib.Core.Bool.{Bool, false, true}
 use mathlib.Core.List.{List}
 use mathlib.Core.Path.{_∙_, _≡_, ap, ap₂, sym}
 use Prim.Native.Nat.{_<_, _≤_, suc, zero, ℕ}
@@ -9,34 +9,36 @@ use lib.ListN.{length}
 use borrow.Author.Tests.{eqb-false, eqb-true, not-false}
 use Rattle.laws.proofs.Order.{pick-le, positive}
 use Rattle.laws.proofs.Out.{andThen-done, done-same, refuse-done, refused-back, then-done, then-refused}
+use Rattle.laws.specs.Any.{any}
 use Rattle.laws.specs.Out.{Out, andThen, done, fitted, reason, refuse, refused}
 use Rattle.laws.specs.declared.Refusal.{Refusal}
 use Rattle.numbers.specs.Number.{onNumber, readNumber}
 use Rattle.numbers.specs.declared.NumberRead.the-variants.{Malformed, Number}
 use Rattle.records.proofs.RecordLaws.{record-sound}
-use Rattle.planes.proofs.RoundTrip.{length-encode}
-use Rattle.planes.specs.Bytes.{encode, sizeOf}
-use Rattle.image.specs.Format.{topOf}
-use Rattle.planes.specs.Picture.{Pic}
+use Rattle.image.specs.Format.{halfX, halfY, topOf}
 use Rattle.image.specs.Sound.{FormSound}
 use Rattle.records.specs.Tray.{framesAt}
+use Rattle.image.specs.declared.format.Part.{Part}
 use Rattle.records.specs.declared.record.Frame.{Frame}
+use Rattle.records.specs.inner.Frames.{framesFrom}
+use Rattle.planes.proofs.RoundTrip.{length-encode}
+use Rattle.planes.specs.Bytes.{encode, sizeOf}
+use Rattle.planes.specs.Picture.{Pic}
 use Rattle.fill.specs.declared.Colour.{Colour}
 use Rattle.derived.proofs.Taken.{overlay-taken}
-use Rattle.derived.specs.inner.Sound.{OverlaySound}
 use Rattle.derived.specs.Overlay.{overlayOf}
+use Rattle.derived.specs.inner.Sound.{OverlaySound}
 use Rattle.inputs.proofs.FrameLaws.{frames-from}
-use Rattle.overlay.specs.inner.Block.{PlanSound, layersAt}
-use Rattle.records.specs.inner.Frames.{framesFrom}
+use Rattle.inputs.specs.Inputs.{Inputs, alphaAbove, composedForm, firstForm, firstFormat, inputsAt, otherDepth}
 use Rattle.inputs.specs.Layers.{layersOf, overlayForm, seeThrough}
+use Rattle.inputs.specs.declared.read.Plan.{Plan}
+use Rattle.inputs.specs.inner.Plan.{planAt, planOf}
 use Rattle.opaque.proofs.FitLaws.{form-fits}
 use Rattle.opaque.specs.inner.Laid.{unfit}
-use Rattle.overlay.specs.Overlay.{overlayPic}
-use Rattle.laws.specs.Any.{any}
-use Rattle.inputs.specs.inner.Plan.{planAt, planOf}
-use Rattle.inputs.specs.Inputs.{Inputs, alphaAbove, composedForm, firstForm, firstFormat, inputsAt, otherDepth}
+use Rattle.blend.specs.Overlay.{overlayPic}
+use Rattle.overlay.proofs.EvenLaws.{alpha-whole}
 use Rattle.overlay.specs.Run.{composed, fillFor, overlayRun}
-use Rattle.inputs.specs.declared.read.Plan.{Plan}
+use Rattle.overlay.specs.inner.Block.{PlanSound, layersAt}
 
 pub frames-sound : (n : ℕ) (s : List ℕ) (at : ℕ) (frs : List Frame) → 0 < n → framesAt n s at ≡ done frs → FormSound (firstForm frs)
 unfolding framesAt firstForm
@@ -93,9 +95,13 @@ module _ (body tray list : List ℕ) (n at : ℕ) where
     unfolding composedForm
     frames-fit a = ap (any (unfit (composedForm body tray list q))) (sym frames-are) ∙ form-fits body tray list (q .descriptor) (firstFormat (q .frames)) _ _ _ (q .frames) a (k .depths)
 
+    form-whole : any seeThrough (layersOf body tray list (q .descriptor) 0 (q .frames)) ≡ true → (p : Part) → (halfX (composedForm body tray list q .format) p ≡ false) × (halfY (composedForm body tray list q .format) p ≡ false)
+    unfolding composedForm
+    form-whole a = alpha-whole _ _ _ _ _ a
+
     pub plan-sound : PlanSound body tray list (planOf body tray list at q)
     unfolding planOf
-    plan-sound = record { form = form-taken; offsets = k .offsets; list = k .many ∙ sym (k .count); fit = frames-fit }
+    plan-sound = record { form = form-taken; offsets = k .offsets; list = k .many ∙ sym (k .count); whole = form-whole; fit = frames-fit }
 
 -- what goes on with a plan
 abbrev pub planPic : List ℕ → List ℕ → List ℕ → Colour → Plan → Pic

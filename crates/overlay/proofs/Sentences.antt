@@ -26,7 +26,7 @@ use Rattle.overlay.proofs.FlatLaws.{fill-taken}
 use Rattle.overlay.proofs.RunLaws.{Took, frames-sound, took}
 use Rattle.overlay.specs.Covered.{AllCut, endsAs, hides, topmost}
 use Rattle.inputs.specs.Layers.{Layer, overlayForm, layersOf}
-use Rattle.overlay.specs.Overlay.{coversAt, overlayPic}
+use Rattle.blend.specs.Overlay.{coversAt, overlayPic}
 use Rattle.laws.specs.Any.{any}
 use Rattle.inputs.specs.Inputs.{Inputs, composedForm, firstForm, firstFormat, inputsAt}
 use Rattle.overlay.specs.Run.{composed, fillFor, fillPart}

@@ -8,7 +8,7 @@ use Rattle.laws.specs.Pick.{pick}
 use Rattle.image.specs.declared.format.Part.{Part}
 use Rattle.image.specs.declared.format.Part.the-variants.{Alpha, Cb, Cr, Luma}
 use Rattle.inputs.specs.Layers.{Layer}
-use Rattle.overlay.specs.Overlay.{alphaOf, coversAt, sampleOf}
+use Rattle.blend.specs.Overlay.{alphaOf, coversAt, sampleOf}
 
 -- no input, or the topmost
 pub data Found : Type 0 where

@@ -1,4 +1,3 @@
-pub mod Overlay
 pub mod Run
 pub mod Covered
 pub mod inner

@@ -15,7 +15,7 @@ use Rattle.fill.specs.declared.Ycbcr.{Ycbcr}
 use Rattle.derived.specs.declared.overlay.Fill.{Fill}
 use Rattle.inputs.specs.Inputs.{Inputs, alphaAbove, composedForm, firstFormat, inputsAt}
 use Rattle.inputs.specs.Layers.{layersOf}
-use Rattle.overlay.specs.Overlay.{overlayPic}
+use Rattle.blend.specs.Overlay.{overlayPic}
 
 -- ---- 16: any alpha sample above top, drawn or cut off
 

@@ -1,6 +1,6 @@
 // Overlays composed (document 01, Overlay): a body, a tray and a premultiplied list become a tight record in a lent output.
-mod blend;
 mod draw;
+mod stripes;
 
 ghost use mathlib.Core.Path.{_≡_};
 ghost use lib.ListN.{length};

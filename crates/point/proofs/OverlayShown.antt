@@ -35,12 +35,12 @@ use Rattle.derived.specs.Overlay.{overlayOf, placementAt}
 use Rattle.derived.specs.declared.overlay.OverlayDescriptor.{OverlayDescriptor}
 use Rattle.motions.specs.Place.{Place}
 use Rattle.grid.proofs.Composed.{drop-head}
-use Rattle.overlay.proofs.ReachLaws.{covers-facts, spot-inside}
+use Rattle.blend.proofs.ReachLaws.{covers-facts, spot-inside}
 use Rattle.overlay.proofs.RunLaws.{Took, frames-sound}
 use Rattle.overlay.proofs.Sentences.{fill-low, settled-pixel}
 use Rattle.overlay.specs.Covered.{AllCut, Found, capped, endsAs, hides, nowhere, topmost}
 use Rattle.inputs.specs.Layers.{Layer, otherChroma, overlayForm, promotes, seeThrough, layerOf, layersOf}
-use Rattle.overlay.specs.Overlay.{alphaOf, covers, coversAt, overlayPic, sampleOf, spotAt}
+use Rattle.blend.specs.Overlay.{alphaOf, covers, coversAt, overlayPic, sampleOf, spotAt}
 use Rattle.inputs.specs.Inputs.{Inputs, alphaAbove, composedForm, firstFormat, otherDepth}
 use Rattle.overlay.specs.Run.{composed, fillFor}
 use Rattle.point.proofs.GridShown.{spot-same}

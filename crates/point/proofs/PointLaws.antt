@@ -41,7 +41,7 @@ use Rattle.tiles.specs.Tiles.{tilesOf}
 use Rattle.tiles.specs.declared.judge.Tiles.{Tiles}
 use Rattle.inputs.proofs.FrameLaws.{frames-from, from-next, from-refused}
 use Rattle.records.specs.inner.Frames.{framesFrom}
-use Rattle.overlay.specs.Overlay.{covers, spotAt}
+use Rattle.blend.specs.Overlay.{covers, spotAt}
 use Rattle.inputs.specs.Layers.{seeThrough, layerOf, layersOf}
 use Rattle.laws.specs.Any.{any}
 use Rattle.inputs.specs.inner.Plan.{planAt, planOf}

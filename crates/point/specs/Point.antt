@@ -17,7 +17,7 @@ use Rattle.sight.specs.Sight.{sourcePlace, sightOf}
 use Rattle.sight.specs.declared.Sight.{Sight}
 use Rattle.tiles.specs.Tiles.{tilesAt}
 use Rattle.tiles.specs.declared.judge.Tiles.{Tiles}
-use Rattle.overlay.specs.Overlay.{covers, spotAt}
+use Rattle.blend.specs.Overlay.{covers, spotAt}
 use Rattle.laws.specs.Any.{any}
 use Rattle.inputs.specs.Inputs.{Inputs, inputsAt}
 use Rattle.point.specs.declared.Named.{Named}

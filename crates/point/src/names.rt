@@ -4,7 +4,7 @@ ghost use mathlib.Core.Path.{_≡_};
 ghost use Rattle.laws.specs.Pick.{pick};
 ghost use Rattle.derived.specs.inner.Sound.{OverlaySound};
 ghost use Rattle.records.specs.inner.Frames.{framesFrom};
-ghost use Rattle.overlay.specs.Overlay.{covers, spotAt};
+ghost use Rattle.blend.specs.Overlay.{covers, spotAt};
 ghost use Rattle.point.specs.Point.{gridNames, liesOver, spotUnder, topmostNamed};
 ghost use Rattle.point.specs.inner.Look.{Tiled, placeIn};
 ghost use Rattle.point.specs.declared.Named.{Named};

@@ -50,7 +50,7 @@ use Rattle.tiles.specs.declared.judge.Tiles.{Tiles}
 use Rattle.inputs.specs.Inputs.{Inputs, firstFormat, inputsAt}
 use Rattle.inputs.specs.Layers.{layersOf}
 use Rattle.overlay.specs.Covered.{AllCut, endsAs, hides, topmost}
-use Rattle.overlay.specs.Overlay.{coversAt}
+use Rattle.blend.specs.Overlay.{coversAt}
 use Rattle.overlay.specs.Run.{composed, fillFor}
 use Rattle.sequence.specs.Sequence.{Call, MadeBy, alphaNumber, blank, callsRun, cellAt, cellIn, drawnAt, drawnPic, firstTile, leftAt, leftBytes, pictureOf, place, sessionRun}
 use Rattle.session.specs.Session.{CanvasAfter, blankAt, reservedForm}

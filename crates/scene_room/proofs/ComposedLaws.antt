@@ -45,7 +45,7 @@ use Rattle.inputs.specs.Layers.{overlayForm}
 use Rattle.inputs.specs.inner.Plan.{planAt, planOf}
 use Rattle.overlay.proofs.RunLaws.{plan-taken, took}
 use Rattle.overlay.proofs.Sentences.{fill-low}
-use Rattle.overlay.specs.Overlay.{finalSample, overlayPic, placeAt, unpremultiply}
+use Rattle.blend.specs.Overlay.{finalSample, overlayPic, placeAt, unpremultiply}
 use Rattle.overlay.specs.Run.{composed}
 
 -- ---- what fits the bytes of a sample of a depth

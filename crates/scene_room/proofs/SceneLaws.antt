@@ -48,7 +48,7 @@ use Rattle.inputs.specs.Layers.{layersOf, overlayForm}
 use Rattle.inputs.specs.declared.read.Plan.{Plan}
 use Rattle.inputs.specs.inner.Plan.{planAt, planOf}
 use Rattle.overlay.proofs.RunLaws.{Took, frames-are, plan-sound, planPic, took}
-use Rattle.overlay.specs.Overlay.{overlayPic}
+use Rattle.blend.specs.Overlay.{overlayPic}
 use Rattle.overlay.specs.Run.{composed, fillFor}
 use Rattle.overlay.specs.inner.Block.{PlanSound}
 use Rattle.chains.proofs.ApplyLaws.{Carried, chain-carried}

@@ -4,7 +4,7 @@ use native.Mathlib.Omega.{arith}
 use borrow.Author.Needs.{needs}
 use Rattle.inputs.proofs.BlendLaws.{sample-product}
 use Rattle.overlay.proofs.draw.backdrop_of.Statement.{statement}
-use Rattle.overlay.specs.Overlay.{backdrop}
+use Rattle.blend.specs.Overlay.{backdrop}
 use Rattle.overlay.specs.Run.{fillPart}
 use Rattle.overlay.proofs.draw.backdrop_of.Tie as tie
 use Rattle.overlay.proofs.draw.backdrop_of.Reads as reads

@@ -1,12 +1,11 @@
 use mathlib.Core.Path.{_∙_, _≡_, ap, sym}
 use native.Mathlib.Omega.{arith}
-use lib.Pow.{low}
-use borrow.Author.Needs.{needs}
 use denote.Ref.{now}
+use borrow.Author.Needs.{needs}
 use Rattle.laws.proofs.Out.{done-same, not-done}
 use Rattle.image.specs.Format.{topOf}
 use Rattle.fill.specs.Fill.{filledOut, nclxOf, partOf, ycbcrOf}
-use Rattle.overlay.proofs.FlatLaws.{drawn-answer, drawn-low, drawn-room, drawn-size, fill-taken}
+use Rattle.overlay.proofs.FlatLaws.{drawn-answer, drawn-low, drawn-size, fill-taken}
 use Rattle.overlay.proofs.Sentences.{fill-low}
 use Rattle.overlay.proofs.draw.draw_overlay.Statement.{statement}
 use Rattle.overlay.specs.Run.{fillFor}
@@ -18,7 +17,7 @@ use Rattle.fill.proofs.fill_alpha.Reads as fill-alpha-reads
 use Rattle.fill.proofs.fill_to_ycbcr.Reads as fill-to-ycbcr-reads
 use Rattle.image.proofs.format.PixelFormat.top.Reads as top-reads
 use Rattle.overlay.proofs.draw.write_opaque.Reads as write-opaque-reads
-use Rattle.overlay.proofs.draw.write_overlay.Reads as write-overlay-reads
+use Rattle.overlay.proofs.stripes.write_overlay.Reads as write-overlay-reads
 
 filled : (c : tie.After-samples)
     → let start = c .before .before .before .before .before .before .before .before .before .before .before in
@@ -54,12 +53,28 @@ top-requires c κs =
     start .pre .0 .form .high
 
 write-overlay-requires : tie.Need-write-overlay-requires
-unfolding fillFor
+unfolding fillFor topOf
 write-overlay-requires c κs =
     let start = c .before .before .before .before .before .before .before .before .before .before .before .before .before .before .before .before in
     let at-samples = c .before .before .before .before .before in
     let fill-alpha = c .before .before .before .fill-alpha in
-    (start .pre .0, c .before .before .top .ensures, drawn-room (start .args .plan .form) _ _ _ _ (layersAt (now (start .args .body)) (now (start .args .tray)) (now (start .args .premultiplied)) (start .args .plan)) _ (filled at-samples) (fill-alpha .ensures) (start .pre .1))
+    let top = c .before .before .top .ensures in (
+      record {
+        plan = start .pre .0;
+        whole = start .pre .0 .whole (c .before .if1 .taken);
+        top = top;
+        low = λ p. rw top (drawn-low _ _ _ _ _ (filled at-samples) (fill-alpha .ensures)
+            (fill-low (start .args .plan .descriptor .«canvas_fill») (start .args .plan .form .format .depth) (start .args .colour)
+            (omega (arith, start .good)) (start .pre .0 .form .low) (start .pre .0 .form .high)) p);
+      },
+      omega (
+        arith,
+        start .pre .1,
+        drawn-size (start .args .plan .form)
+            (fillFor (start .args .plan .descriptor .«canvas_fill») (start .args .plan .form .format .depth) (start .args .colour))
+            (layersAt (now (start .args .body)) (now (start .args .tray)) (now (start .args .premultiplied)) (start .args .plan)),
+      ),
+    )
 
 same-length : tie.Need-same-length
 same-length c = search needs
@@ -70,7 +85,10 @@ returns-2 c =
     let start = c .before .before .before .before .before .before .before .before .before .before .before .before .before .before .before .before .before .before .before in
     let at-samples = c .before .before .before .before .before .before .before .before in
     let fill-alpha = c .before .before .before .before .before .before .fill-alpha in
-    drawn-answer (start .args .plan .form) _ _ _ _ (layersAt (now (start .args .body)) (now (start .args .tray)) (now (start .args .premultiplied)) (start .args .plan)) _ _ _ (filled at-samples) (fill-alpha .ensures) (c .before .before .write-overlay .ensures)
+    drawn-answer (start .args .plan .form) _ _ _ _ (layersAt (now (start .args .body)) (now (start .args .tray)) (now (start .args .premultiplied)) (start .args .plan)) _ _ _ (filled at-samples) (fill-alpha .ensures) (
+      c .before .before .write-overlay .ensures .0 ∙ sym (drawn-size (start .args .plan .form) _ (layersAt (now (start .args .body)) (now (start .args .tray)) (now (start .args .premultiplied)) (start .args .plan))),
+      c .before .before .write-overlay .ensures .1,
+    )
 
 write-opaque-requires : tie.Need-write-opaque-requires
 unfolding fillFor topOf

@@ -1,5 +1,5 @@
 use borrow.Author.Needs.{needs}
-use Rattle.overlay.specs.Overlay.{covers}
+use Rattle.blend.specs.Overlay.{covers}
 use Rattle.point.proofs.names.reaches.Statement.{statement}
 use Rattle.point.proofs.names.reaches.Tie as tie
 use Rattle.point.proofs.names.reaches.Reads as reads

@@ -1,8 +1,8 @@
 use mathlib.Core.Path.{refl}
 use native.Mathlib.Omega.{arith}
 use borrow.Author.Needs.{needs}
-use Rattle.overlay.proofs.ReachLaws.{covers-facts}
-use Rattle.overlay.specs.Overlay.{spotAt}
+use Rattle.blend.proofs.ReachLaws.{covers-facts}
+use Rattle.blend.specs.Overlay.{spotAt}
 use Rattle.point.proofs.names.spot_at.Statement.{statement}
 use Rattle.point.proofs.names.spot_at.Tie as tie
 use Rattle.point.proofs.names.spot_at.Reads as reads
