@@ -3,7 +3,7 @@
  * Each call has a contract in crates/capi/src, for every input; what is said here is short for it. A call takes any
  * bytes. It reads and writes only what it is lent, allocates nothing and keeps nothing. A part of length 0 may have
  * any pointer, NULL too, and a part that is written overlaps no other.
- * A call takes at most 136 KiB of stack.
+ * A call takes at most 46 KiB of stack.
  *
  * A record is a picture, a tray several of them, as document 01 sets them out ("What is handed in").
  */

@@ -9,7 +9,7 @@ use std::fs;
 use std::process::Command;
 
 /// The most bytes of stack that a call takes; the header says it.
-const STACK: usize = 136 << 10;
+const STACK: usize = 46 << 10;
 
 /// A record that is promoted when it is cropped: 5 × 5.
 fn picture(chroma: Chroma, alpha: bool) -> Vec<u8> {

@@ -12,7 +12,7 @@ use std::process::Command;
 use std::{env, fs, thread};
 
 /// The thread's stack in bytes. A call has less of it: the thread itself takes some.
-const STACK: usize = 192 << 10;
+const STACK: usize = 64 << 10;
 
 /// The variable that names the call a process is to make.
 const CALL: &str = "COMPOSE_CALL_ON_A_SMALL_STACK";
