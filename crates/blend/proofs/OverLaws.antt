@@ -11,7 +11,7 @@ use Rattle.laws.specs.Pick.{pick}
 use Rattle.image.specs.declared.format.Part.{Part}
 use Rattle.image.specs.declared.format.Part.the-variants.{Alpha, Cb, Cr, Luma}
 use Rattle.inputs.specs.Layers.{Layer}
-use Rattle.blend.specs.Overlay.{coversAt, finalSample, over, overAll, overAlpha, overAt, overColour, unpremultiply}
+use Rattle.blend.specs.Overlay.{coversAt, over, overAll, overAlpha, overAt, overColour, unpremultiply}
 
 -- ---- bounds
 
@@ -69,11 +69,3 @@ opaque-stays top x y (l ∷ ls) h = ap (overAll top Alpha x y ls) (opaque-at top
 pub unpremultiply-opaque : (top f v : ℕ) → 1 ≤ top → unpremultiply top f v top ≡ unpremultiply top 0 v top
 unfolding unpremultiply
 unpremultiply-opaque top f v h = let e = ne-eqb top 0 (omega arith) in pick-false _ _ _ e ∙ sym (pick-false _ _ _ e)
-
--- a sample of a colour plane of an opaque canvas
-pub final-opaque : (top : ℕ) (p : Part) (f v : ℕ) → 1 ≤ top → (p ≡ Alpha → ⊥) → finalSample top p f v top ≡ unpremultiply top 0 v top
-unfolding finalSample
-final-opaque top Luma f v h k = unpremultiply-opaque top f v h
-final-opaque top Cb f v h k = unpremultiply-opaque top f v h
-final-opaque top Cr f v h k = unpremultiply-opaque top f v h
-final-opaque top Alpha f v h k = absurd (k refl)

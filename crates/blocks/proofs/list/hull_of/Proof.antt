@@ -12,7 +12,17 @@ use Rattle.numbers.proofs.saturating_sub.Reads as saturating-sub-reads
 use Rattle.opaque.proofs.reach.Reads as reach-reads
 
 ends : (c : tie.After-reach2) → (c .reach2 .result .from ≤ 2 ^ 32) × (c .reach2 .result .to ≤ 2 ^ 33) × (c .before .reach .result .from ≤ 2 ^ 32) × (c .before .reach .result .to ≤ 2 ^ 33)
-ends c = (stretch-small (c .before .before .args .place .vertical) (c .before .before .args .form .height) _ (c .reach2 .ensures) (omega (arith, c .before .before .good)) (omega (arith, c .before .before .good)) .0, stretch-small (c .before .before .args .place .vertical) (c .before .before .args .form .height) _ (c .reach2 .ensures) (omega (arith, c .before .before .good)) (omega (arith, c .before .before .good)) .1, stretch-small (c .before .before .args .place .horizontal) (c .before .before .args .form .width) _ (c .before .reach .ensures) (omega (arith, c .before .before .good)) (omega (arith, c .before .before .good)) .0, stretch-small (c .before .before .args .place .horizontal) (c .before .before .args .form .width) _ (c .before .reach .ensures) (omega (arith, c .before .before .good)) (omega (arith, c .before .before .good)) .1)
+ends c =
+    let start = c .before .before in (
+      stretch-small (start .args .place .vertical) (start .args .form .height) _ (c .reach2 .ensures) (omega (arith, start .good))
+          (omega (arith, start .good)) .0,
+      stretch-small (start .args .place .vertical) (start .args .form .height) _ (c .reach2 .ensures) (omega (arith, start .good))
+          (omega (arith, start .good)) .1,
+      stretch-small (start .args .place .horizontal) (start .args .form .width) _ (c .before .reach .ensures) (omega (arith, start .good))
+          (omega (arith, start .good)) .0,
+      stretch-small (start .args .place .horizontal) (start .args .form .width) _ (c .before .reach .ensures) (omega (arith, start .good))
+          (omega (arith, start .good)) .1,
+    )
 
 reach-requires : tie.Need-reach-requires
 reach-requires c κs = search needs

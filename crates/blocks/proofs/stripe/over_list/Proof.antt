@@ -43,10 +43,16 @@ loop-less c = search needs
 
 loop-again : tie.Need-loop-again Inv-loop μ-loop
 loop-again c =
-    let start = c .before .before .before .before .before .before .before .before .before .before .before in
-    let loop = c .before .before .before .before .before .loop in
     let loop-test = c .before .before .before .before .loop-test in
-    (omega (arith, loop-test .taken), c .before .before .over-entry .kept .0 ∙ loop .inv .1, λ j h. rw (c .before .before .over-entry .ensures j h) (entry-held _ _ _ _ _ _ _ _ _ _ _ (loop .inv .2 j h) (start .pre .2)), λ j h. c .before .before .over-entry .ensures j h ∙ ap (overEntry _ _ _ _ _ _ _ _ _ _) (loop .inv .3 j h) ∙ sym (entries-next _ _ _ _ _ _ _ _ _ _ _))
+    let loop = c .before .before .before .before .before .loop in
+    let start = c .before .before .before .before .before .before .before .before .before .before .before in (
+      omega (arith, loop-test .taken),
+      c .before .before .over-entry .kept .0 ∙ loop .inv .1,
+      λ j h. rw (c .before .before .over-entry .ensures j h) (entry-held _ _ _ _ _ _ _ _ _ _ _ (loop .inv .2 j h) (start .pre .2)),
+      λ j h. c .before .before .over-entry .ensures j h
+          ∙ ap (overEntry _ _ _ _ _ _ _ _ _ _) (loop .inv .3 j h)
+          ∙ sym (entries-next _ _ _ _ _ _ _ _ _ _ _),
+    )
 
 same-length : tie.Need-same-length Inv-loop μ-loop
 same-length c = c .before .loop .inv .1
@@ -54,7 +60,12 @@ same-length c = c .before .loop .inv .1
 returns : tie.Need-returns Inv-loop μ-loop
 returns c =
     let start = c .before .before .before .before .before .before .before in
-    λ j h. c .before .loop .inv .3 j h ∙ ap (λ (m : ℕ). overEntries (now (start .args .body)) (now (start .args .tray)) (now (start .args .premultiplied)) (start .args .d) (now (start .args .entries)) (start .args .top) (start .args .part) (acrossAt (start .args .run) j) (downAt (start .args .run) j) m (getD (now (start .args .acc)) j 0)) (ended c) ∙ list-all _ _ _ _ _ _ _ _ (start .pre .5) (start .pre .3 .wide) _ _ (start .pre .6) j h _
+    λ j h. c .before .loop .inv .3 j h
+    ∙ ap (λ (m : ℕ). overEntries (now (start .args .body)) (now (start .args .tray)) (now (start .args .premultiplied)) (start .args .d)
+    (now (start .args .entries)) (start .args .top) (start .args .part) (acrossAt (start .args .run) j) (downAt (start .args .run) j) m
+    (getD (now (start .args .acc)) j 0))
+    (ended c)
+    ∙ list-all _ _ _ _ _ _ _ _ (start .pre .5) (start .pre .3 .wide) _ _ (start .pre .6) j h _
 
 pub over-list-spec : {M : Type 1} → statement M
 over-list-spec =

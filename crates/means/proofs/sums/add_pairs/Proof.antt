@@ -83,9 +83,15 @@ slice-read-sum c =
 
 mul-sums : tie.Need-mul-sums Inv-loop μ-loop
 mul-sums c =
-    let start = c .before .before .before .before .before in
     let loop = c .before .before .before .before .loop in
-    omega (arith, mul-below 65535 65535 (getD (now (start .args .plane)) (start .args .y * start .args .r .stride + (start .args .first + loop .j) * 2) 0 + 256 * getD (now (start .args .plane)) (start .args .y * start .args .r .stride + (start .args .first + loop .j) * 2 + 1) 0) (start .args .w) (omega (arith, c .before .before .shared-slice-known .given (start .args .y * start .args .r .stride + (start .args .first + loop .j) * 2 + 1), c .before .before .shared-slice-known .given (start .args .y * start .args .r .stride + (start .args .first + loop .j) * 2))) (search needs))
+    let start = c .before .before .before .before .before in
+    let term′ = start .args .y * start .args .r .stride + (start .args .first + loop .j) * 2 in
+    let term = start .args .y * start .args .r .stride + (start .args .first + loop .j) * 2 + 1 in
+    omega (
+      arith,
+      mul-below 65535 65535 (getD (now (start .args .plane)) term′ 0 + 256 * getD (now (start .args .plane)) term 0) (start .args .w)
+          (omega (arith, c .before .before .shared-slice-known .given term, c .before .before .shared-slice-known .given term′)) (search needs),
+    )
 
 add-sums : tie.Need-add-sums Inv-loop μ-loop
 add-sums c =
@@ -116,10 +122,17 @@ loop-less c = search needs
 
 loop-again : tie.Need-loop-again Inv-loop μ-loop
 loop-again c =
-    let start = c .before .before .before .before .before in
     let loop = c .before .before .before .before .loop in
-    let loop-test = c .before .before .before .loop-test in
-    (search needs, length-set (loop .sums) (loop .j) _ ∙ loop .inv .1, stored-next (loop .sums) (loop .j) _ (λ i. getD (now (start .args .sums)) i 0 + sampleIn (now (start .args .plane)) 2 (start .args .r .stride) (start .args .first + i) (start .args .y) * start .args .w) (omega (arith, start .pre .0 .room, loop-test .taken, loop .inv .1)) (loop .inv .2) (ap₂ (λ (a b : ℕ). a + b * start .args .w) (loop .inv .3 (loop .j) (omega arith)) (pair-is _ 2 _ _ _ refl)), kept-beyond (now (start .args .sums)) (loop .sums) (loop .j) _ (loop .inv .3))
+    let start = c .before .before .before .before .before in (
+      search needs,
+      length-set (loop .sums) (loop .j) _ ∙ loop .inv .1,
+      stored-next (loop .sums) (loop .j) _
+          (λ i. getD (now (start .args .sums)) i 0
+          + sampleIn (now (start .args .plane)) 2 (start .args .r .stride) (start .args .first + i) (start .args .y) * start .args .w)
+          (omega (arith, start .pre .0 .room, c .before .before .before .loop-test .taken, loop .inv .1)) (loop .inv .2)
+          (ap₂ (λ (a b : ℕ). a + b * start .args .w) (loop .inv .3 (loop .j) (omega arith)) (pair-is _ 2 _ _ _ refl)),
+      kept-beyond (now (start .args .sums)) (loop .sums) (loop .j) _ (loop .inv .3),
+    )
 
 same-length : tie.Need-same-length Inv-loop μ-loop
 same-length c = c .before .loop .inv .1

@@ -15,7 +15,9 @@ use Rattle.numbers.proofs.min.Reads as min-reads
 use Rattle.overlay.proofs.stripes.write_stripe.Reads as write-stripe-reads
 
 abbrev Inv-loop : tie.InvT-loop
-Inv-loop out₀ to colour₀ opacity₀ entries n body tray premultiplied plan g start count columns end s₀ out colour opacity s = (start ≤ s) × (s ≤ start + count) × (length out ≡ length out₀) × (length colour ≡ length colour₀) × (length opacity ≡ length opacity₀) × Continued (plan .form) (backdropFill g) (layersAt body tray premultiplied plan) start s out₀ out
+Inv-loop out₀ to colour₀ opacity₀ entries n body tray premultiplied plan g start count columns end s₀ out colour opacity s =
+    (start ≤ s) × (s ≤ start + count) × (length out ≡ length out₀) × (length colour ≡ length colour₀) × (length opacity ≡ length opacity₀)
+    × Continued (plan .form) (backdropFill g) (layersAt body tray premultiplied plan) start s out₀ out
 
 abbrev μ-loop : tie.MeasureT-loop
 μ-loop out₀ to colour₀ opacity₀ entries n body tray premultiplied plan g start count columns end s₀ out colour opacity s = start + count - s
@@ -39,11 +41,24 @@ min-requires c κs = search needs
 
 write-stripe-requires : tie.Need-write-stripe-requires Inv-loop μ-loop
 write-stripe-requires c κs =
-    let start = c .before .before .before .before .before .before .before .before .before .before .before .before .before .before .before in
-    let loop = c .before .before .before .before .before .loop in
-    let loop-test = c .before .before .before .before .loop-test in
     let min = c .before .before .before .min in
-    (record { canvas = start .pre .0; run = record { columns = refl; ends = omega (arith, start .pre .1 .ends, min .ensures, loop-test .taken); whole = record { across = refl; down = refl } }; listed = λ h. listed-part _ _ _ _ _ _ _ _ _ _ _ (loop .inv .0) (omega (arith, min .ensures, loop-test .taken)) (start .pre .1 .listed h) }, start .pre .2, omega (arith, start .pre .3, loop .inv .3, min .ensures), omega (arith, start .pre .4, loop .inv .4, min .ensures), omega (arith, start .pre .5, loop .inv .2))
+    let loop-test = c .before .before .before .before .loop-test in
+    let loop = c .before .before .before .before .before .loop in
+    let start = c .before .before .before .before .before .before .before .before .before .before .before .before .before .before .before in (
+      record {
+        canvas = start .pre .0;
+        run = record {
+          columns = refl;
+          ends = omega (arith, start .pre .1 .ends, min .ensures, loop-test .taken);
+          whole = record { across = refl; down = refl };
+        };
+        listed = λ h. listed-part _ _ _ _ _ _ _ _ _ _ _ (loop .inv .0) (omega (arith, min .ensures, loop-test .taken)) (start .pre .1 .listed h);
+      },
+      start .pre .2,
+      omega (arith, start .pre .3, loop .inv .3, min .ensures),
+      omega (arith, start .pre .4, loop .inv .4, min .ensures),
+      omega (arith, start .pre .5, loop .inv .2),
+    )
 
 add-s : tie.Need-add-s Inv-loop μ-loop
 add-s c =

@@ -19,7 +19,10 @@ use Rattle.overlay.proofs.stripes.write_block.Reads as write-block-read
 use Rattle.planes.proofs.tight.Reads as tight-reads
 
 abbrev Inv-loop : tie.InvT-loop
-Inv-loop out₀ colour₀ opacity₀ entries₀ body tray premultiplied plan g d first to columns total start₀ most₀ out colour opacity entries start most = (start ≤ plan .form .height * plan .form .width) × (1 ≤ most) × (length out ≡ length out₀) × (length colour ≡ length colour₀) × (length opacity ≡ length opacity₀) × (length entries ≡ length entries₀) × Continued (plan .form) (backdropFill g) (layersAt body tray premultiplied plan) 0 start out₀ out
+Inv-loop out₀ colour₀ opacity₀ entries₀ body tray premultiplied plan g d first to columns total start₀ most₀ out colour opacity entries start most =
+    (start ≤ plan .form .height * plan .form .width) × (1 ≤ most) × (length out ≡ length out₀) × (length colour ≡ length colour₀)
+    × (length opacity ≡ length opacity₀) × (length entries ≡ length entries₀)
+    × Continued (plan .form) (backdropFill g) (layersAt body tray premultiplied plan) 0 start out₀ out
 
 abbrev μ-loop : tie.MeasureT-loop
 μ-loop out₀ colour₀ opacity₀ entries₀ body tray premultiplied plan g d first to columns total start₀ most₀ out colour opacity entries start most = plan .form .height * plan .form .width - start
@@ -94,12 +97,20 @@ loop-less c =
 
 loop-again : tie.Need-loop-again Inv-loop μ-loop
 loop-again c =
-    let loop = c .before .before .before .before .before .before .before .before .before .before .before .before .before .before .before .before .before .before .loop in
-    let loop-test = c .before .before .before .before .before .before .before .before .before .before .before .before .before .before .before .before .before .loop-test in
-    let min = c .before .before .before .before .before .before .before .before .before .before .before .before .before .before .before .min in
-    let fit-block = c .before .before .before .before .before .before .before .before .before .before .before .before .before .before .fit-block in
     let write-block = c .before .before .before .before .before .before .before .write-block in
-    (omega (arith, fit-block .ensures .1, min .ensures, loop-test .taken), c .next-length .ensures, write-block .kept .0 ∙ loop .inv .2, omega (arith, write-block .kept .1, loop .inv .3), omega (arith, write-block .kept .1, loop .inv .4), fit-block .kept .0 ∙ loop .inv .5, continued-on _ _ _ _ _ _ _ _ _ (loop .inv .6) (write-block .ensures))
+    let after-fit-block = c .before .before .before .before .before .before .before .before .before .before .before .before .before .before in
+    let fit-block = after-fit-block .fit-block in
+    let min = after-fit-block .before .min in
+    let loop-test = after-fit-block .before .before .before .loop-test in
+    let loop = after-fit-block .before .before .before .before .loop in (
+      omega (arith, fit-block .ensures .1, min .ensures, loop-test .taken),
+      c .next-length .ensures,
+      write-block .kept .0 ∙ loop .inv .2,
+      omega (arith, write-block .kept .1, loop .inv .3),
+      omega (arith, write-block .kept .1, loop .inv .4),
+      fit-block .kept .0 ∙ loop .inv .5,
+      continued-on _ _ _ _ _ _ _ _ _ (loop .inv .6) (write-block .ensures),
+    )
 
 same-length : tie.Need-same-length Inv-loop μ-loop
 same-length c = c .before .loop .inv .2

@@ -28,7 +28,12 @@ use Rattle.overlay.proofs.stripes.carry.Reads as carry-reads
 has-part : (c : tie.Else1) → let start = c .before .before .before .before .before .before .before .before .before .before .before in hasPart (start .args .plan .form .format) (start .args .part) ≡ true
 has-part c = sym (c .before .has .ensures) ∙ not-false _ (c .if1 .left)
 
-room : (c : tie.After-bytes-per-sample) → let start = c .before .before .before .before .before .before .before .before .before .before .before .before .before .before .before .before .before in (c .before .plane .result .start + start .args .run .start * c .bytes-per-sample .result + start .args .run .count * c .bytes-per-sample .result ≤ length (now (start .args .out))) × (1 ≤ c .bytes-per-sample .result) × (c .bytes-per-sample .result ≤ 2)
+room : (c : tie.After-bytes-per-sample)
+    → let else1 = c .before .before .before .before .before .before in
+    let start = else1 .before .before .before .before .before .before .before .before .before .before .before in
+    (c .before .plane .result .start + start .args .run .start * c .bytes-per-sample .result + start .args .run .count * c .bytes-per-sample .result
+    ≤ length (now (start .args .out)))
+    × (1 ≤ c .bytes-per-sample .result) × (c .bytes-per-sample .result ≤ 2)
 room c =
     let start = c .before .before .before .before .before .before .before .before .before .before .before .before .before .before .before .before .before in
     let at-if1 = c .before .before .before .before .before .before in
@@ -72,13 +77,16 @@ same-length-2 c = search needs
 returns-2 : tie.Need-returns-2
 unfolding colourStripe fillPart
 returns-2 c =
-    let start = c .before .before .before .before .before .before .before .before .before .before .before .before .before .before .before .before .before .before .before .before .before .before .before .before .before .before in
-    let at-if1 = c .before .before .before .before .before .before .before .before .before .before .before .before .before .before .before in
-    let carry = c .before .before .before .before .before .before .before .before .before .before .before .before .before .carry in
-    let plane = c .before .before .before .before .before .before .before .before .before .before .plane in
-    let bytes-per-sample = c .before .before .before .before .before .before .before .before .before .bytes-per-sample in
     let if2 = c .before .before .before .before .before .if2 in
-    run-written _ _ _ _ _ _ _ _ _ (has-part at-if1) (plane .ensures ∙ ap (λ (t : Frame). planeOf t (start .args .part)) (start .pre .1)) (bytes-per-sample .ensures) (c .before .before .write-solid .ensures .1) (λ j h. colour-solid _ _ _ _ _ _ _ (ready-top (start .pre .0 .canvas)) (if2 .taken) (carry .ensures j h))
+    let after-bytes-per-sample = c .before .before .before .before .before .before .before .before .before in
+    let bytes-per-sample = after-bytes-per-sample .bytes-per-sample in
+    let plane = after-bytes-per-sample .before .plane in
+    let carry = after-bytes-per-sample .before .before .before .before .carry in
+    let else1 = after-bytes-per-sample .before .before .before .before .before .before in
+    let start = else1 .before .before .before .before .before .before .before .before .before .before .before in
+    run-written _ _ _ _ _ _ _ _ _ (has-part else1) (plane .ensures ∙ ap (λ (t : Frame). planeOf t (start .args .part)) (start .pre .1))
+    (bytes-per-sample .ensures) (c .before .before .write-solid .ensures .1)
+    (λ j h. colour-solid _ _ _ _ _ _ _ (ready-top (start .pre .0 .canvas)) (if2 .taken) (carry .ensures j h))
 
 fill-part-requires : tie.Need-fill-part-requires
 fill-part-requires c κs = search needs
@@ -99,13 +107,15 @@ same-length-4 c = search needs
 returns-3 : tie.Need-returns-3
 unfolding colourStripe
 returns-3 c =
-    let start = c .before .before .before .before .before .before .before .before .before .before .before .before .before .before .before .before .before .before .before .before .before .before .before .before .before .before .before in
-    let at-if1 = c .before .before .before .before .before .before .before .before .before .before .before .before .before .before .before .before in
-    let carry = c .before .before .before .before .before .before .before .before .before .before .before .before .before .before .carry in
-    let plane = c .before .before .before .before .before .before .before .before .before .before .before .plane in
-    let bytes-per-sample = c .before .before .before .before .before .before .before .before .before .before .bytes-per-sample in
-    let fill-part = c .before .before .before .fill-part in
-    run-written _ _ _ _ _ _ _ _ _ (has-part at-if1) (plane .ensures ∙ ap (λ (t : Frame). planeOf t (start .args .part)) (start .pre .1)) (bytes-per-sample .ensures) (c .before .before .write-run .ensures .1) (λ j h. colour-run _ _ _ _ _ _ _ _ _ (fill-part .ensures) (carry .ensures j h) (start .pre .5 j h))
+    let after-bytes-per-sample = c .before .before .before .before .before .before .before .before .before .before in
+    let bytes-per-sample = after-bytes-per-sample .bytes-per-sample in
+    let plane = after-bytes-per-sample .before .plane in
+    let carry = after-bytes-per-sample .before .before .before .before .carry in
+    let else1 = after-bytes-per-sample .before .before .before .before .before .before in
+    let start = else1 .before .before .before .before .before .before .before .before .before .before .before in
+    run-written _ _ _ _ _ _ _ _ _ (has-part else1) (plane .ensures ∙ ap (λ (t : Frame). planeOf t (start .args .part)) (start .pre .1))
+    (bytes-per-sample .ensures) (c .before .before .write-run .ensures .1)
+    (λ j h. colour-run _ _ _ _ _ _ _ _ _ (c .before .before .before .fill-part .ensures) (carry .ensures j h) (start .pre .5 j h))
 
 pub write-colour-spec : {M : Type 1} → statement M
 write-colour-spec =
