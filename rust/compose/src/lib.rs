@@ -108,7 +108,8 @@
 //! # On records
 //!
 //! The calls work on records. [`recorded`] has oxideav-heif's operations on frames over records, which
-//! copy nothing beside; a frame of planes is copied into a record and out of one by each call.
+//! copy nothing beside; a frame of planes is copied into a record and out of one by each call. What is
+//! needed for that alone, at most three buffers of up to 16 MiB, a thread keeps for its next call.
 //!
 //! A program can work on the bytes, too: [`record`] says what one holds, [`operation`]
 //! makes another of it, [`tray`] counts several, [`chain`] reads what is to be done to one, and
