@@ -12,8 +12,11 @@ use Rattle.laws.specs.Out.{done}
 use Rattle.laws.specs.Pick.{pick}
 use Rattle.image.specs.Format.{odd}
 use Rattle.sizes.proofs.ApertureLaws.{resolve-holds}
+use Rattle.sizes.proofs.MarginLaws.{around-inside}
+use Rattle.sizes.specs.Margins.{Around}
 use Rattle.props.proofs.ChainLaws.{Applied, fold-same}
 use Rattle.sizes.specs.Sound.{Inside}
+use Rattle.sizes.specs.declared.clap.Crop.{Crop}
 use Rattle.sizes.specs.declared.clap.CropRect.{CropRect}
 use Rattle.props.specs.declared.entry.Property.{Property}
 use Rattle.props.specs.declared.entry.PropertyEntry.{PropertyEntry}
@@ -140,46 +143,46 @@ fate-as s l a b e k = rw e k
 
 module _ (w h : ℕ) (l : Place) (s : Sight) (i : Inside (s .area) w h) where
   -- a crop
-  module _ (r : CropRect) (j : Inside r (finalWidth s) (finalHeight s)) where
+  module _ (q : Crop) (j : Around q (finalWidth s) (finalHeight s)) where
     -- a place of what is left of the rectangle is shown at a place of the crop
-    shown : In (thenCrop s r .area) l → (m : Place) × In r m × (m .x < finalWidth s) × (m .y < finalHeight s) × (back s (m .x) (m .y) ≡ l)
+    shown : In (thenCrop s q .area) l → (m : Place) × In (q .rect) m × (m .x < finalWidth s) × (m .y < finalHeight s) × (back s (m .x) (m .y) ≡ l)
     shown k =
-        let f = front (thenCrop s r) l k in
-        let m = forward (thenCrop s r) l in
-        let a : m .x < r .width = rw (crop-width s r) at (f .across) in
-        let b : m .y < r .height = rw (crop-height s r) at (f .down) in (
-          record { x = r .x + m .x; y = r .y + m .y },
+        let f = front (thenCrop s q) l k in
+        let m = forward (thenCrop s q) l in
+        let a : m .x < q .rect .width = rw (crop-width s q) at (f .across) in
+        let b : m .y < q .rect .height = rw (crop-height s q) at (f .down) in (
+          record { x = q .rect .x + m .x; y = q .rect .y + m .y },
           record { left = omega arith; right = omega arith; top = omega arith; bottom = omega arith },
-          omega (arith, j .across),
-          omega (arith, j .down),
-          sym (crop-back s r j (m .x) (m .y) a b) ∙ f .shows,
+          omega (arith, around-inside q _ _ j .across),
+          omega (arith, around-inside q _ _ j .down),
+          sym (crop-back s q j (m .x) (m .y) a b) ∙ f .shows,
         )
 
-    crop-fate : (p : Carried) → Ends s l p → Ends (thenCrop s r) l (onward (cropPlace r) p)
+    crop-fate : (p : Carried) → Ends s l p → Ends (thenCrop s q) l (onward (cropPlace (q .rect)) p)
     unfolding Ends onward cropPlace
     crop-fate cropped k =
         not-in _ l (λ e.
         let m = shown e in
         both-ways _ (facts-in _ l (in-as (s .area) _ l (m .4) (back-area s w h i _ _ (m .2) (m .3)))) k)
-    crop-fate (kept m) k = by-test (inRect r m) (λ t. fate-as (thenCrop s r) l _ _ (pick-true _ _ _ t) (stayed (in-facts r m t))) (λ t. fate-as (thenCrop s r) l _ _ (pick-false _ _ _ t) (lost t))
+    crop-fate (kept m) k = by-test (inRect (q .rect) m) (λ t. fate-as (thenCrop s q) l _ _ (pick-true _ _ _ t) (stayed (in-facts (q .rect) m t))) (λ t. fate-as (thenCrop s q) l _ _ (pick-false _ _ _ t) (lost t))
       where
-        stayed : In r m → Ends (thenCrop s r) l (kept (record { x = m .x - r .x; y = m .y - r .y }))
+        stayed : In (q .rect) m → Ends (thenCrop s q) l (kept (record { x = m .x - q .rect .x; y = m .y - q .rect .y }))
         stayed n =
-            let a : m .x - r .x < r .width = omega (arith, n .left, n .right) in
-            let b : m .y - r .y < r .height = omega (arith, n .top, n .bottom) in
-            let u : r .x + (m .x - r .x) ≡ m .x = omega (arith, n .left) in
-            let v : r .y + (m .y - r .y) ≡ m .y = omega (arith, n .top) in
-            let across : m .x - r .x < finalWidth (thenCrop s r) = rw (crop-width s r) a in
-            let down : m .y - r .y < finalHeight (thenCrop s r) = rw (crop-height s r) b in
-            let e = crop-back s r j _ _ a b ∙ ap₂ (back s) u v ∙ k .3 in
-            (facts-in _ l (in-as _ _ l e (back-area (thenCrop s r) w h (crop-inside s r w h i j) _ _ across down)), across, down, e)
+            let a : m .x - q .rect .x < q .rect .width = omega (arith, n .left, n .right) in
+            let b : m .y - q .rect .y < q .rect .height = omega (arith, n .top, n .bottom) in
+            let u : q .rect .x + (m .x - q .rect .x) ≡ m .x = omega (arith, n .left) in
+            let v : q .rect .y + (m .y - q .rect .y) ≡ m .y = omega (arith, n .top) in
+            let across : m .x - q .rect .x < finalWidth (thenCrop s q) = rw (crop-width s q) a in
+            let down : m .y - q .rect .y < finalHeight (thenCrop s q) = rw (crop-height s q) b in
+            let e = crop-back s q j _ _ a b ∙ ap₂ (back s) u v ∙ k .3 in
+            (facts-in _ l (in-as _ _ l e (back-area (thenCrop s q) w h (crop-inside s q w h i j) _ _ across down)), across, down, e)
 
-        lost : inRect r m ≡ false → inRect (thenCrop s r .area) l ≡ false
+        lost : inRect (q .rect) m ≡ false → inRect (thenCrop s q .area) l ≡ false
         lost t =
             not-in _ l (λ e.
             let n = shown e in
             let o = back-once s _ _ _ _ (n .2) (n .3) (k .1) (k .2) (n .4 ∙ sym (k .3)) in
-            both-ways _ (facts-in r m (in-as r (n .0) m (place-path (o .0) (o .1)) (n .1))) t)
+            both-ways _ (facts-in (q .rect) m (in-as (q .rect) (n .0) m (place-path (o .0) (o .1)) (n .1))) t)
 
   turn-fate : (a : ℕ) (p : Carried) → Ends s l p → Ends (thenTurn s a) l (onward (λ m. kept (turnPlace (quarterOf a) (finalWidth s) (finalHeight s) m)) p)
   unfolding Ends onward thenTurn

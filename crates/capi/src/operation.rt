@@ -4,12 +4,15 @@ ghost use lib.ListN.{length};
 ghost use Rattle.laws.specs.Out.{answerOf, written};
 ghost use Rattle.transform.specs.Run.{clapRun, cropRun, imirRun, irotRun};
 ghost use Rattle.words.specs.Code.{answerCode};
+ghost use Rattle.words.specs.Properties.{cropBy};
 use props::Imir;
 use props::Irot;
 use sizes::Clap;
+use sizes::Crop;
 use sizes::CropRect;
+use sizes::Margins;
 
-// The part of a record in a rectangle. Refusals: the record's, 9, 17.
+// The part of a record in a rectangle between margins. Refusals: the record's, 9 where they are not those of a crop of its picture, 17.
 #[no_mangle]
 pub extern "C" fn compose_crop(
     record: &[u8],
@@ -17,18 +20,30 @@ pub extern "C" fn compose_crop(
     y: u32,
     width: u32,
     height: u32,
+    left: u32,
+    top: u32,
+    right: u32,
+    bottom: u32,
     out: &mut [u8],
 ) -> u64
-    ensures { λ r. ⌜ (r ≡ answerCode (answerOf (cropRun (now («record» .entry)) (record { x = x; y = y; width = width; height = height }) (length (now (out .entry))))))
-        × (now (out .exit) ≡ written (cropRun (now («record» .entry)) (record { x = x; y = y; width = width; height = height }) (length (now (out .entry)))) (now (out .entry))) ⌝ }
+    ensures { λ r. ⌜ (r ≡ answerCode (answerOf (cropRun (now («record» .entry)) (cropBy x y width height left top right bottom) (length (now (out .entry))))))
+        × (now (out .exit) ≡ written (cropRun (now («record» .entry)) (cropBy x y width height left top right bottom) (length (now (out .entry)))) (now (out .entry))) ⌝ }
 {
     words::answer_code(transform::crop(
         record,
-        CropRect {
-            x,
-            y,
-            width,
-            height,
+        Crop {
+            rect: CropRect {
+                x,
+                y,
+                width,
+                height,
+            },
+            margins: Margins {
+                left,
+                top,
+                right,
+                bottom,
+            },
         },
         out,
     ))

@@ -23,8 +23,8 @@ pub extern "C" fn compose_chain(chain: &[u8]) -> u64
     }
 }
 
-// The rectangle of an aperture in a picture of that size, in 4 words: x, y, width, height. Refusals: clap's; 17 an answer below 4
-// words.
+// The rectangle of an aperture in a picture of that size and the margins about it, in 8 words: x, y, width, height, left, top, right,
+// bottom. Refusals: clap's; 17 an answer below 8 words.
 #[no_mangle]
 pub extern "C" fn compose_clap_resolve(
     width_n: u32,
@@ -53,14 +53,13 @@ pub extern "C" fn compose_clap_resolve(
         vert_off_d,
     };
     let found = clap.resolve(width, height);
-    let Resolved::Rect(q) = found else {
+    let Resolved::Rect(k) = found else {
         return words::refusal_code(found.refusal());
     };
-    if answer.len() < 4 {
+    if answer.len() < 8 {
         return words::refusal_code(Refusal::ROOM);
     }
-    let a = words::put_sides(answer, 0, q.x, q.y);
-    words::put_sides(answer, a, q.width, q.height);
+    words::put_crop(answer, k);
     0
 }
 

@@ -40,7 +40,7 @@ clapEdge n d p q =
       «horiz_off_d» = q;
       «vert_off_n» = 0;
       «vert_off_d» = 1;
-    }) 64 1) (λ r. done (r .x ∷ []))
+    }) 64 1) (λ k. done (k .rect .x ∷ []))
 
 -- the width that an iscl by n / d gives a side
 unfoldable pub isclWidth : ℕ → ℕ → ℕ → Out (List ℕ)

@@ -33,7 +33,8 @@ fn show_clap(n: u32, d: u32) {
         vert_off_d: 1,
     };
     match c.resolve(64, 1) {
-        Resolved::Rect(r) => {
+        Resolved::Rect(k) => {
+            let r = k.rect;
             print_number(r.x);
         }
         Resolved::Refused(e) => {

@@ -14,7 +14,7 @@ use Rattle.motions.specs.Turn.{crop, mirror, quarterOf, turn}
 -- an applied entry: kind 0 is skipped, a clap crops to the rectangle that it resolves to; what an iscl does is handed in
 unfoldable pub picAfter : (Iscl → Pic → Out Pic) → Property → Pic → Out Pic
 picAfter scale Property.Other P = done P
-picAfter scale (Property.Clap c) P = andThen (resolveOf c (P .form .width) (P .form .height)) (λ r. done (crop P r))
+picAfter scale (Property.Clap c) P = andThen (resolveOf c (P .form .width) (P .form .height)) (λ k. done (crop P (k .rect)))
 picAfter scale (Property.Irot k) P = done (turn P (quarterOf (k .angle)))
 picAfter scale (Property.Imir k) P = done (mirror P (odd (k .axis)))
 picAfter scale (Property.Iscl k) P = scale k P

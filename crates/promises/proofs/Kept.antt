@@ -16,9 +16,11 @@ use Rattle.fill.specs.Fill.{fillOf}
 use Rattle.fill.specs.declared.Colour.{Colour}
 use Rattle.fill.specs.declared.Ycbcr.{Ycbcr}
 use Rattle.derived.proofs.OffsetLaws.{offset-is}
-use Rattle.sizes.proofs.ApertureLaws.{resolve-exact, resolve-taken}
+use Rattle.sizes.proofs.ApertureLaws.{resolve-exact, resolve-margins, resolve-taken}
+use Rattle.sizes.proofs.MarginLaws.{around-between, between-around}
 use Rattle.props.proofs.SizeLaws.{chain-sound}
 use Rattle.sizes.proofs.ScaleLaws.{scaled-covers, scaled-least}
+use Rattle.transform.proofs.Runs.{clap-crops, crop-around, crop-refused}
 use Rattle.sight.proofs.Agreement.{covers-some}
 use Rattle.steps_text.proofs.Cases.{example}
 use Rattle.steps_text.proofs.TextLaws.{text-fits, text-prefix}
@@ -53,6 +55,12 @@ kept = record {
   offsetSplit = offset-is;
   clapTaken = resolve-taken;
   clapExact = resolve-exact;
+  clapMargins = resolve-margins;
+  marginsThere = between-around;
+  marginsAlone = around-between;
+  cropTaken = crop-around;
+  cropRefused = crop-refused;
+  clapCrops = clap-crops;
   isclCovers = scaled-covers;
   isclLeast = scaled-least;
   chainWithin = λ flag es z y s e. holds-done SizeSound _ y (chain-sound flag es z s) e;

@@ -8,7 +8,7 @@ use lib.IntN.{subℕ, ℤ}
 use lib.ListN.{drop, getD, length, take}
 use Rattle.laws.specs.Any.{any}
 use Rattle.laws.specs.Ascii.{ascii}
-use Rattle.laws.specs.Out.{Out, done, fitted}
+use Rattle.laws.specs.Out.{Out, andThen, done, fitted, reason, refused}
 use Rattle.laws.specs.Puts.{Bytes}
 use Rattle.numbers.specs.Field.{offsetOf}
 use Rattle.numbers.specs.Number.{numberBytes, readNumber}
@@ -21,7 +21,7 @@ use Rattle.image.specs.declared.format.Part.{Part}
 use Rattle.image.specs.declared.format.Part.the-variants.{Alpha}
 use Rattle.records.specs.declared.record.Frame.{Frame}
 use Rattle.image.specs.declared.size.Size.{Size}
-use Rattle.planes.specs.Bytes.{decode, pictureIn, sizeOf}
+use Rattle.planes.specs.Bytes.{decode, encode, pictureIn, sizeOf}
 use Rattle.planes.specs.Picture.{Agree, Pic, pixel}
 use Rattle.figures.specs.Figure.{AllWithin, figuresOf}
 use Rattle.fill.specs.Fill.{fillOf}
@@ -30,13 +30,18 @@ use Rattle.fill.specs.declared.Ycbcr.{Ycbcr}
 use Rattle.derived.specs.Grid.{gridOf}
 use Rattle.derived.specs.declared.grid.GridDescriptor.{GridDescriptor}
 use Rattle.sizes.specs.Aperture.{ExactRect, resolveOf}
+use Rattle.sizes.specs.Margins.{Around, between}
+use Rattle.sizes.specs.Sound.{Inside}
 use Rattle.props.specs.Chain.{foldChain}
 use Rattle.sizes.specs.Scale.{scaledSide}
 use Rattle.props.specs.Size.{sizeAfter}
 use Rattle.sizes.specs.declared.clap.Clap.{Clap}
+use Rattle.sizes.specs.declared.clap.Crop.{Crop}
 use Rattle.sizes.specs.declared.clap.CropRect.{CropRect}
 use Rattle.props.specs.declared.entry.PropertyEntry.{PropertyEntry}
 use Rattle.motions.specs.Place.{Place}
+use Rattle.motions.specs.Turn.{crop}
+use Rattle.transform.specs.Run.{clapRun, cropRun}
 use Rattle.agreement.specs.Carry.{Tracked}
 use Rattle.sight.specs.declared.Sight.{Sight}
 use Rattle.steps_text.specs.Text.{textOf}
@@ -127,9 +132,22 @@ pub record Promises : Type 0 where
 
   -- "Size is n / d; edge is ((input − size) × offset d + 2 × offset n) / (2 × offset d)": a rectangle is taken just where both are exact
   -- along each axis and it lies in the input
-  pub clapTaken : (c : Clap) (width height : ℕ) (r : CropRect) → resolveOf c width height ≡ done r → ExactRect c width height r
-  pub clapExact : (c : Clap) (width height : ℕ) (r : CropRect) → 0 < c .«width_d» → 0 < c .«horiz_off_d» → 0 < c .«height_d» → 0 < c .«vert_off_d» → ExactRect c width height r
-      → resolveOf c width height ≡ done r
+  pub clapTaken : (c : Clap) (width height : ℕ) (k : Crop) → resolveOf c width height ≡ done k → ExactRect c width height (k .rect)
+  pub clapExact : (c : Clap) (width height : ℕ) (k : Crop) → 0 < c .«width_d» → 0 < c .«horiz_off_d» → 0 < c .«height_d» → 0 < c .«vert_off_d» → ExactRect c width height (k .rect)
+      → Around k width height → resolveOf c width height ≡ done k
+  -- document 02, A1: "Left and top are the rectangle's edges; left + width + right is the input's width, and likewise down"
+  pub clapMargins : (c : Clap) (width height : ℕ) (k : Crop) → resolveOf c width height ≡ done k → Around k width height
+  -- a rectangle of a picture has margins, and no others
+  pub marginsThere : (r : CropRect) (width height : ℕ) → Inside r width height → Around (between r width height) width height
+  pub marginsAlone : (k : Crop) (width height : ℕ) → Around k width height → k ≡ between (k .rect) width height
+  -- "crop refuses 9 also where margins handed in break those rules for its record. Pictures stay the same bytes": one that is taken goes by
+  -- its rectangle alone, and a clap is the crop to the rectangle and the margins that it resolves to
+  pub cropTaken : (s : List ℕ) (fr : Frame) (k : Crop) (room : ℕ) → recordOf s ≡ done fr → Around k (fr .form .width) (fr .form .height)
+      → cropRun s k room ≡ fitted room (encode (crop (decode s fr) (k .rect)))
+  pub cropRefused : (s : List ℕ) (fr : Frame) (k : Crop) (room : ℕ) → recordOf s ≡ done fr → (Around k (fr .form .width) (fr .form .height) → ⊥)
+      → cropRun s k room ≡ refused (reason 9)
+  pub clapCrops : (s : List ℕ) (fr : Frame) (c : Clap) (room : ℕ) → recordOf s ≡ done fr
+      → clapRun s c room ≡ andThen (resolveOf c (fr .form .width) (fr .form .height)) (λ k. cropRun s k room)
   -- "size × n / d rounded up": the least whole number that is not below it
   pub isclCovers : (side num den : ℕ) → 0 < den → side * num ≤ scaledSide side num den * den
   pub isclLeast : (side num den m : ℕ) → 0 < den → side * num ≤ m * den → scaledSide side num den ≤ m

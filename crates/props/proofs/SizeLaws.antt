@@ -42,7 +42,7 @@ unfolding sizeAfter
 size-sound Property.Other z y s e = sound-as z y (done-same z y e) s
 size-sound (Property.Clap c) z y s e =
     let a = andThen-done _ _ y e in
-    clap-sound c z (a .0) y s (resolve-inside c (z .width) (z .height) (a .0) (a .1)) (done-same _ y (a .2))
+    clap-sound c z (a .0 .rect) y s (resolve-inside c (z .width) (z .height) (a .0) (a .1)) (done-same _ y (a .2))
 size-sound (Property.Irot t) z y s e = turn-sound z y (odd (t .angle % 4)) s e
 size-sound (Property.Imir m) z y s e = sound-as z y (done-same z y e) s
 size-sound (Property.Iscl k) z y s e = scale-sound k z y s e

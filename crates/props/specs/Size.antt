@@ -17,7 +17,7 @@ swapped z = record { width = z .height; height = z .width }
 -- irot (ISO/IEC 23008-12, 6.5.10): angle mod 4 quarter turns, of which an odd number exchanges the sides; imir (6.5.12) keeps them
 unfoldable pub sizeAfter : Property → Size → Out Size
 sizeAfter Property.Other z = done z
-sizeAfter (Property.Clap c) z = andThen (resolveOf c (z .width) (z .height)) (λ r. done (record { width = r .width; height = r .height }))
+sizeAfter (Property.Clap c) z = andThen (resolveOf c (z .width) (z .height)) (λ k. done (record { width = k .rect .width; height = k .rect .height }))
 sizeAfter (Property.Irot t) z = pick (odd (t .angle % 4)) (done (swapped z)) (done z)
 sizeAfter (Property.Imir m) z = done z
 sizeAfter (Property.Iscl k) z = scaleOf k (z .width) (z .height)

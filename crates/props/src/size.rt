@@ -16,9 +16,10 @@ impl Property {
             Property::Other => SizeAnswer::Size(size),
             Property::Clap(c) => {
                 let found = c.resolve(size.width, size.height);
-                let Resolved::Rect(r) = found else {
+                let Resolved::Rect(k) = found else {
                     return SizeAnswer::Refused(found.refusal());
                 };
+                let r = k.rect;
                 SizeAnswer::Size(Size {
                     width: r.width,
                     height: r.height,

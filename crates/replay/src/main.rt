@@ -20,8 +20,10 @@ use props::Irot;
 use session::Called;
 use session::Canvas;
 use sizes::Clap;
+use sizes::Crop;
 use sizes::CropRect;
 use sizes::Iscl;
+use sizes::Margins;
 use sizes::Resolved;
 
 // The number at a place, 0 where there is none whole.
@@ -126,6 +128,23 @@ fn clap_of(head: &[u8]) -> Clap {
     }
 }
 
+fn crop_of(head: &[u8]) -> Crop {
+    Crop {
+        rect: CropRect {
+            x: field(head, 0),
+            y: field(head, 1),
+            width: field(head, 2),
+            height: field(head, 3),
+        },
+        margins: Margins {
+            left: field(head, 4),
+            top: field(head, 5),
+            right: field(head, 6),
+            bottom: field(head, 7),
+        },
+    }
+}
+
 fn iscl_of(head: &[u8]) -> Iscl {
     Iscl {
         width_num: short(head, 0),
@@ -152,13 +171,7 @@ fn colour_of(head: &[u8], i: usize) -> Colour {
 // An operation on one record.
 fn on_record(op: u32, head: &[u8], record: &[u8], out: &mut [u8]) -> Answer {
     if op == 1 {
-        let to = CropRect {
-            x: field(head, 0),
-            y: field(head, 1),
-            width: field(head, 2),
-            height: field(head, 3),
-        };
-        return transform::crop(record, to, out);
+        return transform::crop(record, crop_of(head), out);
     }
     if op == 2 {
         return transform::apply_clap(record, clap_of(head), out);
@@ -239,12 +252,13 @@ fn filled_so(head: &[u8], want: &[u8]) -> bool {
     }
 }
 
-// The rectangle that a clap leaves of a size.
+// The rectangle that a clap leaves of a size, with the margins about it.
 fn resolved_so(head: &[u8], want: &[u8]) -> bool {
     let clap = clap_of(head);
     match clap.resolve(field(head, 8), field(head, 9)) {
         Resolved::Refused(e) => refused_so(head, e),
-        Resolved::Rect(r) => {
+        Resolved::Rect(k) => {
+            let r = k.rect;
             if r.x != number_at(want, 0) {
                 return false;
             }
@@ -255,6 +269,9 @@ fn resolved_so(head: &[u8], want: &[u8]) -> bool {
                 return false;
             }
             if r.height != number_at(want, 12) {
+                return false;
+            }
+            if !k.fits(field(head, 8), field(head, 9)) {
                 return false;
             }
             is_taken(head)

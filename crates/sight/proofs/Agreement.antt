@@ -15,11 +15,13 @@ use Rattle.planes.specs.inner.Even.{Even}
 use Rattle.image.specs.declared.format.Form.{Form}
 use Rattle.image.specs.declared.format.Part.{Part}
 use Rattle.sizes.proofs.ApertureLaws.{resolve-holds}
+use Rattle.sizes.proofs.MarginLaws.{around-inside}
 use Rattle.props.proofs.ChainLaws.{Applied}
 use Rattle.sizes.specs.Aperture.{resolveOf}
 use Rattle.props.specs.Chain.{applies, foldChain}
+use Rattle.sizes.specs.Margins.{Around}
 use Rattle.sizes.specs.Sound.{Inside}
-use Rattle.sizes.specs.declared.clap.CropRect.{CropRect}
+use Rattle.sizes.specs.declared.clap.Crop.{Crop}
 use Rattle.props.specs.declared.entry.Property.{Property}
 use Rattle.props.specs.declared.entry.PropertyEntry.{PropertyEntry}
 use Rattle.sizes.specs.declared.iscl.Iscl.{Iscl}
@@ -76,9 +78,9 @@ mirror-turns : (s : Sight) (b : Bool) → thenMirror s b .turns < 4
 unfolding thenMirror
 mirror-turns s b = mirror-below b (s .turns)
 
-crop-turns : (s : Sight) (r : CropRect) → s .turns < 4 → thenCrop s r .turns < 4
+crop-turns : (s : Sight) (k : Crop) → s .turns < 4 → thenCrop s k .turns < 4
 unfolding thenCrop
-crop-turns s r l = l
+crop-turns s k l = l
 
 turn-view : (P Q : Pic) (s : Sight) (a : ℕ) → View P Q s → View P (turn Q (quarterOf a)) (thenTurn s a)
 turn-view P Q s a v =
@@ -94,19 +96,20 @@ mirror-view P Q s b v =
     (λ x y l m. unmirror-in b (finalWidth s) (finalHeight s) x y (rw (mirror-width s b) at l) (rw (mirror-height s b) at m))
     (λ x y l m. mirror-back s b x y (rw (mirror-width s b) at l) (rw (mirror-height s b) at m))
 
-crop-view : (P Q : Pic) (s : Sight) (r : CropRect) → View P Q s → Inside r (finalWidth s) (finalHeight s) → View P (crop Q r) (thenCrop s r)
+crop-view : (P Q : Pic) (s : Sight) (k : Crop) → View P Q s → Around k (finalWidth s) (finalHeight s) → View P (crop Q (k .rect)) (thenCrop s k)
 unfolding uncrop
-crop-view P Q s r v i =
-    view-then P Q (crop Q r) s (thenCrop s r) (uncrop r) v (crop-inside s r _ _ (v .inside) i) (crop-turns s r (v .turns))
-    (rw (crop-width s r, crop-height s r) (crop-shows Q r))
+crop-view P Q s k v i =
+    let j = around-inside k _ _ i in
+    view-then P Q (crop Q (k .rect)) s (thenCrop s k) (uncrop (k .rect)) v (crop-inside s k _ _ (v .inside) i) (crop-turns s k (v .turns))
+    (rw (crop-width s k, crop-height s k) (crop-shows Q (k .rect)))
     (λ x y l m.
-    let a : x < r .width = rw (crop-width s r) at l in
-    let b : y < r .height = rw (crop-height s r) at m in
-    (omega (arith, i .across), omega (arith, i .down)))
-    (λ x y l m. crop-back s r i x y (rw (crop-width s r) at l) (rw (crop-height s r) at m))
+    let a : x < k .rect .width = rw (crop-width s k) at l in
+    let b : y < k .rect .height = rw (crop-height s k) at m in
+    (omega (arith, j .across), omega (arith, j .down)))
+    (λ x y l m. crop-back s k i x y (rw (crop-width s k) at l) (rw (crop-height s k) at m))
 
-inside-as : {w h w′ h′ : ℕ} (r : CropRect) → w ≡ w′ → h ≡ h′ → Inside r w h → Inside r w′ h′
-inside-as r p q i = rw (← p, ← q) i
+around-as : {w h w′ h′ : ℕ} (k : Crop) → w ≡ w′ → h ≡ h′ → Around k w h → Around k w′ h′
+around-as k p q i = rw (← p, ← q) i
 
 -- an entry that the sight does not refuse 18
 pub after-same : (P : Pic) (scale : Iscl → Pic → Out Pic) (e : Property) (Q : Pic) (s : Sight) → View P Q s → (sightAfter e s ≡ refused (reason 18) → ⊥) → Same (View P) (picAfter scale e Q) (sightAfter e s)
@@ -114,8 +117,8 @@ unfolding picAfter sightAfter
 after-same P scale Property.Other Q s v n = both v
 after-same P scale (Property.Clap c) Q s v n =
     rw (← (v .shows .width), ← (v .shows .height))
-    (then-both (λ r. Inside r (Q .form .width) (Q .form .height)) (View P) (resolveOf c (Q .form .width) (Q .form .height)) _ _ (resolve-holds c _ _)
-    (λ r i. both (crop-view P Q s r v (inside-as r (v .shows .width) (v .shows .height) i))))
+    (then-both (λ k. Around k (Q .form .width) (Q .form .height)) (View P) (resolveOf c (Q .form .width) (Q .form .height)) _ _ (resolve-holds c _ _)
+    (λ k i. both (crop-view P Q s k v (around-as k (v .shows .width) (v .shows .height) i))))
 after-same P scale (Property.Irot k) Q s v n = both (turn-view P Q s (k .angle) v)
 after-same P scale (Property.Imir k) Q s v n = both (mirror-view P Q s (odd (k .axis)) v)
 after-same P scale (Property.Iscl k) Q s v n = absurd (n refl)

@@ -9,12 +9,14 @@ use Rattle.laws.proofs.Out.{Holds, holds-done, pick-holds, refuse-no, refuse-ye
 use Rattle.laws.specs.Out.{Out, done, reason, refused}
 use Rattle.laws.specs.Pick.{pick}
 use Rattle.image.specs.Format.{odd}
-use Rattle.sizes.proofs.ApertureLaws.{resolve-holds, resolve-inside}
+use Rattle.sizes.proofs.ApertureLaws.{resolve-holds, resolve-margins}
 use Rattle.props.proofs.ChainLaws.{fold-holds}
 use Rattle.sizes.specs.Aperture.{resolveOf}
 use Rattle.props.specs.Chain.{applies, foldChain}
+use Rattle.sizes.specs.Margins.{Around}
 use Rattle.sizes.specs.Sound.{Inside}
 use Rattle.sizes.specs.declared.clap.Clap.{Clap}
+use Rattle.sizes.specs.declared.clap.Crop.{Crop}
 use Rattle.sizes.specs.declared.clap.CropRect.{CropRect}
 use Rattle.props.specs.declared.entry.Property.{Property}
 use Rattle.props.specs.declared.entry.PropertyEntry.{PropertyEntry}
@@ -22,8 +24,8 @@ use Rattle.motions.proofs.Quarters.{quarter-one, quarter-two, quarter-zero}
 use Rattle.motions.specs.Place.{Place, sideways, swaps, unturn}
 use Rattle.motions.specs.Turn.{Quarter, quarterOf}
 use Rattle.sight.proofs.Quarters.{by-quarter, mirror-below, quarter-3}
-use Rattle.sight.proofs.Turns.{crop-inside, exchange-inside, exchange-row, place-path, unturn-in, unturn-inside}
-use Rattle.sight.specs.Sight.{back, backFrom, boundedSource, cropFrom, exchange, exchangeRect, finalHeight, finalWidth, highOf, mirrorTurns, sourcePlace, sightAfter, sightOf, thenCrop, thenMirror, thenTurn, unturnRect, whole, wideOf, within}
+use Rattle.sight.proofs.Turns.{crop-inside, exchange-row, place-path, unseen-inside, unturn-in}
+use Rattle.sight.specs.Sight.{back, backFrom, boundedSource, cropFrom, exchange, exchangeCrop, finalHeight, finalWidth, highOf, mirrorTurns, sourcePlace, sightAfter, sightOf, thenCrop, thenMirror, thenTurn, unturnCrop, whole, wideOf, within}
 use Rattle.sight.specs.inner.Bounded.{Bounded, Lies}
 use Rattle.sight.specs.declared.CanvasPlace.{CanvasPlace}
 use Rattle.sight.specs.declared.Sight.{Sight}
@@ -49,27 +51,18 @@ final-straight s h = let e = even-swaps (s .turns) h in (ap (λ b. sideways b (s
 -- ---- before the turns
 
 module _ (s : Sight) (q : Quarter) (e : quarterOf (s .turns) ≡ q) where
-  pub inside-by : (c : CropRect) → Inside c (finalWidth s) (finalHeight s) → Inside c (sideways (swaps q) (s .area .width) (s .area .height)) (sideways (swaps q) (s .area .height) (s .area .width))
-  unfolding finalWidth finalHeight wideOf highOf
-  inside-by c i = rw e at i
-
   pub below-by : (x y : ℕ) → (x < finalWidth s) × (y < finalHeight s) → (x < sideways (swaps q) (s .area .width) (s .area .height)) × (y < sideways (swaps q) (s .area .height) (s .area .width))
   unfolding finalWidth finalHeight wideOf highOf
   below-by x y i = rw e at i
 
-  pub rect-by : (c : CropRect) → unturnRect q (s .area .width) (s .area .height) c ≡ unturnRect (quarterOf (s .turns)) (s .area .width) (s .area .height) c
-  rect-by c = ap (λ k. unturnRect k (s .area .width) (s .area .height) c) (sym e)
+  pub crop-by : (k r : Crop) → r ≡ unturnCrop q k → r ≡ unturnCrop (quarterOf (s .turns)) k
+  crop-by k r h = h ∙ ap (λ t. unturnCrop t k) (sym e)
 
   pub place-by : (x y : ℕ) (r : CanvasPlace) → Lies r (unturn q (s .area .width) (s .area .height) x y) → Lies r (unturn (quarterOf (s .turns)) (s .area .width) (s .area .height) x y)
   place-by x y r l = rw e l
 
-pub unturned-inside : (s : Sight) (c d : CropRect) → d ≡ unturnRect (quarterOf (s .turns)) (s .area .width) (s .area .height) c → Inside c (finalWidth s) (finalHeight s)
-    → Inside d (s .area .width) (s .area .height)
-unfolding finalWidth finalHeight wideOf highOf
-unturned-inside s c d e i = rw e (unturn-inside (quarterOf (s .turns)) (s .area .width) (s .area .height) c i)
-
 pub unturned-below : (s : Sight) (x y : ℕ) (r : CanvasPlace) → Lies r (unturn (quarterOf (s .turns)) (s .area .width) (s .area .height) x y) → x < finalWidth s → y < finalHeight s
-    → (r .x + 1 ≤ s .area .width) × (r .y + 1 ≤ s .area .height)
+    → (r .x < s .area .width) × (r .y < s .area .height)
 unfolding finalWidth finalHeight wideOf highOf
 unturned-below s x y r l i j =
     let k = unturn-in (quarterOf (s .turns)) (s .area .width) (s .area .height) x y i j in
@@ -77,34 +70,32 @@ unturned-below s x y r l i j =
 
 -- ---- before the exchange
 
-pub unexchanged-in : (b : Bool) (w edge size x : ℕ) → edge + size ≤ w → x ≡ pick b (w - edge - size) edge → x + size ≤ w
+pub column-in : (b : Bool) (w column x : ℕ) → column < w → x ≡ pick b (w - 1 - column) column → x < w
 unfolding pick
-unexchanged-in true w edge size x h e = omega arith
-unexchanged-in false w edge size x h e = omega arith
+column-in true w column x h e = omega arith
+column-in false w column x h e = omega arith
 
-exchange-rect : (b : Bool) (w : ℕ) (d : CropRect) → _≡_ {A = CropRect} (record { x = pick b (w - d .x - d .width) (d .x); y = d .y; width = d .width; height = d .height }) (exchangeRect b w d)
-unfolding pick exchangeRect
-exchange-rect true w d = refl
-exchange-rect false w d = refl
+pub exchanged-is : (s : Sight) (b : Bool) (k : Crop) → s .exchanged ≡ b → exchangeCrop b k ≡ exchangeCrop (s .exchanged) k
+exchanged-is s b k e = ap (λ t. exchangeCrop t k) (sym e)
 
-exchange-column : (b : Bool) (w : ℕ) (l : Place) → pick b (w - l .x - 1) (l .x) ≡ exchange b w l .x
+exchange-column : (b : Bool) (w : ℕ) (l : Place) → pick b (w - 1 - l .x) (l .x) ≡ exchange b w l .x
 unfolding pick exchange
-exchange-column true w l = omega arith
+exchange-column true w l = refl
 exchange-column false w l = refl
 
 -- ---- what each step makes
 
--- a sight of another rectangle
-abbrev seenAt : Sight → CropRect → Sight
-seenAt s r = record { area = r; exchanged = s .exchanged; turns = s .turns }
+-- a crop, by what it is before the turns and the exchange
+pub unseen-is : (s : Sight) (k d u : Crop) → d ≡ unturnCrop (quarterOf (s .turns)) k → u ≡ exchangeCrop (s .exchanged) d → u ≡ exchangeCrop (s .exchanged) (unturnCrop (quarterOf (s .turns)) k)
+unseen-is s k d u e f = f ∙ ap (exchangeCrop (s .exchanged)) e
 
-pub cropped-is : (s : Sight) (c d : CropRect) (x : ℕ) → d ≡ unturnRect (quarterOf (s .turns)) (s .area .width) (s .area .height) c → x ≡ pick (s .exchanged) (s .area .width - d .x - d .width) (d .x)
-    → _≡_ {A = Sight} (record { area = record { x = s .area .x + x; y = s .area .y + d .y; width = d .width; height = d .height }; exchanged = s .exchanged; turns = s .turns }) (thenCrop s c)
+pub unseen-in : (s : Sight) (k u : Crop) → u ≡ exchangeCrop (s .exchanged) (unturnCrop (quarterOf (s .turns)) k) → Around k (finalWidth s) (finalHeight s) → Inside (u .rect) (s .area .width) (s .area .height)
+unseen-in s k u e a = rw e (unseen-inside s k a)
+
+pub cropped-is : (s : Sight) (k u : Crop) → u ≡ exchangeCrop (s .exchanged) (unturnCrop (quarterOf (s .turns)) k)
+    → _≡_ {A = Sight} (record { area = record { x = s .area .x + u .rect .x; y = s .area .y + u .rect .y; width = u .rect .width; height = u .rect .height }; exchanged = s .exchanged; turns = s .turns }) (thenCrop s k)
 unfolding thenCrop cropFrom within
-cropped-is s c d x e f =
-    ap (λ (k : ℕ). seenAt s (within (s .area) (record { x = k; y = d .y; width = d .width; height = d .height }))) f
-    ∙ ap (λ t. seenAt s (within (s .area) t)) (exchange-rect (s .exchanged) (s .area .width) d)
-    ∙ ap (λ t. seenAt s (within (s .area) (exchangeRect (s .exchanged) (s .area .width) t))) e
+cropped-is s k u e = ap (λ (t : Crop). record { area = within (s .area) (t .rect); exchanged = s .exchanged; turns = s .turns }) e
 
 pub turned-is : (s : Sight) (a : ℕ) → _≡_ {A = Sight} (record { area = s .area; exchanged = s .exchanged; turns = (s .turns % 4 + a) % 4 }) (thenTurn s a)
 unfolding thenTurn
@@ -120,11 +111,11 @@ upright-is s b e = ap (thenMirror s) (sym e)
 
 -- ---- a clap, resolved in the final size
 
-pub clap-at : (s : Sight) (c : Clap) (w h : ℕ) (o : Out CropRect) → w ≡ finalWidth s → h ≡ finalHeight s → resolveOf c w h ≡ o → resolveOf c (finalWidth s) (finalHeight s) ≡ o
+pub clap-at : (s : Sight) (c : Clap) (w h : ℕ) (o : Out Crop) → w ≡ finalWidth s → h ≡ finalHeight s → resolveOf c w h ≡ o → resolveOf c (finalWidth s) (finalHeight s) ≡ o
 clap-at s c w h o p q e = ap₂ (resolveOf c) (sym p) (sym q) ∙ e
 
-pub clap-inside : (s : Sight) (c : Clap) (w h : ℕ) (r : CropRect) → w ≡ finalWidth s → h ≡ finalHeight s → resolveOf c w h ≡ done r → Inside r (finalWidth s) (finalHeight s)
-clap-inside s c w h r p q e = resolve-inside c _ _ r (clap-at s c w h (done r) p q e)
+pub clap-around : (s : Sight) (c : Clap) (w h : ℕ) (k : Crop) → w ≡ finalWidth s → h ≡ finalHeight s → resolveOf c w h ≡ done k → Around k (finalWidth s) (finalHeight s)
+clap-around s c w h k p q e = resolve-margins c _ _ k (clap-at s c w h (done k) p q e)
 
 -- ---- a place
 
@@ -141,11 +132,11 @@ unfolding sourcePlace
 place-in s x y i j = refuse-no _ _ (lt-leb (finalWidth s) x i) ∙ refuse-no _ _ (lt-leb (finalHeight s) y j)
 
 pub place-found : (s : Sight) (x y k : ℕ) (r : CanvasPlace) → x < finalWidth s → y < finalHeight s → Lies r (unturn (quarterOf (s .turns)) (s .area .width) (s .area .height) x y)
-    → k ≡ pick (s .exchanged) (s .area .width - r .x - 1) (r .x) → _≡_ {A = Out Place} (done (record { x = s .area .x + k; y = s .area .y + r .y })) (sourcePlace s x y)
+    → k ≡ pick (s .exchanged) (s .area .width - 1 - r .x) (r .x) → _≡_ {A = Out Place} (done (record { x = s .area .x + k; y = s .area .y + r .y })) (sourcePlace s x y)
 unfolding back backFrom
 place-found s x y k r i j l e =
     let u = unturn (quarterOf (s .turns)) (s .area .width) (s .area .height) x y in
-    let p : k ≡ exchange (s .exchanged) (s .area .width) u .x = e ∙ ap (λ (n : ℕ). pick (s .exchanged) (s .area .width - n - 1) n) (l .x) ∙ exchange-column (s .exchanged) (s .area .width) u in
+    let p : k ≡ exchange (s .exchanged) (s .area .width) u .x = e ∙ ap (λ (n : ℕ). pick (s .exchanged) (s .area .width - 1 - n) n) (l .x) ∙ exchange-column (s .exchanged) (s .area .width) u in
     let q : r .y ≡ exchange (s .exchanged) (s .area .width) u .y = l .y ∙ sym (exchange-row (s .exchanged) (s .area .width) u) in
     ap done (place-path (ap (λ (n : ℕ). s .area .x + n) p) (ap (λ (n : ℕ). s .area .y + n) q)) ∙ sym (place-in s x y i j)
 
@@ -168,17 +159,16 @@ bounded-within : (r d : CropRect) → Bounded r → Inside d (r .width) (r .heig
 unfolding within
 bounded-within r d b i = record { across = omega (arith, b .across, i .across); down = omega (arith, b .down, i .down) }
 
-crop-bounded : (s : Sight) (c : CropRect) → Bounded (s .area) → Inside c (finalWidth s) (finalHeight s) → Bounded (thenCrop s c .area)
-unfolding finalWidth finalHeight wideOf highOf thenCrop cropFrom
-crop-bounded s c b i =
-    bounded-within (s .area) _ b (exchange-inside (s .exchanged) (s .area .width) (s .area .height) _ (unturn-inside (quarterOf (s .turns)) (s .area .width) (s .area .height) c i))
+crop-bounded : (s : Sight) (k : Crop) → Bounded (s .area) → Around k (finalWidth s) (finalHeight s) → Bounded (thenCrop s k .area)
+unfolding thenCrop cropFrom
+crop-bounded s k b a = bounded-within (s .area) _ b (unseen-inside s k a)
 
 -- what a crop keeps of the rectangle, an entry keeps
-after-keeps : (I : CropRect → Type 0) → ((s : Sight) (c : CropRect) → I (s .area) → Inside c (finalWidth s) (finalHeight s) → I (thenCrop s c .area))
+after-keeps : (I : CropRect → Type 0) → ((s : Sight) (k : Crop) → I (s .area) → Around k (finalWidth s) (finalHeight s) → I (thenCrop s k .area))
     → (p : Property) (s : Sight) → I (s .area) → Holds (λ u. I (u .area)) (sightAfter p s)
 unfolding sightAfter Holds thenTurn thenMirror
 after-keeps I k Property.Other s i = i
-after-keeps I k (Property.Clap c) s i = then-holds (λ r. Inside r (finalWidth s) (finalHeight s)) _ _ _ (resolve-holds c (finalWidth s) (finalHeight s)) (λ r j. k s r i j)
+after-keeps I k (Property.Clap c) s i = then-holds (λ r. Around r (finalWidth s) (finalHeight s)) _ _ _ (resolve-holds c (finalWidth s) (finalHeight s)) (λ r j. k s r i j)
 after-keeps I k (Property.Irot t) s i = i
 after-keeps I k (Property.Imir m) s i = i
 after-keeps I k (Property.Iscl t) s i = tt
@@ -217,7 +207,7 @@ sight-inside es flag w h i j =
 after-turns : (p : Property) (s : Sight) → s .turns < 4 → Holds (λ u. u .turns < 4) (sightAfter p s)
 unfolding sightAfter Holds thenTurn thenMirror thenCrop
 after-turns Property.Other s i = i
-after-turns (Property.Clap c) s i = then-holds (λ r. Inside r (finalWidth s) (finalHeight s)) _ _ _ (resolve-holds c (finalWidth s) (finalHeight s)) (λ r j. i)
+after-turns (Property.Clap c) s i = then-holds (λ r. Around r (finalWidth s) (finalHeight s)) _ _ _ (resolve-holds c (finalWidth s) (finalHeight s)) (λ r j. i)
 after-turns (Property.Irot k) s i = omega arith
 after-turns (Property.Imir k) s i = mirror-below (odd (k .axis)) (s .turns)
 after-turns (Property.Iscl k) s i = tt

@@ -3,13 +3,16 @@ use mathlib.Core.Bool.{Bool, false, not, true}
 use mathlib.Core.Path.{_∙_, _≡_, ap, refl, sym}
 use Prim.Native.Nat.{_+_, _-_, _<_, _≤_, ℕ}
 use native.Mathlib.Omega.{arith}
+use Rattle.sizes.proofs.MarginLaws.{around-inside}
+use Rattle.sizes.specs.Margins.{Around}
 use Rattle.sizes.specs.Sound.{Inside}
+use Rattle.sizes.specs.declared.clap.Crop.{Crop}
 use Rattle.sizes.specs.declared.clap.CropRect.{CropRect}
 use Rattle.motions.specs.Place.{Place, sideways, swaps, unturn}
 use Rattle.motions.specs.inner.Shows.{unmirror}
 use Rattle.motions.specs.Turn.{Quarter, q0, q1, q2, q3, quarterOf}
 use Rattle.sight.proofs.Quarters.{flipped, next, plus, quarter-mirror, quarter-sum}
-use Rattle.sight.specs.Sight.{back, backFrom, cropFrom, exchange, exchangeRect, finalHeight, finalWidth, highOf, thenCrop, thenMirror, thenTurn, unturnRect, wideOf, within}
+use Rattle.sight.specs.Sight.{back, backFrom, cropFrom, exchange, exchangeCrop, finalHeight, finalWidth, highOf, thenCrop, thenMirror, thenTurn, quarterBack, unturnCrop, wideOf, within}
 use Rattle.sight.specs.declared.Sight.{Sight}
 
 pub place-path : {l m : Place} → l .x ≡ m .x → l .y ≡ m .y → l ≡ m
@@ -123,62 +126,63 @@ mirror-places false q3 w h x y l n = place-path (omega arith) (omega arith)
 
 -- ---- a further crop, by its parts
 
-near : (w a b : ℕ) → a + b ≤ w → w - (w - a - b) - b ≡ a
-near w a b h = omega arith
-
 again : (w x : ℕ) → x < w → w - 1 - (w - 1 - x) ≡ x
 again w x h = omega arith
 
--- exchanged twice along one axis
-twice : (r w a b x : ℕ) → a + b ≤ w → x < b → r + (w - (w - a - b) - b) + (b - 1 - (b - 1 - x)) ≡ r + (w - 1 - (w - 1 - (a + x)))
-twice r w a b x h l = rw (near w a b h, again b x l, again w (a + x) (omega arith)) (omega arith)
+-- exchanged twice along one axis, whose part of b pixels lies between the margins a and c
+twice : (r w a b c x : ℕ) → a + b + c ≡ w → x < b → r + a + (b - 1 - (b - 1 - x)) ≡ r + (w - 1 - (w - 1 - (a + x)))
+twice r w a b c x e l = rw (again b x l, again w (a + x) (omega arith)) (omega arith)
 
-crop-places : (m : Bool) (q : Quarter) (r c : CropRect) (x y : ℕ) → c .x + c .width ≤ wideOf q r → c .y + c .height ≤ highOf q r → x < c .width → y < c .height
-    → backFrom (cropFrom r m q c) m q x y ≡ backFrom r m q (c .x + x) (c .y + y)
-unfolding backFrom cropFrom within exchange exchangeRect unturn unturnRect wideOf highOf sideways swaps
-crop-places true q0 r c x y i j l n = place-path (omega arith) (omega arith)
-crop-places true q1 r c x y i j l n = place-path (twice (r .x) (r .width) (c .y) (c .height) y j n) (omega arith)
-crop-places true q2 r c x y i j l n = place-path (twice (r .x) (r .width) (c .x) (c .width) x i l) (omega arith)
-crop-places true q3 r c x y i j l n = place-path (omega arith) (omega arith)
-crop-places false q0 r c x y i j l n = place-path (omega arith) (omega arith)
-crop-places false q1 r c x y i j l n = place-path (omega arith) (omega arith)
-crop-places false q2 r c x y i j l n = place-path (omega arith) (omega arith)
-crop-places false q3 r c x y i j l n = place-path (omega arith) (omega arith)
+crop-places : (m : Bool) (q : Quarter) (r : CropRect) (k : Crop) (x y : ℕ) → Around k (wideOf q r) (highOf q r) → x < k .rect .width → y < k .rect .height
+    → backFrom (cropFrom r m q k) m q x y ≡ backFrom r m q (k .rect .x + x) (k .rect .y + y)
+unfolding backFrom cropFrom within exchange exchangeCrop unturn unturnCrop quarterBack wideOf highOf sideways swaps
+crop-places true q0 r k x y a l n = place-path (omega (arith, a .left, a .across)) (omega arith)
+crop-places true q1 r k x y a l n = rw (← (a .top)) (place-path (twice (r .x) (r .width) (k .margins .top) (k .rect .height) (k .margins .bottom) y (a .down) n) (omega (arith, a .left)))
+crop-places true q2 r k x y a l n = rw (← (a .left)) (place-path (twice (r .x) (r .width) (k .margins .left) (k .rect .width) (k .margins .right) x (a .across) l) (omega (arith, a .top, a .down)))
+crop-places true q3 r k x y a l n = place-path (omega (arith, a .top, a .down)) (omega (arith, a .left, a .across))
+crop-places false q0 r k x y a l n = place-path (omega arith) (omega arith)
+crop-places false q1 r k x y a l n = place-path (omega (arith, a .top, a .down)) (omega (arith, a .left))
+crop-places false q2 r k x y a l n = place-path (omega (arith, a .left, a .across)) (omega (arith, a .top, a .down))
+crop-places false q3 r k x y a l n = place-path (omega (arith, a .top)) (omega (arith, a .left, a .across))
 
-crop-wide : (m : Bool) (q : Quarter) (r c : CropRect) → wideOf q (cropFrom r m q c) ≡ c .width
-unfolding wideOf sideways swaps cropFrom within exchangeRect unturnRect
-crop-wide true q0 r c = refl
-crop-wide true q1 r c = refl
-crop-wide true q2 r c = refl
-crop-wide true q3 r c = refl
-crop-wide false q0 r c = refl
-crop-wide false q1 r c = refl
-crop-wide false q2 r c = refl
-crop-wide false q3 r c = refl
+crop-wide : (m : Bool) (q : Quarter) (r : CropRect) (k : Crop) → wideOf q (cropFrom r m q k) ≡ k .rect .width
+unfolding wideOf sideways swaps cropFrom within exchangeCrop unturnCrop quarterBack
+crop-wide true q0 r k = refl
+crop-wide true q1 r k = refl
+crop-wide true q2 r k = refl
+crop-wide true q3 r k = refl
+crop-wide false q0 r k = refl
+crop-wide false q1 r k = refl
+crop-wide false q2 r k = refl
+crop-wide false q3 r k = refl
 
-crop-high : (m : Bool) (q : Quarter) (r c : CropRect) → highOf q (cropFrom r m q c) ≡ c .height
-unfolding highOf sideways swaps cropFrom within exchangeRect unturnRect
-crop-high true q0 r c = refl
-crop-high true q1 r c = refl
-crop-high true q2 r c = refl
-crop-high true q3 r c = refl
-crop-high false q0 r c = refl
-crop-high false q1 r c = refl
-crop-high false q2 r c = refl
-crop-high false q3 r c = refl
+crop-high : (m : Bool) (q : Quarter) (r : CropRect) (k : Crop) → highOf q (cropFrom r m q k) ≡ k .rect .height
+unfolding highOf sideways swaps cropFrom within exchangeCrop unturnCrop quarterBack
+crop-high true q0 r k = refl
+crop-high true q1 r k = refl
+crop-high true q2 r k = refl
+crop-high true q3 r k = refl
+crop-high false q0 r k = refl
+crop-high false q1 r k = refl
+crop-high false q2 r k = refl
+crop-high false q3 r k = refl
 
--- where it lies before the turns, before the exchange, and in the picture
-pub unturn-inside : (q : Quarter) (w h : ℕ) (c : CropRect) → Inside c (sideways (swaps q) w h) (sideways (swaps q) h w) → Inside (unturnRect q w h c) w h
-unfolding sideways swaps unturnRect
-unturn-inside q0 w h c j = j
-unturn-inside q1 w h c j = record { across = omega (arith, j .down); down = omega (arith, j .across); wide = j .tall; tall = j .wide }
-unturn-inside q2 w h c j = record { across = omega (arith, j .across); down = omega (arith, j .down); wide = j .wide; tall = j .tall }
-unturn-inside q3 w h c j = record { across = omega (arith, j .down); down = omega (arith, j .across); wide = j .tall; tall = j .wide }
+-- it is one of the picture before a turn, before the turns and before the exchange; and where it lies in the picture
+turn-around : (k : Crop) (w h : ℕ) → Around k w h → Around (quarterBack k) h w
+unfolding quarterBack
+turn-around k w h a = record { left = refl; top = refl; across = omega (arith, a .down); down = a .across; wide = a .tall; tall = a .wide }
 
-pub exchange-inside : (m : Bool) (w h : ℕ) (c : CropRect) → Inside c w h → Inside (exchangeRect m w c) w h
-unfolding exchangeRect
-exchange-inside true w h c j = record { across = omega (arith, j .across); down = j .down; wide = j .wide; tall = j .tall }
-exchange-inside false w h c j = j
+unturn-around : (q : Quarter) (w h : ℕ) (k : Crop) → Around k (sideways (swaps q) w h) (sideways (swaps q) h w) → Around (unturnCrop q k) w h
+unfolding sideways swaps unturnCrop
+unturn-around q0 w h k a = a
+unturn-around q1 w h k a = turn-around _ _ _ a
+unturn-around q2 w h k a = turn-around _ _ _ (turn-around _ _ _ a)
+unturn-around q3 w h k a = turn-around _ _ _ (turn-around _ _ _ (turn-around _ _ _ a))
+
+exchange-around : (m : Bool) (w h : ℕ) (k : Crop) → Around k w h → Around (exchangeCrop m k) w h
+unfolding exchangeCrop
+exchange-around true w h k a = record { left = refl; top = a .top; across = omega (arith, a .across); down = a .down; wide = a .wide; tall = a .tall }
+exchange-around false w h k a = a
 
 within-inside : (r d : CropRect) (w h : ℕ) → Inside r w h → Inside d (r .width) (r .height) → Inside (within r d) w h
 unfolding within
@@ -202,13 +206,13 @@ pub mirror-height : (s : Sight) (b : Bool) → finalHeight (thenMirror s b) ≡ 
 unfolding finalHeight highOf thenMirror
 mirror-height s b = ap (λ q. sideways (swaps q) (s .area .height) (s .area .width)) (quarter-mirror b (s .turns)) ∙ mirror-sides b (quarterOf (s .turns)) _ _
 
-pub crop-width : (s : Sight) (c : CropRect) → finalWidth (thenCrop s c) ≡ c .width
+pub crop-width : (s : Sight) (k : Crop) → finalWidth (thenCrop s k) ≡ k .rect .width
 unfolding finalWidth thenCrop
-crop-width s c = crop-wide (s .exchanged) (quarterOf (s .turns)) (s .area) c
+crop-width s k = crop-wide (s .exchanged) (quarterOf (s .turns)) (s .area) k
 
-pub crop-height : (s : Sight) (c : CropRect) → finalHeight (thenCrop s c) ≡ c .height
+pub crop-height : (s : Sight) (k : Crop) → finalHeight (thenCrop s k) ≡ k .rect .height
 unfolding finalHeight thenCrop
-crop-height s c = crop-high (s .exchanged) (quarterOf (s .turns)) (s .area) c
+crop-height s k = crop-high (s .exchanged) (quarterOf (s .turns)) (s .area) k
 
 -- a place before an exchange, in the picture
 unfoldable shifted : CropRect → Bool → Place → Place
@@ -234,15 +238,19 @@ mirror-back s b x y i j =
     (exchange-again (s .exchanged) w (unturn (flipped b q) w h x y) (unturn-in (flipped b q) w h x y (rw (mirror-sides b q w h) i) (rw (mirror-sides b q h w) j) .0)
     ∙ ap (exchange (s .exchanged) w) (mirror-places b q w h x y i j))
 
-pub crop-back : (s : Sight) (c : CropRect) → Inside c (finalWidth s) (finalHeight s) → (x y : ℕ) → x < c .width → y < c .height
-    → back (thenCrop s c) x y ≡ back s (c .x + x) (c .y + y)
+pub crop-back : (s : Sight) (k : Crop) → Around k (finalWidth s) (finalHeight s) → (x y : ℕ) → x < k .rect .width → y < k .rect .height
+    → back (thenCrop s k) x y ≡ back s (k .rect .x + x) (k .rect .y + y)
 unfolding back finalWidth finalHeight thenCrop
-crop-back s c i x y l m = crop-places (s .exchanged) (quarterOf (s .turns)) (s .area) c x y (i .across) (i .down) l m
+crop-back s k a x y l m = crop-places (s .exchanged) (quarterOf (s .turns)) (s .area) k x y a l m
 
-pub crop-inside : (s : Sight) (c : CropRect) (w h : ℕ) → Inside (s .area) w h → Inside c (finalWidth s) (finalHeight s) → Inside (thenCrop s c .area) w h
-unfolding finalWidth finalHeight wideOf highOf thenCrop cropFrom
-crop-inside s c w h i j =
-    within-inside (s .area) _ w h i (exchange-inside (s .exchanged) (s .area .width) (s .area .height) _ (unturn-inside (quarterOf (s .turns)) (s .area .width) (s .area .height) c j))
+-- a crop before the turns and the exchange lies in the rectangle, and so what is left of it
+pub unseen-inside : (s : Sight) (k : Crop) → Around k (finalWidth s) (finalHeight s) → Inside (exchangeCrop (s .exchanged) (unturnCrop (quarterOf (s .turns)) k) .rect) (s .area .width) (s .area .height)
+unfolding finalWidth finalHeight wideOf highOf
+unseen-inside s k a = around-inside _ _ _ (exchange-around (s .exchanged) _ _ _ (unturn-around (quarterOf (s .turns)) (s .area .width) (s .area .height) k a))
+
+pub crop-inside : (s : Sight) (k : Crop) (w h : ℕ) → Inside (s .area) w h → Around k (finalWidth s) (finalHeight s) → Inside (thenCrop s k .area) w h
+unfolding thenCrop cropFrom
+crop-inside s k w h i a = within-inside (s .area) _ w h i (unseen-inside s k a)
 
 -- a final place shows a place of the rectangle
 pub back-in : (s : Sight) (w h : ℕ) → Inside (s .area) w h → (x y : ℕ) → x < finalWidth s → y < finalHeight s → (back s x y .x < w) × (back s x y .y < h)

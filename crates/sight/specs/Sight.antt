@@ -8,6 +8,7 @@ use Rattle.laws.specs.Out.{Out, andThen, done, reason, refuse, refused}
 use Rattle.image.specs.Format.{odd}
 use Rattle.sizes.specs.Aperture.{resolveOf}
 use Rattle.props.specs.Chain.{foldChain}
+use Rattle.sizes.specs.declared.clap.Crop.{Crop}
 use Rattle.sizes.specs.declared.clap.CropRect.{CropRect}
 use Rattle.props.specs.declared.entry.Property.{Property}
 use Rattle.props.specs.declared.entry.PropertyEntry.{PropertyEntry}
@@ -63,27 +64,38 @@ boundedSource s x y =
 
 -- ---- what an entry makes of a sight
 
--- where a rectangle of the final picture lies before the turns of a picture w by h, and before the exchange
-unfoldable pub unturnRect : Quarter → ℕ → ℕ → CropRect → CropRect
-unturnRect q0 w h c = c
-unturnRect q1 w h c = record { x = w - c .y - c .height; y = c .x; width = c .height; height = c .width }
-unturnRect q2 w h c = record { x = w - c .x - c .width; y = h - c .y - c .height; width = c .width; height = c .height }
-unturnRect q3 w h c = record { x = c .y; y = h - c .x - c .width; width = c .height; height = c .width }
+-- a crop before a quarter turn: its margins turn with it, so that left was bottom, top was left, right was top, bottom was right
+-- (document 02, A1)
+unfoldable pub quarterBack : Crop → Crop
+quarterBack k = record {
+  rect = record { x = k .margins .bottom; y = k .margins .left; width = k .rect .height; height = k .rect .width };
+  margins = record { left = k .margins .bottom; top = k .margins .left; right = k .margins .top; bottom = k .margins .right };
+}
 
-unfoldable pub exchangeRect : Bool → ℕ → CropRect → CropRect
-exchangeRect true w c = record { x = w - c .x - c .width; y = c .y; width = c .width; height = c .height }
-exchangeRect false w c = c
+-- a crop of the final picture before the turns, and before the exchange
+unfoldable pub unturnCrop : Quarter → Crop → Crop
+unturnCrop q0 k = k
+unturnCrop q1 k = quarterBack k
+unturnCrop q2 k = quarterBack (quarterBack k)
+unturnCrop q3 k = quarterBack (quarterBack (quarterBack k))
+
+unfoldable pub exchangeCrop : Bool → Crop → Crop
+exchangeCrop true k = record {
+  rect = record { x = k .margins .right; y = k .rect .y; width = k .rect .width; height = k .rect .height };
+  margins = record { left = k .margins .right; top = k .margins .top; right = k .margins .left; bottom = k .margins .bottom };
+}
+exchangeCrop false k = k
 
 -- the rectangle d of the rectangle r
 unfoldable pub within : CropRect → CropRect → CropRect
 within r d = record { x = r .x + d .x; y = r .y + d .y; width = d .width; height = d .height }
 
-unfoldable pub cropFrom : CropRect → Bool → Quarter → CropRect → CropRect
-cropFrom r m q c = within r (exchangeRect m (r .width) (unturnRect q (r .width) (r .height) c))
+unfoldable pub cropFrom : CropRect → Bool → Quarter → Crop → CropRect
+cropFrom r m q k = within r (exchangeCrop m (unturnCrop q k) .rect)
 
--- clap: the rectangle c of what is seen stays
-unfoldable pub thenCrop : Sight → CropRect → Sight
-thenCrop s c = record { area = cropFrom (s .area) (s .exchanged) (quarterOf (s .turns)) c; exchanged = s .exchanged; turns = s .turns }
+-- clap: the rectangle of what is seen stays
+unfoldable pub thenCrop : Sight → Crop → Sight
+thenCrop s k = record { area = cropFrom (s .area) (s .exchanged) (quarterOf (s .turns)) k; exchanged = s .exchanged; turns = s .turns }
 
 -- irot: so many quarter turns more
 unfoldable pub thenTurn : Sight → ℕ → Sight
@@ -100,7 +112,7 @@ thenMirror s b = record { area = s .area; exchanged = not (s .exchanged); turns 
 -- an applied entry: a clap's rectangle is that of the current final size, with its refusals; an iscl is refused 18
 unfoldable pub sightAfter : Property → Sight → Out Sight
 sightAfter Property.Other s = done s
-sightAfter (Property.Clap c) s = andThen (resolveOf c (finalWidth s) (finalHeight s)) (λ r. done (thenCrop s r))
+sightAfter (Property.Clap c) s = andThen (resolveOf c (finalWidth s) (finalHeight s)) (λ k. done (thenCrop s k))
 sightAfter (Property.Irot k) s = done (thenTurn s (k .angle))
 sightAfter (Property.Imir k) s = done (thenMirror s (odd (k .axis)))
 sightAfter (Property.Iscl k) s = refused (reason 18)

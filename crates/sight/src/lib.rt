@@ -5,17 +5,19 @@ ghost use Rattle.laws.specs.Out.{done, andThen};
 ghost use Rattle.laws.specs.Pick.{pick};
 ghost use Rattle.props.specs.Chain.{applies, entriesAt};
 ghost use Rattle.props.specs.inner.Judged.{Judged};
-ghost use Rattle.sizes.specs.Sound.{Inside};
+ghost use Rattle.sizes.specs.Margins.{Around};
 ghost use Rattle.motions.specs.Place.{unturn};
 ghost use Rattle.motions.specs.Turn.{quarterOf};
-ghost use Rattle.sight.specs.Sight.{whole, finalWidth, finalHeight, unturnRect, thenCrop, thenTurn, thenMirror, sightAfter, sightOf, sourcePlace, boundedSource, sightOut, placeOut};
+ghost use Rattle.sight.specs.Sight.{whole, finalWidth, finalHeight, quarterBack, unturnCrop, exchangeCrop, thenCrop, thenTurn, thenMirror, sightAfter, sightOf, sourcePlace, boundedSource, sightOut, placeOut};
 ghost use Rattle.sight.specs.inner.Bounded.{Bounded, Lies};
 use laws::Refusal;
 use props::Chain;
 use props::EntryRead;
 use props::Property;
 use props::PropertyEntry;
+use sizes::Crop;
 use sizes::CropRect;
+use sizes::Margins;
 use sizes::Resolved;
 
 // A rectangle of a picture, its left and right exchanged or not, then 0 to 3 quarter turns anticlockwise.
@@ -39,6 +41,28 @@ pub struct CanvasPlace {
 pub enum PlaceRead {
     Place(CanvasPlace),
     Refused(Refusal),
+}
+
+// A crop before a quarter turn: its left margin was the bottom, its top the left, its right the top, its bottom the right.
+fn quarter_back(k: Crop) -> Crop
+    ensures { λ r. ⌜ r ≡ quarterBack k ⌝ }
+{
+    let r = k.rect;
+    let m = k.margins;
+    Crop {
+        rect: CropRect {
+            x: m.bottom,
+            y: m.left,
+            width: r.height,
+            height: r.width,
+        },
+        margins: Margins {
+            left: m.bottom,
+            top: m.left,
+            right: m.top,
+            bottom: m.right,
+        },
+    }
 }
 
 impl Sight {
@@ -79,66 +103,64 @@ impl Sight {
         area.height
     }
 
-    // Where a rectangle of what is seen lies before the turns.
-    fn unturned(self, c: CropRect) -> CropRect
-        requires { ⌜ Inside c (finalWidth self) (finalHeight self) ⌝ }
-        ensures { λ r. ⌜ r ≡ unturnRect (quarterOf (self .turns)) (self .area .width) (self .area .height) c ⌝ }
+    // A crop of what is seen, before the turns.
+    fn unturned(self, k: Crop) -> Crop
+        ensures { λ r. ⌜ r ≡ unturnCrop (quarterOf (self .turns)) k ⌝ }
     {
-        let area = self.area;
         let turns = self.turns % 4;
         if turns == 0 {
-            return c;
+            return k;
         }
+        let once = quarter_back(k);
         if turns == 1 {
-            return CropRect {
-                x: area.width - c.y - c.height,
-                y: c.x,
-                width: c.height,
-                height: c.width,
-            };
+            return once;
         }
+        let twice = quarter_back(once);
         if turns == 2 {
-            return CropRect {
-                x: area.width - c.x - c.width,
-                y: area.height - c.y - c.height,
-                width: c.width,
-                height: c.height,
+            return twice;
+        }
+        quarter_back(twice)
+    }
+
+    // The same before the exchange.
+    fn unexchanged(self, k: Crop) -> Crop
+        ensures { λ r. ⌜ r ≡ exchangeCrop (self .exchanged) k ⌝ }
+    {
+        let r = k.rect;
+        let m = k.margins;
+        if self.exchanged {
+            return Crop {
+                rect: CropRect {
+                    x: m.right,
+                    y: r.y,
+                    width: r.width,
+                    height: r.height,
+                },
+                margins: Margins {
+                    left: m.right,
+                    top: m.top,
+                    right: m.left,
+                    bottom: m.bottom,
+                },
             };
         }
-        CropRect {
-            x: c.y,
-            y: area.height - c.x - c.width,
-            width: c.height,
-            height: c.width,
-        }
+        k
     }
 
-    // Where so many columns from an edge on lie before the exchange.
-    fn unexchanged(self, edge: u32, size: u32) -> u32
-        requires { ⌜ edge + size ≤ self .area .width ⌝ }
-        ensures { λ r. ⌜ r ≡ pick (self .exchanged) (self .area .width - edge - size) edge ⌝ }
+    // After a crop of what is seen.
+    fn cropped(self, k: Crop) -> Sight
+        requires { ⌜ Bounded (self .area) × Around k (finalWidth self) (finalHeight self) ⌝ }
+        ensures { λ r. ⌜ r ≡ thenCrop self k ⌝ }
     {
         let area = self.area;
-        if self.exchanged {
-            return area.width - edge - size;
-        }
-        edge
-    }
-
-    // After a crop to a rectangle of what is seen.
-    fn cropped(self, c: CropRect) -> Sight
-        requires { ⌜ Bounded (self .area) × Inside c (finalWidth self) (finalHeight self) ⌝ }
-        ensures { λ r. ⌜ r ≡ thenCrop self c ⌝ }
-    {
-        let area = self.area;
-        let d = self.unturned(c);
-        let x = self.unexchanged(d.x, d.width);
+        let d = self.unexchanged(self.unturned(k));
+        let r = d.rect;
         Sight {
             area: CropRect {
-                x: area.x + x,
-                y: area.y + d.y,
-                width: d.width,
-                height: d.height,
+                x: area.x + r.x,
+                y: area.y + r.y,
+                width: r.width,
+                height: r.height,
             },
             exchanged: self.exchanged,
             turns: self.turns,
@@ -186,10 +208,10 @@ impl Sight {
             Property::Other => SightRead::Sight(self),
             Property::Clap(c) => {
                 let found = c.resolve(self.width(), self.height());
-                let Resolved::Rect(r) = found else {
+                let Resolved::Rect(k) = found else {
                     return SightRead::Refused(found.refusal());
                 };
-                SightRead::Sight(self.cropped(r))
+                SightRead::Sight(self.cropped(k))
             }
             Property::Irot(k) => SightRead::Sight(self.turned(k.angle)),
             Property::Imir(k) => SightRead::Sight(self.mirrored(k.axis % 2 == 1)),
@@ -240,7 +262,19 @@ impl Sight {
         }
     }
 
-    // The same in the picture, of a rectangle whose far edges are 32-bit numbers. Refusal: 18 a place outside.
+    // A column before the exchange.
+    fn unexchanged_column(self, column: u32) -> u32
+        requires { ⌜ column < self .area .width ⌝ }
+        ensures { λ r. ⌜ r ≡ pick (self .exchanged) (self .area .width - 1 - column) column ⌝ }
+    {
+        let area = self.area;
+        if self.exchanged {
+            return area.width - 1 - column;
+        }
+        column
+    }
+
+    // A place of what is seen, in the picture, of a rectangle whose far edges are 32-bit numbers. Refusal: 18 a place outside.
     fn bounded_place(self, column: u32, row: u32) -> PlaceRead
         requires { ⌜ Bounded (self .area) ⌝ }
         ensures { λ r. ⌜ placeOut r ≡ sourcePlace self column row ⌝ }
@@ -253,7 +287,7 @@ impl Sight {
         }
         let area = self.area;
         let l = self.unturned_place(column, row);
-        let x = self.unexchanged(l.x, 1);
+        let x = self.unexchanged_column(l.x);
         PlaceRead::Place(CanvasPlace {
             x: area.x + x,
             y: area.y + l.y,

@@ -1,2 +1,3 @@
 pub mod ApertureLaws
+pub mod MarginLaws
 pub mod ScaleLaws

@@ -1,3 +1,4 @@
 pub mod Aperture
+pub mod Margins
 pub mod Scale
 pub mod Sound

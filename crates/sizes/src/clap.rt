@@ -1,8 +1,9 @@
-// The clean aperture (ISO/IEC 14496-12, 12.1.4), resolved to a rectangle of whole pixels.
+// The clean aperture (ISO/IEC 14496-12, 12.1.4), resolved to a rectangle of whole pixels and the margins about it (document 02, A1).
 ghost use mathlib.Core.Path.{_≡_};
 ghost use Prim.Native.Nat.{_<_};
 ghost use lib.IntN.{subℕ};
 ghost use Rattle.sizes.specs.Aperture.{edgeOf, axisOf, resolveOf, axisPartOut, resolvedOut, NoRect};
+ghost use Rattle.sizes.specs.Margins.{fitsAxis, fitsIn};
 use laws::Refusal;
 
 // An offset's numerator is the 32-bit pattern of a signed number.
@@ -24,15 +25,30 @@ pub struct CropRect {
     pub height: u32,
 }
 
+// What a crop takes from a picture on each side, in pixels.
+pub struct Margins {
+    pub left: u32,
+    pub top: u32,
+    pub right: u32,
+    pub bottom: u32,
+}
+
+// A rectangle of a picture and the margins about it.
+pub struct Crop {
+    pub rect: CropRect,
+    pub margins: Margins,
+}
+
 pub enum Resolved {
-    Rect(CropRect),
+    Rect(Crop),
     Refused(Refusal),
 }
 
-// A part of one axis.
+// A part of one axis, and how many pixels lie beyond it.
 struct AxisPart {
     edge: u32,
     size: u32,
+    beyond: u32,
 }
 
 enum AxisPartRead {
@@ -59,10 +75,9 @@ fn edge(ahead: u64, behind: u64, den: u64, gap: u32, size: u32) -> AxisPartRead
     if at > gap as u64 {
         return AxisPartRead::Refused(Refusal::OUTSIDE);
     }
-    AxisPartRead::Read(AxisPart {
-        edge: at as u32,
-        size,
-    })
+    let edge = at as u32;
+    let beyond = gap - edge;
+    AxisPartRead::Read(AxisPart { edge, size, beyond })
 }
 
 // One axis: the size n / d, about a centre that lies off_n / off_d beyond the input's.
@@ -92,7 +107,7 @@ fn along(n: u32, d: u32, off_n: u32, off_d: u32, input: u32) -> AxisPartRead
 }
 
 impl Clap {
-    // The rectangle in an input of that size. Refusals, the width axis wholly before the height: 7 a zero denominator, 8 a size that
+    // The rectangle in an input of that size, with its margins. Refusals, the width axis wholly before the height: 7 a zero denominator, 8 a size that
     // is not whole, 9 a size 0 or above the input's, 8 an edge that is not whole, 9 an edge outside.
     pub fn resolve(self, width: u32, height: u32) -> Resolved
         ensures { λ r. ⌜ resolvedOut r ≡ resolveOf self width height ⌝ }
@@ -113,14 +128,47 @@ impl Clap {
                 height,
             ) {
                 AxisPartRead::Refused(e) => Resolved::Refused(e),
-                AxisPartRead::Read(b) => Resolved::Rect(CropRect {
-                    x: a.edge,
-                    y: b.edge,
-                    width: a.size,
-                    height: b.size,
+                AxisPartRead::Read(b) => Resolved::Rect(Crop {
+                    rect: CropRect {
+                        x: a.edge,
+                        y: b.edge,
+                        width: a.size,
+                        height: b.size,
+                    },
+                    margins: Margins {
+                        left: a.edge,
+                        top: b.edge,
+                        right: a.beyond,
+                        bottom: b.beyond,
+                    },
                 }),
             },
         }
+    }
+}
+
+// Whether a part of an axis has some pixels, begins where the margin before it ends, and with both margins makes up the axis.
+fn fits_axis(edge: u32, size: u32, before: u32, beyond: u32, input: u32) -> bool
+    ensures { λ r. ⌜ r ≡ fitsAxis edge size before beyond input ⌝ }
+{
+    let begins = image::both(size != 0, before == edge);
+    image::both(
+        begins,
+        before as u64 + size as u64 + beyond as u64 == input as u64,
+    )
+}
+
+impl Crop {
+    // Whether rectangle and margins are those of a crop of a picture of that size.
+    pub fn fits(self, width: u32, height: u32) -> bool
+        ensures { λ r. ⌜ r ≡ fitsIn self width height ⌝ }
+    {
+        let r = self.rect;
+        let m = self.margins;
+        image::both(
+            fits_axis(r.x, r.width, m.left, m.right, width),
+            fits_axis(r.y, r.height, m.top, m.bottom, height),
+        )
     }
 }
 

@@ -94,7 +94,7 @@ after-in-range Property.Other P k = k
 after-in-range (Property.Clap c) P k =
     then-holds _ InRange (resolveOf c (P .form .width) (P .form .height)) _
     (done-holds (λ r. resolveOf c (P .form .width) (P .form .height) ≡ done r) _ (λ r e. e))
-    (λ r e. draws-in-range _ _ P (crop-made P r (k .sound) (resolve-inside c _ _ r e)) k)
+    (λ r e. draws-in-range _ _ P (crop-made P (r .rect) (k .sound) (resolve-inside c _ _ r e)) k)
 after-in-range (Property.Irot t) P k = turn-in-range P (quarterOf (t .angle)) k
 after-in-range (Property.Imir t) P k = draws-in-range _ _ P (mirror-made P (odd (t .axis)) (k .sound)) k
 after-in-range (Property.Iscl t) P k =
@@ -124,7 +124,7 @@ after-form Property.Other P k = both refl
 after-form (Property.Clap c) P k =
     then-both _ Formed (resolveOf c (P .form .width) (P .form .height)) _ _
     (done-holds (λ r. resolveOf c (P .form .width) (P .form .height) ≡ done r) _ (λ r e. e))
-    (λ r e. both (sym (draws-form _ _ P (crop-made P r k (resolve-inside c _ _ r e)))))
+    (λ r e. both (sym (draws-form _ _ P (crop-made P (r .rect) k (resolve-inside c _ _ r e)))))
 after-form (Property.Irot t) P k = both (sym (turn-form P (quarterOf (t .angle)) k))
 after-form (Property.Imir t) P k = both (sym (draws-form _ _ P (mirror-made P (odd (t .axis)) k)))
 after-form (Property.Iscl t) P k =
@@ -183,7 +183,7 @@ bytewise (Property.Clap c) P k =
     (done-holds (λ r. resolveOf c (P .form .width) (P .form .height) ≡ done r) _ (λ r e. e))
     (λ r e.
     let i = resolve-inside c _ _ r e in
-    both (encode-agree _ _ (draws-agree _ _ _ P (crop-made _ r (k .sound) i) (crop-made P r (k .sound) i) (in-range-back P k .1)))))
+    both (encode-agree _ _ (draws-agree _ _ _ P (crop-made _ (r .rect) (k .sound) i) (crop-made P (r .rect) (k .sound) i) (in-range-back P k .1)))))
 bytewise (Property.Irot t) P k = taken-same P k _ _ (both (turned-bytes P k (quarterOf (t .angle))))
 bytewise (Property.Imir t) P k =
     taken-same P k _ _

@@ -58,10 +58,10 @@ pub fn form_after(m: Form, property: Property) -> FormRead
         Property::Other => FormRead::Form(m),
         Property::Clap(c) => {
             let found = c.resolve(m.width, m.height);
-            let Resolved::Rect(r) = found else {
+            let Resolved::Rect(k) = found else {
                 return FormRead::Refused(found.refusal());
             };
-            FormRead::Form(motions::crop_form(m, r))
+            FormRead::Form(motions::crop_form(m, k.rect))
         }
         Property::Irot(k) => FormRead::Form(motions::turn_form(m, k)),
         Property::Imir(_) => FormRead::Form(m),

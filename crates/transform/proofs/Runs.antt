@@ -1,66 +1,53 @@
 -- The runs in terms of the moves that draw them.
-use mathlib.Core.Bool.{false, true}
+use mathlib.Core.Bool.{false, not, true}
 use mathlib.Core.List.{List}
-use mathlib.Core.Path.{_∙_, _≡_, ap}
-use Prim.Native.Nat.{_%_, _+_, _<_, _≤_, ℕ}
-use borrow.Author.Tests.{eq-eqb, le-ltb, lt-ltb, ne-eqb}
-use Rattle.laws.proofs.Order.{positive}
+use mathlib.Core.Path.{_∙_, _≡_, ap, refl, sym}
+use Prim.Native.Nat.{_%_, ℕ}
+use Rattle.laws.proofs.Order.{by-test}
 use Rattle.laws.proofs.Out.{refuse-no, refuse-yes, then-done, then-refused}
-use Rattle.laws.specs.Out.{done, fitted, reason, refused}
+use Rattle.laws.specs.Out.{Out, andThen, done, fitted, reason, refused}
 use Rattle.laws.specs.declared.Refusal.{Refusal}
 use Rattle.image.specs.Format.{odd}
 use Rattle.image.specs.Sound.{FormSound}
-use Rattle.image.specs.declared.format.Form.{Form}
 use Rattle.records.proofs.RecordLaws.{whole-sound}
 use Rattle.records.specs.Record.{recordOf}
 use Rattle.records.specs.declared.record.Frame.{Frame}
+use Rattle.sizes.proofs.ApertureLaws.{resolve-inside, resolve-margins}
+use Rattle.sizes.proofs.MarginLaws.{around-fits, around-inside, fits-around}
+use Rattle.sizes.specs.Aperture.{resolveOf}
+use Rattle.sizes.specs.Margins.{Around, fitsIn}
+use Rattle.sizes.specs.declared.clap.Clap.{Clap}
+use Rattle.sizes.specs.declared.clap.Crop.{Crop}
 use Rattle.planes.proofs.RoundTrip.{drawn-as, encode-agree}
 use Rattle.planes.specs.Bytes.{decode, encode}
-use Rattle.sizes.proofs.ApertureLaws.{resolve-inside}
-use Rattle.sizes.specs.Aperture.{resolveOf}
-use Rattle.sizes.specs.Sound.{Inside}
-use Rattle.sizes.specs.declared.clap.Clap.{Clap}
-use Rattle.sizes.specs.declared.clap.CropRect.{CropRect}
 use Rattle.props.specs.declared.entry.Imir.{Imir}
 use Rattle.props.specs.declared.entry.Irot.{Irot}
 use Rattle.moves.specs.inner.Move.{MoveFits, moved}
 use Rattle.motions.proofs.Draws.{crop-draws, half-draws, left-draws, mirror-draws, right-draws, still-draws}
 use Rattle.motions.proofs.Fits.{crop-fits}
 use Rattle.motions.proofs.Quarters.{quarter-one, quarter-three, quarter-two, quarter-zero}
-use Rattle.motions.specs.Turn.{Quarter, q0, q1, q2, q3, quarterOf}
+use Rattle.motions.specs.Turn.{Quarter, crop, q0, q1, q2, q3, quarterOf}
 use Rattle.motions.specs.inner.Moves.{cropMove, halfMove, mirrorMove, quarterMove, stillMove}
 use Rattle.transform.specs.Run.{clapRun, cropOf, cropRun, imirRun, irotRun, turnBytes}
 
 -- ---- crop
 
-within : (m : Form) (r : CropRect) → (r .width ≡ 0 → ⊥) → (r .height ≡ 0 → ⊥) → r .x + r .width ≤ m .width → r .y + r .height ≤ m .height → Inside r (m .width) (m .height)
-within m r a b c d = record { across = c; down = d; wide = positive _ a; tall = positive _ b }
-
-module _ (s : List ℕ) (fr : Frame) (taken : recordOf s ≡ done fr) (r : CropRect) (room : ℕ) where
-  pub crop-flat : r .width ≡ 0 → cropRun s r room ≡ refused (reason 9)
+module _ (s : List ℕ) (fr : Frame) (taken : recordOf s ≡ done fr) (k : Crop) (room : ℕ) where
+  pub crop-outside : fitsIn k (fr .form .width) (fr .form .height) ≡ false → cropRun s k room ≡ refused (reason 9)
   unfolding cropRun cropOf
-  crop-flat a = then-done _ taken ∙ refuse-yes _ _ (eq-eqb (r .width) 0 a)
+  crop-outside e = then-done _ taken ∙ refuse-yes _ _ (ap not e)
 
-  pub crop-thin : (r .width ≡ 0 → ⊥) → r .height ≡ 0 → cropRun s r room ≡ refused (reason 9)
+  -- an accepted crop is the rectangle's, whatever else was handed in
+  pub crop-taken : fitsIn k (fr .form .width) (fr .form .height) ≡ true → cropRun s k room ≡ fitted room (encode (crop (decode s fr) (k .rect)))
   unfolding cropRun cropOf
-  crop-thin a b = then-done _ taken ∙ refuse-no _ _ (ne-eqb (r .width) 0 a) ∙ refuse-yes _ _ (eq-eqb (r .height) 0 b)
+  crop-taken e = then-done _ taken ∙ refuse-no _ _ (ap not e)
 
-  pub crop-right : (r .width ≡ 0 → ⊥) → (r .height ≡ 0 → ⊥) → fr .form .width < r .x + r .width → cropRun s r room ≡ refused (reason 9)
-  unfolding cropRun cropOf
-  crop-right a b c = then-done _ taken ∙ refuse-no _ _ (ne-eqb (r .width) 0 a) ∙ refuse-no _ _ (ne-eqb (r .height) 0 b) ∙ refuse-yes _ _ (lt-ltb _ _ c)
+  pub crop-fit : fitsIn k (fr .form .width) (fr .form .height) ≡ true → MoveFits (fr .form) (cropMove (fr .form) (k .rect))
+  crop-fit e = crop-fits (fr .form) (k .rect) (whole-sound s fr taken .0 .form) (around-inside k _ _ (fits-around k _ _ e))
 
-  pub crop-below : (r .width ≡ 0 → ⊥) → (r .height ≡ 0 → ⊥) → r .x + r .width ≤ fr .form .width → fr .form .height < r .y + r .height → cropRun s r room ≡ refused (reason 9)
-  unfolding cropRun cropOf
-  crop-below a b c d = then-done _ taken ∙ refuse-no _ _ (ne-eqb (r .width) 0 a) ∙ refuse-no _ _ (ne-eqb (r .height) 0 b) ∙ refuse-no _ _ (le-ltb _ _ c) ∙ refuse-yes _ _ (lt-ltb _ _ d)
-
-  pub crop-inside : (a : r .width ≡ 0 → ⊥) (b : r .height ≡ 0 → ⊥) (c : r .x + r .width ≤ fr .form .width) (d : r .y + r .height ≤ fr .form .height)
-      → MoveFits (fr .form) (cropMove (fr .form) r) × (cropRun s r room ≡ fitted room (encode (moved (cropMove (fr .form) r) (decode s fr))))
-  unfolding cropRun cropOf decode
-  crop-inside a b c d = (
-    crop-fits (fr .form) r (whole-sound s fr taken .0 .form) (within (fr .form) r a b c d),
-    then-done _ taken ∙ refuse-no _ _ (ne-eqb (r .width) 0 a) ∙ refuse-no _ _ (ne-eqb (r .height) 0 b) ∙ refuse-no _ _ (le-ltb _ _ c) ∙ refuse-no _ _ (le-ltb _ _ d)
-        ∙ drawn-as room _ _ (crop-draws (decode s fr) r),
-  )
+  pub crop-drawn : fitsIn k (fr .form .width) (fr .form .height) ≡ true → cropRun s k room ≡ fitted room (encode (moved (cropMove (fr .form) (k .rect)) (decode s fr)))
+  unfolding decode
+  crop-drawn e = crop-taken e ∙ drawn-as room _ _ (crop-draws (decode s fr) (k .rect))
 
 -- ---- clap
 
@@ -69,12 +56,30 @@ module _ (s : List ℕ) (fr : Frame) (taken : recordOf s ≡ done fr) (c : Clap)
   unfolding clapRun
   clap-refused e h = then-done _ taken ∙ then-refused _ h
 
-  pub clap-fits : (r : CropRect) → resolveOf c (fr .form .width) (fr .form .height) ≡ done r → MoveFits (fr .form) (cropMove (fr .form) r)
-  clap-fits r h = crop-fits (fr .form) r (whole-sound s fr taken .0 .form) (resolve-inside c _ _ r h)
+  pub clap-fits : (k : Crop) → resolveOf c (fr .form .width) (fr .form .height) ≡ done k → MoveFits (fr .form) (cropMove (fr .form) (k .rect))
+  clap-fits k h = crop-fits (fr .form) (k .rect) (whole-sound s fr taken .0 .form) (resolve-inside c _ _ k h)
 
-  pub clap-drawn : (r : CropRect) → resolveOf c (fr .form .width) (fr .form .height) ≡ done r → clapRun s c room ≡ fitted room (encode (moved (cropMove (fr .form) r) (decode s fr)))
+  pub clap-drawn : (k : Crop) → resolveOf c (fr .form .width) (fr .form .height) ≡ done k → clapRun s c room ≡ fitted room (encode (moved (cropMove (fr .form) (k .rect)) (decode s fr)))
   unfolding clapRun decode
-  clap-drawn r h = then-done _ taken ∙ then-done _ h ∙ drawn-as room _ _ (crop-draws (decode s fr) r)
+  clap-drawn k h = then-done _ taken ∙ then-done _ h ∙ drawn-as room _ _ (crop-draws (decode s fr) (k .rect))
+
+-- ---- crop and clap as document 02 has them (A1): a crop is refused 9 just where its margins are not those about its rectangle, and what it
+-- writes goes by the rectangle alone; a clap is the crop to the rectangle and margins that it resolves to
+
+pub crop-around : (s : List ℕ) (fr : Frame) (k : Crop) (room : ℕ) → recordOf s ≡ done fr → Around k (fr .form .width) (fr .form .height)
+    → cropRun s k room ≡ fitted room (encode (crop (decode s fr) (k .rect)))
+crop-around s fr k room e a = crop-taken s fr e k room (around-fits k _ _ a)
+
+pub crop-refused : (s : List ℕ) (fr : Frame) (k : Crop) (room : ℕ) → recordOf s ≡ done fr → (Around k (fr .form .width) (fr .form .height) → ⊥) → cropRun s k room ≡ refused (reason 9)
+crop-refused s fr k room e n = crop-outside s fr e k room (by-test (fitsIn k _ _) (λ t. absurd (n (fits-around k _ _ t))) (λ t. t))
+
+pub clap-crops : (s : List ℕ) (fr : Frame) (c : Clap) (room : ℕ) → recordOf s ≡ done fr → clapRun s c room ≡ andThen (resolveOf c (fr .form .width) (fr .form .height)) (λ k. cropRun s k room)
+unfolding clapRun andThen
+clap-crops s fr c room e = then-done _ e ∙ go (resolveOf c (fr .form .width) (fr .form .height)) refl
+  where
+    go : (o : Out Crop) → resolveOf c (fr .form .width) (fr .form .height) ≡ o → andThen o (λ k. fitted room (encode (crop (decode s fr) (k .rect)))) ≡ andThen o (λ k. cropRun s k room)
+    go (refused r) h = refl
+    go (done k) h = sym (crop-around s fr k room e (resolve-margins c _ _ k h))
 
 -- ---- as it is
 

@@ -1,33 +1,30 @@
 -- What each operation answers and writes (document 01, clap, irot, imir and their refusals).
+use mathlib.Core.Bool.{not}
 use mathlib.Core.List.{List}
-use Prim.Native.Nat.{_+_, ℕ}
-use lib.Dec.{eqb, ltb}
+use Prim.Native.Nat.{ℕ}
 use Rattle.laws.specs.Out.{Out, andThen, fitted, refuse}
 use Rattle.planes.specs.Bytes.{decode, encode}
 use Rattle.image.specs.Format.{odd}
 use Rattle.records.specs.Record.{recordOf}
 use Rattle.records.specs.declared.record.Frame.{Frame}
 use Rattle.sizes.specs.Aperture.{resolveOf}
-use Rattle.sizes.specs.declared.clap.CropRect.{CropRect}
+use Rattle.sizes.specs.Margins.{fitsIn}
+use Rattle.sizes.specs.declared.clap.Crop.{Crop}
 use Rattle.props.specs.declared.entry.Imir.{Imir}
 use Rattle.props.specs.declared.entry.Irot.{Irot}
 use Rattle.sizes.specs.declared.clap.Clap.{Clap}
 use Rattle.motions.specs.Turn.{Quarter, crop, mirror, q0, q1, q2, q3, quarterOf, turn}
 
--- crop: the record, then 9 for a rectangle that has no side or is not inside, then 17
-unfoldable pub cropOf : List ℕ → Frame → CropRect → ℕ → Out (List ℕ)
-cropOf s fr r room =
-    refuse (eqb (r .width) 0) 9
-    (refuse (eqb (r .height) 0) 9
-    (refuse (ltb (fr .form .width) (r .x + r .width)) 9
-    (refuse (ltb (fr .form .height) (r .y + r .height)) 9 (fitted room (encode (crop (decode s fr) r))))))
+-- crop: the record, then 9 for a rectangle and margins that are not those of a crop of its picture (document 02, A1), then 17
+unfoldable pub cropOf : List ℕ → Frame → Crop → ℕ → Out (List ℕ)
+cropOf s fr k room = refuse (not (fitsIn k (fr .form .width) (fr .form .height))) 9 (fitted room (encode (crop (decode s fr) (k .rect))))
 
-unfoldable pub cropRun : List ℕ → CropRect → ℕ → Out (List ℕ)
-cropRun s r room = andThen (recordOf s) (λ fr. cropOf s fr r room)
+unfoldable pub cropRun : List ℕ → Crop → ℕ → Out (List ℕ)
+cropRun s k room = andThen (recordOf s) (λ fr. cropOf s fr k room)
 
 -- clap: the record, then the aperture's refusals, then 17
 unfoldable pub clapRun : List ℕ → Clap → ℕ → Out (List ℕ)
-clapRun s c room = andThen (recordOf s) (λ fr. andThen (resolveOf c (fr .form .width) (fr .form .height)) (λ r. fitted room (encode (crop (decode s fr) r))))
+clapRun s c room = andThen (recordOf s) (λ fr. andThen (resolveOf c (fr .form .width) (fr .form .height)) (λ k. fitted room (encode (crop (decode s fr) (k .rect)))))
 
 -- irot: angle mod 4 quarter turns anticlockwise; 0 hands back the record byte for byte
 unfoldable pub turnBytes : List ℕ → Frame → Quarter → List ℕ

@@ -21,7 +21,7 @@ use props::Irot;
 use records::Frame;
 use records::FrameRead;
 use sizes::Clap;
-use sizes::CropRect;
+use sizes::Crop;
 use sizes::Resolved;
 
 // A record's picture as it is, in a tight record at the start. Answers its length.
@@ -45,28 +45,19 @@ fn draw(record: &[u8], fr: Frame, v: Move, out: &mut [u8]) -> Answer
     Answer::Wrote(moves::write_moved(out, record, fr, v))
 }
 
-// The part of a record's picture in a rectangle.
-pub fn crop(record: &[u8], r: CropRect, out: &mut [u8]) -> Answer
-    ensures { λ a. ⌜ (a ≡ answerOf (cropRun (now («record» .entry)) r (length (now (out .entry)))))
-        × (now (out .exit) ≡ written (cropRun (now («record» .entry)) r (length (now (out .entry)))) (now (out .entry))) ⌝ }
+// The part of a record's picture in a rectangle between margins.
+pub fn crop(record: &[u8], k: Crop, out: &mut [u8]) -> Answer
+    ensures { λ a. ⌜ (a ≡ answerOf (cropRun (now («record» .entry)) k (length (now (out .entry)))))
+        × (now (out .exit) ≡ written (cropRun (now («record» .entry)) k (length (now (out .entry)))) (now (out .entry))) ⌝ }
 {
     match records::parse_record(record) {
         FrameRead::Refused(e) => Answer::Refused(e),
         FrameRead::Read(f) => {
             let m = f.form;
-            if r.width == 0 {
+            if !k.fits(m.width, m.height) {
                 return Answer::Refused(Refusal::OUTSIDE);
             }
-            if r.height == 0 {
-                return Answer::Refused(Refusal::OUTSIDE);
-            }
-            if (m.width as u64) < r.x as u64 + r.width as u64 {
-                return Answer::Refused(Refusal::OUTSIDE);
-            }
-            if (m.height as u64) < r.y as u64 + r.height as u64 {
-                return Answer::Refused(Refusal::OUTSIDE);
-            }
-            draw(record, f, crop_move(m, r), out)
+            draw(record, f, crop_move(m, k.rect), out)
         }
     }
 }
@@ -81,10 +72,10 @@ pub fn apply_clap(record: &[u8], clap: Clap, out: &mut [u8]) -> Answer
         FrameRead::Read(f) => {
             let m = f.form;
             let found = clap.resolve(m.width, m.height);
-            let Resolved::Rect(r) = found else {
+            let Resolved::Rect(k) = found else {
                 return Answer::Refused(found.refusal());
             };
-            draw(record, f, crop_move(m, r), out)
+            draw(record, f, crop_move(m, k.rect), out)
         }
     }
 }

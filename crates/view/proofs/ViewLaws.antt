@@ -33,6 +33,7 @@ use Rattle.records.specs.declared.record.Frame.{Frame}
 use Rattle.sight.specs.Sight.{back, backFrom, exchange, finalHeight, finalWidth, highOf, thenCrop, thenMirror, thenTurn, whole, wideOf}
 use Rattle.sight.specs.declared.Sight.{Sight}
 use Rattle.sizes.specs.Sound.{Inside}
+use Rattle.sizes.specs.declared.clap.Crop.{Crop}
 use Rattle.sizes.specs.declared.clap.CropRect.{CropRect}
 use Rattle.view.specs.inner.View.{Reached, Shown, kept, promoted, runsLeft, runsUp, shown, sightAxis, sightMove, turnsLeft, turnsUp}
 
@@ -325,9 +326,9 @@ pub reached-whole : (m : Form) (w h : ℕ) → Reached m m (whole w h)
 unfolding whole quarterOf swaps pick
 reached-whole m w h = kept refl (λ t. apart (cc))
 
-pub reached-crop : (m n : Form) (s : Sight) (r : CropRect) → Reached m n s → Reached m (cropMove n r .form) (thenCrop s r)
+pub reached-crop : (m n : Form) (s : Sight) (k : Crop) → Reached m n s → Reached m (cropMove n (k .rect) .form) (thenCrop s k)
 unfolding cropMove cropWith sized thenCrop
-reached-crop m n s r k = reached-with _ m n (cropMove n r .form) s (thenCrop s r) refl (λ e f. f) k
+reached-crop m n s k r = reached-with _ m n (cropMove n (k .rect) .form) s (thenCrop s k) refl (λ e f. f) r
 
 flipped-swaps : (b : Bool) (q : Quarter) → swaps (flipped b q) ≡ swaps q
 unfolding swaps flipped

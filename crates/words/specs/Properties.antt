@@ -7,7 +7,7 @@ use Rattle.sizes.specs.Aperture.{resolveOf}
 use Rattle.props.specs.Chain.{chainAt}
 use Rattle.sizes.specs.Scale.{scaleOf}
 use Rattle.sizes.specs.declared.clap.Clap.{Clap}
-use Rattle.sizes.specs.declared.clap.CropRect.{CropRect}
+use Rattle.sizes.specs.declared.clap.Crop.{Crop}
 use Rattle.sizes.specs.declared.iscl.Iscl.{Iscl}
 use Rattle.image.specs.declared.size.Size.{Size}
 
@@ -28,11 +28,18 @@ clapOf wn wd hn hd xn xd yn yd = record {
   «vert_off_d» = yd;
 }
 
-unfoldable pub rectFields : CropRect → List ℕ
-rectFields r = r .x ∷ r .y ∷ r .width ∷ r .height ∷ []
+-- a rectangle and its margins by their eight fields (document 02, A1)
+unfoldable pub cropBy : ℕ → ℕ → ℕ → ℕ → ℕ → ℕ → ℕ → ℕ → Crop
+cropBy x y width height left top right bottom = record {
+  rect = record { x = x; y = y; width = width; height = height };
+  margins = record { left = left; top = top; right = right; bottom = bottom };
+}
+
+unfoldable pub cropFields : Crop → List ℕ
+cropFields k = k .rect .x ∷ k .rect .y ∷ k .rect .width ∷ k .rect .height ∷ k .margins .left ∷ k .margins .top ∷ k .margins .right ∷ k .margins .bottom ∷ []
 
 unfoldable pub clapWords : Clap → ℕ → ℕ → ℕ → Out (List ℕ)
-clapWords c width height room = andThen (resolveOf c width height) (λ r. fitted room (rectFields r))
+clapWords c width height room = andThen (resolveOf c width height) (λ k. fitted room (cropFields k))
 
 -- a scaling by its four fields
 unfoldable pub isclOf : ℕ → ℕ → ℕ → ℕ → Iscl

@@ -7,6 +7,7 @@ ghost use Rattle.laws.specs.Out.{written};
 ghost use Rattle.laws.specs.Pick.{pick};
 ghost use Rattle.laws.specs.Puts.{puts};
 ghost use Rattle.words.specs.Code.{codeOf, noneOf};
+ghost use Rattle.words.specs.Properties.{cropFields};
 ghost use Rattle.words.specs.Read.{formFields, planeFields};
 ghost use Rattle.point.specs.Point.{pointOut};
 ghost use Rattle.words.specs.Spots.{sightFields, pointWords, namedFields};
@@ -19,6 +20,7 @@ use point::Named;
 use point::PointRead;
 use records::Plane;
 use sight::Sight;
+use sizes::Crop;
 
 // A form's five numbers at the start.
 pub fn put_form(answer: &mut [u64], m: Form) -> usize
@@ -114,6 +116,19 @@ pub fn put_sight(answer: &mut [u32], at: usize, s: Sight)
     let a = put_sides(answer, at, area.x, area.y);
     let b = put_sides(answer, a, area.width, area.height);
     put_sides(answer, b, bit_of(s.exchanged), s.turns);
+}
+
+// A rectangle and its margins at the start.
+pub fn put_crop(answer: &mut [u32], k: Crop)
+    requires { ⌜ 8 ≤ length (now answer) ⌝ }
+    ensures { λ _. ⌜ now (answer .exit) ≡ puts (now (answer .entry)) 0 (cropFields k) ⌝ }
+{
+    let r = k.rect;
+    let m = k.margins;
+    let a = put_sides(answer, 0, r.x, r.y);
+    let b = put_sides(answer, a, r.width, r.height);
+    let c = put_sides(answer, b, m.left, m.top);
+    put_sides(answer, c, m.right, m.bottom);
 }
 
 // What was found, in 10 words. Refusals: what it was refused for; 17 an answer below 10 words.

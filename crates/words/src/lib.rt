@@ -6,6 +6,7 @@ mod colour;
 mod offsets;
 
 pub use crate::answers::bit_of;
+pub use crate::answers::put_crop;
 pub use crate::answers::put_fill;
 pub use crate::answers::put_form;
 pub use crate::answers::put_named;

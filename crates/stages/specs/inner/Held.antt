@@ -13,7 +13,7 @@ use Rattle.motions.specs.inner.Moves.{cropMove, turnForm}
 -- the form after a property
 unfoldable pub formAfter : Property → Form → Out Form
 formAfter Property.Other m = done m
-formAfter (Property.Clap c) m = andThen (resolveOf c (m .width) (m .height)) (λ r. done (cropMove m r .form))
+formAfter (Property.Clap c) m = andThen (resolveOf c (m .width) (m .height)) (λ k. done (cropMove m (k .rect) .form))
 formAfter (Property.Irot k) m = done (turnForm m (quarterOf (k .angle)))
 formAfter (Property.Imir k) m = done m
 formAfter (Property.Iscl k) m = andThen (scaleOf k (m .width) (m .height)) (λ z. done (sized m (z .width) (z .height)))

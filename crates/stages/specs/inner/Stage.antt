@@ -29,7 +29,7 @@ use Rattle.stages.specs.inner.Held.{formAfter}
 unfoldable pub recordAfter : Property → List ℕ → Out (List ℕ)
 recordAfter Property.Other s = done s
 recordAfter (Property.Clap c) s =
-    andThen (recordOf s) (λ fr. andThen (resolveOf c (fr .form .width) (fr .form .height)) (λ r. done (encode (crop (decode s fr) r))))
+    andThen (recordOf s) (λ fr. andThen (resolveOf c (fr .form .width) (fr .form .height)) (λ k. done (encode (crop (decode s fr) (k .rect)))))
 recordAfter (Property.Irot k) s = andThen (recordOf s) (λ fr. done (turnBytes s fr (quarterOf (k .angle))))
 recordAfter (Property.Imir k) s = andThen (recordOf s) (λ fr. done (encode (mirror (decode s fr) (odd (k .axis)))))
 recordAfter (Property.Iscl k) s =

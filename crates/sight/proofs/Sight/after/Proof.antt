@@ -6,7 +6,7 @@ use Rattle.image.specs.Format.{odd}
 use Rattle.sizes.proofs.ApertureLaws.{refused-no-rect}
 use Rattle.sizes.specs.Aperture.{resolvedOut}
 use Rattle.sight.proofs.Sight.after.Statement.{statement}
-use Rattle.sight.proofs.Steps.{clap-at, clap-inside}
+use Rattle.sight.proofs.Steps.{clap-around, clap-at}
 use Rattle.sight.specs.Sight.{sightAfter}
 use Rattle.sight.proofs.Sight.after.Tie as tie
 use Rattle.sight.proofs.Sight.after.Reads as reads
@@ -61,7 +61,7 @@ cropped-requires c κs =
     let width = c .before .before .before .before .before .width in
     let start = c .before .before .before .before .before .before .before .before .before in (
       start .pre,
-      clap-inside (start .args .self) _ _ _ _ (width .ensures) (height .ensures)
+      clap-around (start .args .self) _ _ _ _ (width .ensures) (height .ensures)
           (sym (c .before .before .before .resolve .ensures) ∙ ap resolvedOut (c .before .found .given .1)),
     )
 

@@ -1,12 +1,12 @@
 use native.Mathlib.Omega.{arith}
 use borrow.Author.Needs.{needs}
 use Rattle.sight.proofs.Sight.bounded_place.Statement.{statement}
-use Rattle.sight.proofs.Steps.{place-across, place-down, place-found, unexchanged-in, unturned-below}
+use Rattle.sight.proofs.Steps.{column-in, place-across, place-down, place-found, unturned-below}
 use Rattle.sight.proofs.Sight.bounded_place.Tie as tie
 use Rattle.sight.proofs.Sight.bounded_place.Reads as reads
 use Rattle.sight.proofs.Sight.bounded_place.Lts as lts
 use Rattle.sight.proofs.Sight.height.Reads as height-reads
-use Rattle.sight.proofs.Sight.unexchanged.Reads as unexchanged-reads
+use Rattle.sight.proofs.Sight.unexchanged_column.Reads as unexchanged-column-reads
 use Rattle.sight.proofs.Sight.unturned_place.Reads as unturned-place-reads
 use Rattle.sight.proofs.Sight.width.Reads as width-reads
 
@@ -25,8 +25,8 @@ returns-2 c = place-down (c .before .before .before .before .args .self) _ _ _ _
 unturned-place-requires : tie.Need-unturned-place-requires
 unturned-place-requires c κs = (omega (arith, c .before .before .before .before .width .ensures, c .before .before .before .if1 .left), omega (arith, c .before .before .height .ensures, c .before .if2 .left))
 
-unexchanged-requires : tie.Need-unexchanged-requires
-unexchanged-requires c κs =
+unexchanged-column-requires : tie.Need-unexchanged-column-requires
+unexchanged-column-requires c κs =
     let if1 = c .before .before .before .before .if1 in
     let width = c .before .before .before .before .before .width in
     let start = c .before .before .before .before .before .before in
@@ -43,11 +43,11 @@ add-t7 c =
     omega (
       arith,
       start .pre .across,
-      unexchanged-in (start .args .self .exchanged) (start .args .self .area .width) (c .before .before .unturned-place .result .x) 1
-          (c .before .unexchanged .result)
+      column-in (start .args .self .exchanged) (start .args .self .area .width) (c .before .before .unturned-place .result .x)
+          (c .before .unexchanged-column .result)
           (unturned-below (start .args .self) (start .args .column) (start .args .row) _ (c .before .before .unturned-place .ensures)
           (omega (arith, width .ensures, if1 .left)) (omega (arith, height .ensures, if2 .left)) .0)
-          (c .before .unexchanged .ensures),
+          (c .before .unexchanged-column .ensures),
     )
 
 add-t11 : tie.Need-add-t11
@@ -75,9 +75,9 @@ returns-3 c =
     let after-width = c .before .before .before .before .before .before .before .before .before in
     let width = after-width .width in
     let start = after-width .before in
-    place-found (start .args .self) (start .args .column) (start .args .row) (c .before .before .before .unexchanged .result) (unturned-place .result)
+    place-found (start .args .self) (start .args .column) (start .args .row) (c .before .before .before .unexchanged-column .result) (unturned-place .result)
     (omega (arith, width .ensures, if1 .left)) (omega (arith, height .ensures, if2 .left)) (unturned-place .ensures)
-    (c .before .before .before .unexchanged .ensures)
+    (c .before .before .before .unexchanged-column .ensures)
 
 pub bounded-place-spec : {M : Type 1} → statement M
 bounded-place-spec =
@@ -88,7 +88,7 @@ bounded-place-spec =
     height-requires
     returns-2
     unturned-place-requires
-    unexchanged-requires
+    unexchanged-column-requires
     add-t7
     add-t11
     returns-3)

@@ -1,22 +1,22 @@
-use mathlib.Core.Path.{sym}
-use borrow.Author.Needs.{needs}
-use Rattle.laws.proofs.Order.{pick-false, pick-true}
+use mathlib.Core.Bool.{false, true}
 use Rattle.sight.proofs.Sight.unexchanged.Statement.{statement}
+use Rattle.sight.proofs.Steps.{exchanged-is}
+use Rattle.sight.specs.Sight.{exchangeCrop}
 use Rattle.sight.proofs.Sight.unexchanged.Tie as tie
 use Rattle.sight.proofs.Sight.unexchanged.Reads as reads
 use Rattle.sight.proofs.Sight.unexchanged.Lts as lts
 
-sub-result : tie.Need-sub-result
-sub-result c = search needs
-
-sub-result-2 : tie.Need-sub-result-2
-sub-result-2 c = search needs
-
 returns : tie.Need-returns
-returns c = sym (pick-true _ _ _ (c .before .if1 .taken))
+unfolding exchangeCrop
+returns c =
+    let start = c .before .before .before in
+    exchanged-is (start .args .self) true (start .args .k) (c .if1 .taken)
 
 returns-2 : tie.Need-returns-2
-returns-2 c = sym (pick-false _ _ _ (c .if1 .left))
+unfolding exchangeCrop
+returns-2 c =
+    let start = c .before .before .before in
+    exchanged-is (start .args .self) false (start .args .k) (c .if1 .left)
 
 pub unexchanged-spec : {M : Type 1} → statement M
-unexchanged-spec = tie.close (tie.spec sub-result sub-result-2 returns returns-2)
+unexchanged-spec = tie.close (tie.spec returns returns-2)

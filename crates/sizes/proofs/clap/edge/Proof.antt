@@ -38,8 +38,11 @@ div-at c = search needs
 returns-4 : tie.Need-returns-4
 returns-4 c = sym (edge-from _ _ _ _ _ (c .before .before .if1 .left) ∙ refuse-no _ _ (ap not (eq-eqb _ _ (c .before .if3 .left))) ∙ refuse-yes _ _ (lt-ltb _ _ (c .if4 .taken)))
 
-cast-t17 : tie.Need-cast-t17
-cast-t17 c = search needs
+cast-edge : tie.Need-cast-edge
+cast-edge c = search needs
+
+sub-beyond : tie.Need-sub-beyond
+sub-beyond c = search needs
 
 returns-5 : tie.Need-returns-5
 returns-5 c = sym (edge-from _ _ _ _ _ (c .before .before .if1 .left) ∙ refuse-no _ _ (ap not (eq-eqb _ _ (c .before .if3 .left))) ∙ refuse-no _ _ (le-ltb _ _ (c .if4 .left)))
@@ -56,5 +59,6 @@ edge-spec =
     returns-3
     div-at
     returns-4
-    cast-t17
+    cast-edge
+    sub-beyond
     returns-5)

@@ -64,7 +64,10 @@ returns-3 c = simp (c .enum-told .given .1)
 
 returns-4 : tie.Need-returns-4
 unfolding sizeAfter andThen
-returns-4 c = simp (c .before .before .before .before .before .self .given .1, sym (c .before .before .before .resolve .ensures), c .before .found .given .1)
+returns-4 c =
+    let self = c .before .before .before .before .before .before .self in
+    let resolve = c .before .before .before .before .resolve in
+    simp (self .given .1, sym (resolve .ensures), c .before .before .found .given .1)
 
 returns-5 : tie.Need-returns-5
 unfolding sizeAfter pick odd
