@@ -19,7 +19,7 @@ extern "C" {
 
 /* The version of these calls: major * 10000 + minor * 100 + patch, as the crate's in rust/Cargo.toml is. It grows when a
  * call is added or changed. */
-#define COMPOSE_API_VERSION 300
+#define COMPOSE_API_VERSION 400
 
 /* Every call answers a number of 64 bits. Below 2^63 it is a length, a count, or 0 where there is none; from there on
  * it is 2^63 + the number of a refusal, and then nothing was written. */
@@ -41,7 +41,7 @@ enum compose_refusal {
     COMPOSE_DEPTH = 6,      /* a depth outside 8 to 16 */
     COMPOSE_ZERO = 7,       /* a zero term of a fraction */
     COMPOSE_FRACTION = 8,   /* a size or an edge that is no whole number */
-    COMPOSE_OUTSIDE = 9,    /* a rectangle outside its picture */
+    COMPOSE_OUTSIDE = 9,    /* a rectangle outside its picture, or margins that are not its own */
     COMPOSE_SCALE = 10,     /* a scaled side above 2^32 - 1 */
     COMPOSE_COUNT = 11,     /* a count or an index that differs */
     COMPOSE_COVER = 12,     /* tiles that do not cover the canvas */
@@ -83,8 +83,9 @@ uint64_t compose_overlay_offsets(const uint8_t *body, size_t body_len, uint32_t 
 /* How many entries a chain has. Refusals: the chain's. */
 uint64_t compose_chain(const uint8_t *chain, size_t chain_len);
 
-/* The rectangle that a clap property cuts out of a size, in 4 words: x, y, width, height. Answers 0. Refusals: clap's;
- * 17 an answer below 4 words. */
+/* The rectangle that a clap property cuts out of a size and the margins about it, in 8 words: x, y, width, height, left,
+ * top, right, bottom. Left is x and top is y; left + width + right is the size's width, top + height + bottom its height.
+ * Answers 0. Refusals: clap's; 17 an answer below 8 words. */
 uint64_t compose_clap_resolve(uint32_t width_n, uint32_t width_d, uint32_t height_n, uint32_t height_d,
                               uint32_t horiz_off_n, uint32_t horiz_off_d, uint32_t vert_off_n, uint32_t vert_off_d,
                               uint32_t width, uint32_t height, uint32_t *answer, size_t answer_len);
@@ -106,9 +107,11 @@ uint64_t compose_fill(uint16_t red, uint16_t green, uint16_t blue, uint32_t dept
 /* One operation on one record. Each writes a record at the start of `out`, leaves what is past it, and answers its
  * length. 17, the last refusal of each: `out` is shorter than that record. */
 
-/* The part of a record in a rectangle. Refusals: the record's, 9, 17. */
+/* The part of a record in a rectangle, with the margins about it, as compose_clap_resolve answers them. Refusals: the
+ * record's; 9 a side 0, left not x, top not y, left + width + right not the record's width, or top + height + bottom not
+ * its height; 17. */
 uint64_t compose_crop(const uint8_t *record, size_t record_len, uint32_t x, uint32_t y, uint32_t width, uint32_t height,
-                      uint8_t *out, size_t out_len);
+                      uint32_t left, uint32_t top, uint32_t right, uint32_t bottom, uint8_t *out, size_t out_len);
 
 /* A record cropped by a clap property. An offset's numerator is the unsigned pattern of a signed number. Refusals: the
  * record's, 7, 8, 9, 17. */

@@ -3,7 +3,7 @@
 
 use crate::form::Form;
 use crate::image::{HeifFrame, Plane};
-use crate::props::CropRect;
+use crate::props::{Crop, CropRect};
 use crate::record::{RecordInfo, inspect};
 use crate::{Result, limits, operation};
 
@@ -28,14 +28,14 @@ pub(crate) struct Bands<'a> {
 impl<'a> Bands<'a> {
     /// A crop, where it promotes nothing: then no row and no column shares a chroma sample with one
     /// outside.
-    pub fn crop(frame: &'a HeifFrame, part: CropRect) -> Option<Self> {
-        let form = frame.form().cropped(part)?;
+    pub fn crop(frame: &'a HeifFrame, to: &Crop) -> Option<Self> {
+        let form = frame.form().cropped(to)?;
         let crop = |band: &[u8]| {
             let RecordInfo { width, height, .. } = inspect(band)?;
             operation::crop(band, 0, 0, width, height)
         };
         (form.format == frame.format).then(|| Self {
-            part,
+            part: to.rect,
             ..Self::whole(frame, form, crop)
         })
     }
@@ -126,7 +126,7 @@ impl<'a> Bands<'a> {
 mod tests {
     use super::Bands;
     use crate::image::{Chroma, HeifFrame, HeifPixelFormat, Plane};
-    use crate::props::CropRect;
+    use crate::props::{Crop, CropRect};
     use crate::{Result, operation};
 
     /// Frames of every chroma, of one byte and of two a sample, without alpha and with it, whose rows
@@ -177,8 +177,9 @@ mod tests {
             for (x, y) in (0..frame.height).flat_map(|y| (0..frame.width).map(move |x| (x, y))) {
                 for (width, height) in [(1, 1), (2, 4), (4, 5), (frame.width - x, frame.height - y)]
                 {
-                    let to = CropRect::new(x, y, width, height);
-                    if let Some(part) = Bands::crop(&frame, to) {
+                    let rect = CropRect::new(x, y, width, height);
+                    let to = Crop::of(rect, frame.width, frame.height);
+                    if let Some(part) = Bands::crop(&frame, &to) {
                         parts += 1;
                         hold(&part, |record| operation::crop(record, x, y, width, height));
                     }

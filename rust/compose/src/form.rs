@@ -4,7 +4,7 @@
 use crate::derived::{GridDescriptor, OverlayDescriptor};
 use crate::image::{Chroma, HeifPixelFormat, MAX_FRAME_PIXELS};
 use crate::lend::narrow;
-use crate::props::{CropRect, Property};
+use crate::props::{Crop, Property};
 use crate::record::{RecordInfo, number_size, push_number};
 use crate::sys;
 use crate::transform::needs_444;
@@ -90,12 +90,12 @@ impl Form {
         Some(self.with_format(format.ok()?))
     }
 
-    /// The part in a rectangle, which is promoted where an edge or a side is odd.
-    pub fn cropped(self, to: CropRect) -> Option<Self> {
-        let inside = |edge: u32, side: u32, of: u32| u64::from(edge) + u64::from(side) <= of.into();
-        if !inside(to.x, to.width, self.width) || !inside(to.y, to.height, self.height) {
+    /// The part that a crop leaves, promoted where an edge or a side is odd.
+    pub fn cropped(self, crop: &Crop) -> Option<Self> {
+        if !crop.fits(self.width, self.height) {
             return None;
         }
+        let to = crop.rect;
         let part = self.sized(to.width, to.height)?;
         Some(part.promoted(odd(to.x) || odd(to.width), odd(to.y) || odd(to.height)))
     }
@@ -119,7 +119,7 @@ impl Form {
     /// After one property of a chain.
     pub fn after(self, property: &Property) -> Option<Self> {
         match property {
-            Property::Clap(clap) => self.cropped(clap.resolve(self.width, self.height).ok()?),
+            Property::Clap(clap) => self.cropped(&clap.resolve(self.width, self.height).ok()?),
             Property::Irot(irot) => Some(self.turned(irot.angle)),
             Property::Iscl(iscl) => {
                 let (width, height) = iscl.output_size(self.width, self.height).ok()?;

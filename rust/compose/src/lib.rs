@@ -83,8 +83,10 @@
 //!
 //! # What stays out
 //!
-//! A program that uses one of these changes more than its `use` lines. Where a call is there and
-//! answers otherwise, docs/DIFFERENCES.md says so.
+//! A program that uses one of these changes more than its `use` lines. So does one that uses
+//! [`Clap::resolve`](props::Clap::resolve): it answers the rectangle with the margins about it, a
+//! [`Crop`](props::Crop), whose `rect` is oxideav-heif's answer. Where a call is there and answers
+//! otherwise, docs/DIFFERENCES.md says so.
 //!
 //! - Of `error`, what an error holds: a [`Refusal`] is a number, with no variants and no text of its
 //!   own. `HeifError::invalid`, `HeifError::unsupported`, `HeifError::exhausted`, `HeifError::limit`,
@@ -169,18 +171,19 @@ pub use refusal::Refusal;
 pub use scene::{Point, Scene, Shows, point, scene};
 pub use transform::{
     apply_clap, apply_imir, apply_irot, apply_iscl, apply_transforms, apply_transforms_owned,
-    attach_alpha, crop, rescale_depth, resize_area, resize_nearest,
+    attach_alpha, crop, crop_with_margins, rescale_depth, resize_area, resize_nearest,
 };
 
 /// The functions of oxideav-heif's module `compose` where they were, so that in a `use` line the
-/// crate's name alone changes.
+/// crate's name alone changes; and [`crop_with_margins`] beside its [`crop`].
 pub mod compose {
     pub use crate::canvas::GridCanvas;
     pub use crate::composite::{OverlayInput, composite_grid, composite_overlay};
     pub use crate::fill::fill_to_ycbcr;
     pub use crate::transform::{
         apply_clap, apply_imir, apply_irot, apply_iscl, apply_transforms, apply_transforms_owned,
-        attach_alpha, crop, needs_444, rescale_depth, resize_area, resize_nearest,
+        attach_alpha, crop, crop_with_margins, needs_444, rescale_depth, resize_area,
+        resize_nearest,
     };
 }
 

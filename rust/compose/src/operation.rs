@@ -19,7 +19,7 @@ use crate::Result;
 use crate::form::Form;
 use crate::lend::{composed, written};
 use crate::plan::{self, Asked};
-use crate::props::{Clap, CropRect, Iscl, Property};
+use crate::props::{Clap, Crop, CropRect, Iscl, Property};
 use crate::record::{RecordInfo, inspect};
 use crate::sys::Fresh;
 
@@ -34,10 +34,44 @@ fn other_than(info: &RecordInfo, record: &[u8], form: Option<Form>) -> Option<As
 
 /// The part of a record in a rectangle. Refusals: the record's; 9 a rectangle outside.
 pub fn crop(record: &[u8], x: u32, y: u32, width: u32, height: u32) -> Result<Vec<u8>> {
-    let to = CropRect::new(x, y, width, height);
-    let asked = inspect(record)?.form().cropped(to);
-    written(asked.map(Asked::from), |room| {
-        Fresh::compose_crop(record, x, y, width, height, room)
+    let (form, rect) = (inspect(record)?.form(), CropRect::new(x, y, width, height));
+    cropped(record, form, &Crop::of(rect, form.width, form.height))
+}
+
+/// The part of a record that a crop leaves. Refusals: the record's; 9 where it does not fit
+/// ([`Crop::fits`]).
+///
+/// ```
+/// use compose::operation;
+/// use compose::props::{Crop, CropRect};
+///
+/// let record = [2, 1, 0, 8, 0, 2, 2, 10, 20];
+/// let mut part = Crop::of(CropRect { x: 1, y: 0, width: 1, height: 1 }, 2, 1);
+/// assert_eq!(operation::crop_with_margins(&record, &part)?, [1, 1, 0, 8, 0, 1, 1, 20]);
+/// part.margins.bottom = 1;
+/// assert_eq!(operation::crop_with_margins(&record, &part).unwrap_err().number(), 9);
+/// # Ok::<(), compose::Refusal>(())
+/// ```
+pub fn crop_with_margins(record: &[u8], to: &Crop) -> Result<Vec<u8>> {
+    cropped(record, inspect(record)?.form(), to)
+}
+
+/// What a crop leaves of a record of that form.
+fn cropped(record: &[u8], form: Form, to: &Crop) -> Result<Vec<u8>> {
+    let Crop { rect, margins } = *to;
+    written(form.cropped(to).map(Asked::from), |room| {
+        Fresh::compose_crop(
+            record,
+            rect.x,
+            rect.y,
+            rect.width,
+            rect.height,
+            margins.left,
+            margins.top,
+            margins.right,
+            margins.bottom,
+            room,
+        )
     })
 }
 

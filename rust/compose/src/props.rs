@@ -50,23 +50,24 @@ impl Clap {
         }
     }
 
-    /// The rectangle that stays of a picture of the given size. Refusals, the width axis wholly
-    /// before the height: 7 a zero denominator, 8 a size that is not whole, 9 one of 0 or above the
-    /// picture's, 8 an edge that is not whole, 9 one outside.
+    /// The rectangle that stays of a picture of the given size, and what is taken about it. Refusals,
+    /// the width axis wholly before the height: 7 a zero denominator, 8 a size that is not whole, 9 one
+    /// of 0 or above the picture's, 8 an edge that is not whole, 9 one outside.
     ///
     /// ```
-    /// use compose::props::{Clap, CropRect};
+    /// use compose::props::{Clap, CropRect, Margins};
     ///
-    /// // 63 of 64 about a centre that lies half a pixel to the right.
-    /// let clap = Clap::new(63, 1, 48, 1, 1, 2, 0, 1);
-    /// let rect = CropRect { x: 1, y: 0, width: 63, height: 48 };
-    /// assert_eq!(clap.resolve(64, 48), Ok(rect));
+    /// // 61 of 64 about a centre that lies half a pixel to the right.
+    /// let stays = Clap::new(61, 1, 48, 1, 1, 2, 0, 1).resolve(64, 48)?;
+    /// assert_eq!(stays.rect, CropRect { x: 2, y: 0, width: 61, height: 48 });
+    /// assert_eq!(stays.margins, Margins { left: 2, top: 0, right: 1, bottom: 0 });
     /// // About the middle itself they have no whole edge.
-    /// let refusal = Clap::integer(63, 48, 0, 0).resolve(64, 48).unwrap_err();
+    /// let refusal = Clap::integer(61, 48, 0, 0).resolve(64, 48).unwrap_err();
     /// assert_eq!((refusal.number(), refusal.name()), (8, "fraction"));
+    /// # Ok::<(), compose::Refusal>(())
     /// ```
-    pub fn resolve(&self, width: u32, height: u32) -> Result<CropRect> {
-        let mut words = [0; 4];
+    pub fn resolve(&self, width: u32, height: u32) -> Result<Crop> {
+        let mut words = [0; 8];
         sys::compose_clap_resolve(
             self.width_n,
             self.width_d,
@@ -80,12 +81,15 @@ impl Clap {
             height,
             &mut words,
         )?;
-        let [x, y, width, height] = words;
-        Ok(CropRect {
-            x,
-            y,
-            width,
-            height,
+        let [x, y, width, height, left, top, right, bottom] = words;
+        Ok(Crop {
+            rect: CropRect::new(x, y, width, height),
+            margins: Margins {
+                left,
+                top,
+                right,
+                bottom,
+            },
         })
     }
 
@@ -135,6 +139,76 @@ impl CropRect {
             width,
             height,
         }
+    }
+}
+
+/// What a crop takes on each side of its rectangle, in pixels of the picture that is cropped.
+#[derive(Clone, Copy, Debug, PartialEq, Eq)]
+pub struct Margins {
+    /// Columns to the left of the rectangle.
+    pub left: u32,
+    /// Rows above it.
+    pub top: u32,
+    /// Columns to the right of it.
+    pub right: u32,
+    /// Rows below it.
+    pub bottom: u32,
+}
+
+/// A rectangle of a picture, and the margins about it.
+#[derive(Clone, Copy, Debug, PartialEq, Eq)]
+pub struct Crop {
+    /// What stays.
+    pub rect: CropRect,
+    /// What is taken.
+    pub margins: Margins,
+}
+
+impl Crop {
+    /// A rectangle with the margins that it has in a picture of the given size: left and top are its
+    /// edges, right and bottom what is left behind it. Where it passes the picture's far edge that is
+    /// 0, and such a crop is refused (9).
+    ///
+    /// ```
+    /// use compose::props::{Crop, CropRect, Margins};
+    ///
+    /// let rect = CropRect { x: 4, y: 2, width: 24, height: 16 };
+    /// let part = Crop::of(rect, 32, 24);
+    /// assert_eq!(part.margins, Margins { left: 4, top: 2, right: 4, bottom: 6 });
+    /// assert!(part.fits(32, 24) && !part.fits(32, 25));
+    /// assert!(!Crop::of(rect, 27, 24).fits(27, 24));
+    /// ```
+    pub fn of(rect: CropRect, width: u32, height: u32) -> Self {
+        let behind =
+            |edge: u32, size: u32, side: u32| side.saturating_sub(edge).saturating_sub(size);
+        Self {
+            rect,
+            margins: Margins {
+                left: rect.x,
+                top: rect.y,
+                right: behind(rect.x, rect.width, width),
+                bottom: behind(rect.y, rect.height, height),
+            },
+        }
+    }
+
+    /// Whether it is one of a picture of the given size: no side is 0, left and top are the rectangle's
+    /// edges, left + width + right is the picture's width, and top + height + bottom its height.
+    pub fn fits(&self, width: u32, height: u32) -> bool {
+        let Self { rect, margins } = self;
+        let axis = |[edge, before, size, behind]: [u32; 4], side: u32| {
+            let sum = u64::from(before) + u64::from(size) + u64::from(behind);
+            size > 0 && before == edge && sum == u64::from(side)
+        };
+        axis([rect.x, margins.left, rect.width, margins.right], width)
+            && axis([rect.y, margins.top, rect.height, margins.bottom], height)
+    }
+}
+
+impl From<Crop> for CropRect {
+    /// What stays.
+    fn from(crop: Crop) -> Self {
+        crop.rect
     }
 }
 

@@ -40,7 +40,7 @@ use crate::composite::{self, Recorded};
 use crate::derived::{GridDescriptor, OverlayDescriptor};
 use crate::form::{Form, push_numbers};
 use crate::image::{HeifFrame, HeifPixelFormat, read_sample, sample_place};
-use crate::props::{Clap, Colr, Imir, Irot, Iscl, PropertyEntry};
+use crate::props::{Clap, Colr, Crop, Imir, Irot, Iscl, PropertyEntry};
 use crate::record::{PlaneInfo, RecordInfo, inspect};
 use crate::transform::{all_after, applied, area};
 use crate::{Refusal, Result, limits, operation};
@@ -200,6 +200,11 @@ type Made = Result<RecordFrame<'static>>;
 /// The `w` × `h` part of `f` from (`x`, `y`) on. Refusal 9: a rectangle outside.
 pub fn crop(f: &RecordFrame, x: u32, y: u32, w: u32, h: u32) -> Made {
     RecordFrame::from_record(operation::crop(&f.record, x, y, w, h)?)
+}
+
+/// The part of `f` that a crop leaves. Refusal 9: it does not fit ([`Crop::fits`]).
+pub fn crop_with_margins(f: &RecordFrame, to: &Crop) -> Made {
+    RecordFrame::from_record(operation::crop_with_margins(&f.record, to)?)
 }
 
 /// Applies a clap property. Refusals: 7, 8, 9, the width axis first.

@@ -44,7 +44,7 @@ refusals! {
     6 DEPTH "depth" "a depth outside 8 to 16"
     7 ZERO "zero" "a zero term of a fraction"
     8 FRACTION "fraction" "a size or an edge that is no whole number"
-    9 OUTSIDE "outside" "a rectangle outside its picture"
+    9 OUTSIDE "outside" "a rectangle outside its picture, or margins that are not its own"
     10 SCALE "scale" "a scaled side above 2^32 - 1"
     11 COUNT "count" "a count or an index that differs"
     12 COVER "cover" "tiles that do not cover the canvas"

@@ -156,7 +156,8 @@ library! {
     /// How many entries a chain has.
     fn compose_chain(chain: &[u8]);
 
-    /// The rectangle that a clap property cuts out of a size, in 4 words: x, y, width, height.
+    /// The rectangle that a clap property cuts out of a size and the margins about it, in 8 words: x,
+    /// y, width, height, left, top, right, bottom.
     fn compose_clap_resolve(
         width_n: u32,
         width_d: u32,
@@ -198,8 +199,20 @@ library! {
         answer: &mut [u16],
     );
 
-    /// The part of a record in a rectangle; answers the length that it wrote, as the next ones do.
-    fn compose_crop(record: &[u8], x: u32, y: u32, width: u32, height: u32, out: &mut [u8]);
+    /// The part of a record in a rectangle, the margins about it beside; answers the length that it
+    /// wrote, as the next ones do.
+    fn compose_crop(
+        record: &[u8],
+        x: u32,
+        y: u32,
+        width: u32,
+        height: u32,
+        left: u32,
+        top: u32,
+        right: u32,
+        bottom: u32,
+        out: &mut [u8],
+    );
 
     /// A record cropped by a clap property, the offsets' numerators as 32-bit patterns.
     fn compose_clap(

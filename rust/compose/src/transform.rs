@@ -26,7 +26,7 @@
 use crate::bands::Bands;
 use crate::composite::Recorded;
 use crate::image::{Chroma, HeifFrame};
-use crate::props::{Clap, CropRect, Imir, Irot, Iscl, Property, PropertyEntry};
+use crate::props::{Clap, Crop, CropRect, Imir, Irot, Iscl, Property, PropertyEntry};
 use crate::{Refusal, Result, chain, operation, stock};
 
 /// Whether an odd column or an odd row asks for a chroma sample that a picture of this chroma has
@@ -57,13 +57,30 @@ fn on_frame(f: &HeifFrame, operation: impl Fn(&[u8]) -> Result<Vec<u8>>) -> Resu
 
 /// The `w` × `h` part of `f` from (`x`, `y`) on. Refusals: the frame's; 9 a rectangle outside.
 pub fn crop(f: &HeifFrame, x: u32, y: u32, w: u32, h: u32) -> Result<HeifFrame> {
+    crop_with_margins(f, &Crop::of(CropRect::new(x, y, w, h), f.width, f.height))
+}
+
+/// The part of `f` that a crop leaves. Refusals: the frame's; 9 where it does not fit ([`Crop::fits`]).
+///
+/// ```
+/// use compose::image::{Chroma, HeifFrame, HeifPixelFormat};
+/// use compose::props::{Crop, CropRect};
+/// use compose::{crop, crop_with_margins};
+///
+/// let frame = HeifFrame::zeroed(6, 4, HeifPixelFormat::new(Chroma::Yuv420, 8, false)?)?;
+/// let mut part = Crop::of(CropRect { x: 2, y: 0, width: 3, height: 4 }, 6, 4);
+/// assert_eq!(crop_with_margins(&frame, &part)?, crop(&frame, 2, 0, 3, 4)?);
+/// part.margins.right = 2;
+/// assert_eq!(crop_with_margins(&frame, &part).unwrap_err().number(), 9);
+/// # Ok::<(), compose::Refusal>(())
+/// ```
+pub fn crop_with_margins(f: &HeifFrame, to: &Crop) -> Result<HeifFrame> {
     f.validate()?;
-    let to = CropRect::new(x, y, w, h);
     match (Bands::crop(f, to), f.form().cropped(to)) {
         (Some(bands), _) => bands.made(),
-        (None, Some(_)) => promoted_part(f, to),
+        (None, Some(_)) => promoted_part(f, to.rect),
         // The call has the refusal.
-        (None, None) => on_frame(f, |record| operation::crop(record, x, y, w, h)),
+        (None, None) => on_frame(f, |record| operation::crop_with_margins(record, to)),
     }
 }
 
@@ -100,8 +117,7 @@ fn promoted_part(f: &HeifFrame, to: CropRect) -> Result<HeifFrame> {
 /// ```
 pub fn apply_clap(f: &HeifFrame, clap: &Clap) -> Result<HeifFrame> {
     f.validate()?;
-    let to = clap.resolve(f.width, f.height)?;
-    crop(f, to.x, to.y, to.width, to.height)
+    crop_with_margins(f, &clap.resolve(f.width, f.height)?)
 }
 
 /// Applies an irot property: angle mod 4 quarter turns anticlockwise. Refusals: the frame's.

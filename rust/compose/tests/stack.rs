@@ -112,7 +112,7 @@ fn add_reading(calls: &mut Calls) {
         sys::compose_steps(&input, &mut out)
     });
     calls.add("compose_clap_resolve", || {
-        sys::compose_clap_resolve(63, 1, 48, 1, 1, 2, 0, 1, 64, 48, &mut [0; 4])
+        sys::compose_clap_resolve(63, 1, 48, 1, 1, 2, 0, 1, 64, 48, &mut [0; 8])
     });
     calls.add("compose_iscl_size", || {
         sys::compose_iscl_size(3, 2, 2, 3, 64, 48, &mut [0; 2])
@@ -132,10 +132,10 @@ fn add_operations(calls: &mut Calls, format: HeifPixelFormat) {
         calls.add(name, move || call(&one, &mut out));
     };
     operation("compose_crop", |one, out| {
-        sys::compose_crop(one, 1, 1, 33, 21, out)
+        sys::compose_crop(one, 1, 1, 33, 21, 1, 1, 41, 29, out)
     });
     operation("compose_crop", |one, out| {
-        sys::compose_crop(one, 2, 2, 32, 20, out)
+        sys::compose_crop(one, 2, 2, 32, 20, 2, 2, 41, 29, out)
     });
     operation("compose_clap", |one, out| {
         sys::compose_clap(one, 33, 1, 21, 1, 0, 1, 0, 1, out)

@@ -2,12 +2,13 @@
 
 use super::options::PICTURE;
 use super::pictures::{Pictures, Target};
+use super::properties::taken;
 use super::words::Words;
 use super::{Command, Failure};
 use compose::operation::{
-    attach_alpha, clap, crop, imir, irot, iscl, rescale_depth, resize_nearest,
+    attach_alpha, clap, crop_with_margins, imir, irot, iscl, rescale_depth, resize_nearest,
 };
-use compose::props::Iscl;
+use compose::props::{Crop, CropRect, Iscl};
 use compose::record::inspect;
 use compose::{Limits, Result as Answer};
 
@@ -33,7 +34,7 @@ pub const CROP: Command = Command {
     about: "the part in a rectangle",
     more: "\
 X and Y count from 0, from the left and the top. Where the chroma is halved and an edge or a size is
-odd, the picture is promoted to 4:4:4.
+odd, the picture is promoted to 4:4:4. It says how much is taken on each side.
 ",
     run: run_crop,
 };
@@ -45,7 +46,8 @@ pub const CLAP: Command = Command {
     about: "the part in a clean aperture",
     more: "\
 The aperture is WN/WD wide and HN/HD high; its centre lies XN/XD to the right of the picture's and
-YN/YD below it (XN and YN may be negative). Size and edges must come out whole.
+YN/YD below it (XN and YN may be negative). Size and edges must come out whole. It says how much is
+taken on each side.
   compose clap slope.rec 24 1 16 1 0 1 -2 1 -o part.rec
 ",
     run: run_clap,
@@ -119,11 +121,37 @@ fn apply(
     file: &str,
     operation: impl Fn(&[u8]) -> Answer<Vec<u8>>,
 ) -> Result<(), Failure> {
+    apply_saying(words, file, |record| {
+        Ok((operation(record)?, String::new()))
+    })
+}
+
+/// The same, with more to say of it.
+fn apply_saying(
+    words: &Words,
+    file: &str,
+    operation: impl Fn(&[u8]) -> Answer<(Vec<u8>, String)>,
+) -> Result<(), Failure> {
     let mut pictures = Pictures::take(words)?;
     let target = Target::take(words)?;
     let record = pictures.read(words, file)?;
-    let made = operation(&record).map_err(|refusal| words.refused(refusal))?;
-    pictures.write(words, &target, &made)
+    let (made, more) = operation(&record).map_err(|refusal| words.refused(refusal))?;
+    pictures.write_saying(words, &target, &made, &more)
+}
+
+/// The same of a crop, which is worked out from the picture's size, with what it takes.
+fn cut(
+    words: &Words,
+    file: &str,
+    resolve: impl Fn(u32, u32) -> Answer<Crop>,
+    cropped: impl Fn(&[u8], &Crop) -> Answer<Vec<u8>>,
+) -> Result<(), Failure> {
+    apply_saying(words, file, |record| {
+        let info = inspect(record)?;
+        let crop = resolve(info.width, info.height)?;
+        let taken = taken(&crop, (info.width, info.height));
+        Ok((cropped(record, &crop)?, format!(", {taken}")))
+    })
 }
 
 fn run_convert(words: &mut Words) -> Result<(), Failure> {
@@ -139,13 +167,21 @@ fn run_convert(words: &mut Words) -> Result<(), Failure> {
 fn run_crop(words: &mut Words) -> Result<(), Failure> {
     let file = words.file("PICTURE")?;
     let [x, y, width, height] = words.numbers(["X", "Y", "WIDTH", "HEIGHT"])?;
-    apply(words, &file, |record| crop(record, x, y, width, height))
+    let rect = CropRect {
+        x,
+        y,
+        width,
+        height,
+    };
+    let crop = |width, height| Ok(Crop::of(rect, width, height));
+    cut(words, &file, crop, crop_with_margins)
 }
 
 fn run_clap(words: &mut Words) -> Result<(), Failure> {
     let file = words.file("PICTURE")?;
     let aperture = words.clap()?;
-    apply(words, &file, |record| clap(record, &aperture))
+    let crop = |width, height| aperture.resolve(width, height);
+    cut(words, &file, crop, |record, _| clap(record, &aperture))
 }
 
 fn run_irot(words: &mut Words) -> Result<(), Failure> {

@@ -12,6 +12,9 @@ use compose::{
 /// A part in words, and its refusal.
 type Part = (String, Refusal);
 
+/// A width and a height.
+pub type Size = (u32, u32);
+
 /// The files of a scene.
 pub struct Files {
     pub body: String,
@@ -32,6 +35,11 @@ pub fn of_tray(file: &str, tray: &[u8]) -> String {
 
 fn record_of(file: &str, index: usize) -> String {
     format!("{file}, record {index}")
+}
+
+/// An entry of a chain.
+pub fn entry_of(file: &str, index: usize) -> String {
+    format!("{file}, entry {index}")
 }
 
 impl Files {
@@ -71,7 +79,7 @@ impl Files {
     }
 
     /// The size of a body's canvas, and how many tiles a grid has.
-    fn body(&self, scene: &Scene, count: usize) -> Answer<((u32, u32), usize)> {
+    fn body(&self, scene: &Scene, count: usize) -> Answer<(Size, usize)> {
         match scene.marks {
             None => {
                 let grid = GridDescriptor::parse(scene.body)?;
@@ -129,7 +137,7 @@ impl Files {
     }
 
     /// The applied entries of the chain in turn, on the size that each leaves.
-    fn entries(&self, scene: &Scene, size: (u32, u32)) -> Result<(), Part> {
+    fn entries(&self, scene: &Scene, size: Size) -> Result<(), Part> {
         let (Some(file), Ok(entries)) = (&self.chain, chain::entries(scene.chain)) else {
             return Ok(());
         };
@@ -139,22 +147,29 @@ impl Files {
                 continue;
             }
             let after = self.size_after(entry, size);
-            size = after.map_err(|refusal| (format!("{file}, entry {index}"), refusal))?;
+            size = after.map_err(|refusal| (entry_of(file, index), refusal))?;
         }
         Ok(())
     }
 
-    fn size_after(&self, entry: &PropertyEntry, (width, height): (u32, u32)) -> Answer<(u32, u32)> {
+    fn size_after(&self, entry: &PropertyEntry, size: Size) -> Answer<Size> {
         match entry.property {
-            Property::Clap(clap) => {
-                let part = clap.resolve(width, height)?;
-                Ok((part.width, part.height))
-            }
-            Property::Irot(irot) if irot.angle % 2 == 1 => Ok((height, width)),
             Property::Iscl(_) if self.point => Err(Refusal::POINT),
-            Property::Iscl(iscl) => iscl.output_size(width, height),
-            _ => Ok((width, height)),
+            property => size_after(&property, size),
         }
+    }
+}
+
+/// The size that a property leaves of a picture.
+pub fn size_after(property: &Property, (width, height): Size) -> Answer<Size> {
+    match property {
+        Property::Clap(clap) => {
+            let part = clap.resolve(width, height)?.rect;
+            Ok((part.width, part.height))
+        }
+        Property::Irot(irot) if irot.angle % 2 == 1 => Ok((height, width)),
+        Property::Iscl(iscl) => iscl.output_size(width, height),
+        _ => Ok((width, height)),
     }
 }
 

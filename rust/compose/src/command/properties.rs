@@ -1,21 +1,25 @@
 //! Chains, and the sizes that properties give.
 
 use super::files::{counted, read, say};
-use super::options::{FORCE, OUT};
+use super::options::{ESSENTIAL, FORCE, OUT};
+use super::parts::{self, Size};
 use super::words::Words;
 use super::{Command, Failure};
-use compose::props::{Clap, Imir, Irot, Iscl, Property, PropertyEntry};
-use compose::{chain, steps};
+use compose::props::{Clap, Crop, Imir, Irot, Iscl, Margins, Property, PropertyEntry};
+use compose::{Refusal, Result as Answer, chain, steps};
 
 pub const CHAIN: Command = Command {
     name: "chain",
-    takes: "CHAIN",
-    options: &[],
+    takes: "CHAIN [WIDTH HEIGHT]",
+    options: &[ESSENTIAL],
     about: "what a chain of properties holds",
     more: "\
 Prints how many entries there are, then a line an entry: its index, its property with the fields as
 `compose resolve` takes them, and whether it is essential.
   printf '\\2\\2\\1\\1\\3\\0\\1' | compose chain -
+With the size of a picture, a line says, too, which size the entry leaves of the one before, and how
+much a clap takes on each side. A refused entry ends the text, and then the exit status is 2.
+  compose chain turn.chain 48 32
 ",
     run: run_chain,
 };
@@ -64,11 +68,12 @@ pub const RESOLVE: Command = Command {
     about: "what a property makes of a size",
     more: "\
 Of a picture of that size, for
-  clap WN WD HN HD XN XD YN YD   it prints x, y, width and height of the part that stays;
+  clap WN WD HN HD XN XD YN YD   it prints x, y, width and height of the part that stays, and what is
+                                 taken to its left, above it, to its right and below it;
   iscl WN WD HN HD               it prints the width and the height that the picture is scaled to.
 The fields are fractions: width, height, and how far the part's centre lies to the right of the
 picture's and below it (XN and YN may be negative).
-  compose resolve clap 64 48 62 1 48 1 0 1 0 1     1 0 62 48
+  compose resolve clap 64 48 62 1 48 1 0 1 0 1     1 0 62 48 1 0 1 0
   compose resolve iscl 5 5 1 2 2 3                 3 4
 ",
     run: run_resolve,
@@ -121,11 +126,49 @@ fn about(property: &Property) -> String {
     }
 }
 
+/// What a crop takes of a picture.
+pub fn taken(crop: &Crop, (width, height): Size) -> String {
+    let Margins {
+        left,
+        top,
+        right,
+        bottom,
+    } = crop.margins;
+    format!("takes {left} left, {top} top, {right} right, {bottom} bottom of {width} × {height}")
+}
+
+/// The size that a property leaves of a picture, and what it does in words.
+fn effect(property: &Property, before: Size) -> Answer<(Size, String)> {
+    let after = parts::size_after(property, before)?;
+    let leaves = format!("leaves {} × {}", after.0, after.1);
+    let effect = match property {
+        Property::Clap(clap) => {
+            let taken = taken(&clap.resolve(before.0, before.1)?, before);
+            format!("{taken}, {leaves}")
+        }
+        _ => leaves,
+    };
+    Ok((after, effect))
+}
+
+/// Why no picture has a size, as the program steps judges it.
+fn refused_size((width, height): Size) -> Option<Refusal> {
+    let no_entries = steps::input(width, height, &[0]);
+    steps::refusal(&steps::text(&no_entries))
+}
+
 fn run_chain(words: &mut Words) -> Result<(), Failure> {
     let file = words.file("CHAIN")?;
+    let mut size: Option<Size> = match words.is_empty() {
+        true => None,
+        false => Some(words.numbers(["WIDTH", "HEIGHT"])?.into()),
+    };
     words.end()?;
     let entries = chain::entries(&read(&file)?);
     let entries = entries.map_err(|refusal| words.refused_in(&file, refusal))?;
+    if let Some(refusal) = size.and_then(refused_size) {
+        return Err(words.refused(refusal));
+    }
     let mut text = format!("{}\n", counted(entries.len(), "entry"));
     for (index, entry) in entries.iter().enumerate() {
         let PropertyEntry {
@@ -133,8 +176,23 @@ fn run_chain(words: &mut Words) -> Result<(), Failure> {
             property,
             ..
         } = entry;
-        let essential = if *essential { ", essential" } else { "" };
-        text += &format!("{index:>5}  {}{essential}\n", about(property));
+        let flag = if *essential { ", essential" } else { "" };
+        text += &format!("{index:>5}  {}{flag}", about(property));
+        match (words.flag(ESSENTIAL.name) && !essential, size) {
+            (true, _) => text += ": skipped",
+            (false, None) => {}
+            (false, Some(before)) => match effect(property, before) {
+                Ok((after, effect)) => {
+                    text += &format!(": {effect}");
+                    size = Some(after);
+                }
+                Err(refusal) => {
+                    say(&format!("{text}: {refusal}\n"))?;
+                    return Err(words.refused_in(&parts::entry_of(&file, index), refusal));
+                }
+            },
+        }
+        text += "\n";
     }
     say(&text)
 }
@@ -154,9 +212,11 @@ fn resolve_clap(words: &mut Words) -> Result<Vec<u32>, Failure> {
     let [width, height] = words.numbers(["WIDTH", "HEIGHT"])?;
     let aperture = words.clap()?;
     words.end()?;
-    let rect = aperture.resolve(width, height);
-    let rect = rect.map_err(|refusal| words.refused(refusal))?;
-    Ok(vec![rect.x, rect.y, rect.width, rect.height])
+    let stays = aperture.resolve(width, height);
+    let Crop { rect, margins } = stays.map_err(|refusal| words.refused(refusal))?;
+    let stays = [rect.x, rect.y, rect.width, rect.height];
+    let taken = [margins.left, margins.top, margins.right, margins.bottom];
+    Ok([stays, taken].concat())
 }
 
 fn resolve_iscl(words: &mut Words) -> Result<Vec<u32>, Failure> {

@@ -160,6 +160,12 @@ fn wrong_words_write_nothing() {
             "compose: descriptor: 2 is a word too many",
         ),
         ("chain", "compose: chain: CHAIN is missing"),
+        ("chain a.rec 6", "compose: chain: HEIGHT is missing"),
+        ("chain a.rec 6 4 2", "compose: chain: 2 is a word too many"),
+        (
+            "chain a.rec 6 -4",
+            "compose: chain: HEIGHT is a number from 0 to 4294967295, not -4",
+        ),
         ("entries", "compose: entries: -o OUT is missing"),
         (
             "entries turn 1 -o new.rec",

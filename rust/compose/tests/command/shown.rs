@@ -3,7 +3,7 @@
 use crate::folder::{Folder, complaint, status};
 use compose::operation::{attach_alpha, crop, imir, irot, iscl, rescale_depth, resize_nearest};
 use compose::props::{Clap, Imir, Irot, Iscl, Property, PropertyEntry};
-use compose::{OverlayDescriptor, chain, record, steps, tray};
+use compose::{OverlayDescriptor, Refusal, chain, record, steps, tray};
 use std::fs;
 
 #[test]
@@ -354,15 +354,106 @@ fn chains_are_shown() {
     );
 }
 
+/// With a size, a line says what its entry makes of what is left of it.
+#[test]
+fn a_chain_says_what_it_takes() {
+    let folder = Folder::new("chain-takes");
+    folder.done(
+        "entries clap! 24 1 16 1 0 1 -2 1 irot 1 other clap 15 1 24 1 1 2 0 1 imir! 0 iscl 1 2 3 1 -o c",
+    );
+    assert_eq!(
+        folder.done("chain c 32 24"),
+        "6 entries\n    \
+         0  clap 24 1 16 1 0 1 -2 1, essential: takes 4 left, 2 top, 4 right, 6 bottom of 32 × 24, \
+         leaves 24 × 16\n    \
+         1  irot 1: leaves 16 × 24\n    \
+         2  other: leaves 16 × 24\n    \
+         3  clap 15 1 24 1 1 2 0 1: takes 1 left, 0 top, 0 right, 0 bottom of 16 × 24, \
+         leaves 15 × 24\n    \
+         4  imir 0, essential: leaves 15 × 24\n    \
+         5  iscl 1 2 3 1: leaves 8 × 72\n"
+    );
+    assert_eq!(
+        folder.done("chain --essential c 24 20"),
+        "6 entries\n    \
+         0  clap 24 1 16 1 0 1 -2 1, essential: takes 0 left, 0 top, 0 right, 4 bottom of 24 × 20, \
+         leaves 24 × 16\n    \
+         1  irot 1: skipped\n    2  other: skipped\n    3  clap 15 1 24 1 1 2 0 1: skipped\n    \
+         4  imir 0, essential: leaves 24 × 16\n    \
+         5  iscl 1 2 3 1: skipped\n"
+    );
+    // What is skipped is without a size, too.
+    folder.done("entries irot 1 imir! 0 -o turn");
+    assert_eq!(
+        folder.done("chain turn --essential"),
+        "2 entries\n    0  irot 1: skipped\n    1  imir 0, essential\n"
+    );
+}
+
+/// A refused entry ends the text, and a size that no picture has is refused before it.
+#[test]
+fn a_chain_says_where_it_is_refused() {
+    let folder = Folder::new("chain-refused");
+    folder.done("entries irot! 1 clap 24 1 16 1 0 1 0 1 imir 1 -o c");
+    let output = folder.run("chain c 24 16");
+    assert_eq!(status(&output), 2);
+    let refusal = Refusal::OUTSIDE;
+    assert_eq!(
+        String::from_utf8_lossy(&output.stdout),
+        format!(
+            "3 entries\n    0  irot 1, essential: leaves 16 × 24\n    \
+             1  clap 24 1 16 1 0 1 0 1: {refusal}\n"
+        )
+    );
+    let complained = format!("compose chain: c, entry 1: {refusal}\n");
+    assert_eq!(complaint(&output), complained);
+    assert!(
+        folder
+            .done("chain c 24 16 --essential")
+            .ends_with("imir 1: skipped\n")
+    );
+    for (size, beginning) in [
+        ("0 4", "refused 3 (empty): "),
+        ("65536 16385", "refused 4 (limit): "),
+    ] {
+        let beginning = format!("compose chain: {beginning}");
+        folder.fails(&format!("chain c {size}"), 2, &beginning);
+    }
+}
+
+/// What a crop and a clap take stands beside what they leave.
+#[test]
+fn crops_say_what_they_take() {
+    let folder = Folder::with_picture("takes");
+    for (words, said) in [
+        (
+            "crop a.rec 1 0 3 2",
+            "3 × 2, 4:4:4, depth 8, takes 1 left, 0 top, 2 right, 2 bottom of 6 × 4, 29 bytes",
+        ),
+        (
+            "clap a.rec 2 1 3 1 0 1 -1 2",
+            "2 × 3, 4:4:4, depth 8, takes 2 left, 0 top, 2 right, 1 bottom of 6 × 4, 29 bytes",
+        ),
+        (
+            "clap a.rec 6 1 4 1 0 1 0 1",
+            "6 × 4, 4:2:0, depth 8, takes 0 left, 0 top, 0 right, 0 bottom of 6 × 4, 47 bytes",
+        ),
+    ] {
+        let line = folder.done(&format!("{words} -o out.rec --force"));
+        assert_eq!(line, format!("out.rec: {said}\n"));
+    }
+}
+
 #[test]
 fn sizes_are_worked_out() {
     let folder = Folder::new("sizes");
     for (words, numbers) in [
-        ("clap 64 48 62 1 48 1 0 1 0 1", "1 0 62 48\n"),
-        ("clap 64 48 63 1 48 1 -1 2 0 1", "0 0 63 48\n"),
+        ("clap 64 48 62 1 48 1 0 1 0 1", "1 0 62 48 1 0 1 0\n"),
+        ("clap 64 48 63 1 48 1 -1 2 0 1", "0 0 63 48 0 0 1 0\n"),
+        ("clap 32 24 24 1 16 1 0 1 -2 1", "4 2 24 16 4 2 4 6\n"),
         (
             "clap 4294967295 1 4294967295 1 1 1 0 1 0 1",
-            "0 0 4294967295 1\n",
+            "0 0 4294967295 1 0 0 0 0\n",
         ),
         ("iscl 5 5 1 2 2 3", "3 4\n"),
     ] {

@@ -333,9 +333,20 @@ impl Pictures {
 
     /// Writes a record that was made, in the format of the target.
     pub fn write(&self, words: &Words, target: &Target, made: &[u8]) -> Result<(), Failure> {
+        self.write_saying(words, target, made, "")
+    }
+
+    /// The same, with more in the line about it.
+    pub fn write_saying(
+        &self,
+        words: &Words,
+        target: &Target,
+        made: &[u8],
+        more: &str,
+    ) -> Result<(), Failure> {
         let refused = |refusal| words.refused(refusal);
         let info = record::inspect(made).map_err(refused)?;
-        let about = about_info(&info);
+        let about = about_info(&info) + more;
         if target.format == Format::Record {
             return target.out.write(made, &about);
         }
