@@ -4,7 +4,7 @@ use crate::case::{Case, Row, answered};
 use differential::generate::{self, Form};
 use differential::ours::{Composer, Linked};
 use differential::rng::Rng;
-use model::{Chroma, Clap, Frame, Iscl, Operation, Rectangle, Work};
+use model::{Chroma, Clap, Crop, Frame, Iscl, Operation, Rectangle, Work};
 
 /// A square picture of 4:2:0 without alpha, its rows tight and its samples anything up to top.
 pub fn picture(depth: u8, side: u32) -> Frame {
@@ -58,12 +58,13 @@ pub fn operation(name: &str, depth: u8, side: u32, operation: Operation) -> Row 
 
 /// The half of a picture's sides from an edge on, along both.
 fn half_from(edge: u32, side: u32) -> Operation {
-    Operation::Crop(Rectangle {
+    let half = Rectangle {
         x: edge,
         y: edge,
         width: side / 2,
         height: side / 2,
-    })
+    };
+    Operation::Crop(Crop::of(half, (side, side)))
 }
 
 /// The middle half of a picture's sides.

@@ -112,7 +112,7 @@ pub fn resolve() -> Row {
                 y_d,
                 4_000,
                 3_000,
-                &mut [0; 4],
+                &mut [0; 8],
             ))
         };
         one(call, Work::Resolve(clap, 4_000, 3_000))

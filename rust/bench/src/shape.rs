@@ -55,7 +55,10 @@ macro_rules! shape {
         impl Shape for $frame {
             fn operation(&self, operation: Operation) -> Result<Self> {
                 match operation {
-                    Operation::Crop(to) => $functions::crop(self, to.x, to.y, to.width, to.height),
+                    Operation::Crop(crop) => {
+                        let to = crop.rectangle;
+                        $functions::crop(self, to.x, to.y, to.width, to.height)
+                    }
                     Operation::Clap(fields) => $functions::apply_clap(self, &clap(&fields)),
                     Operation::Irot(angle) => $functions::apply_irot(self, &Irot::new(angle)),
                     Operation::Imir(axis) => $functions::apply_imir(self, &Imir::new(axis)),

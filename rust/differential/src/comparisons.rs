@@ -8,10 +8,10 @@ use crate::ours::{self, Answer};
 use crate::rng::Rng;
 use crate::rooms;
 use model::{
-    Clap, Colour, Entry, Frame, Grid, Iscl, Marks, Named, Operation, Oracle, Outcome, Overlay,
-    OverlayInput, Point, Property, Reader, Rectangle, Scene, SceneParts, Sighted, Size,
-    chain_bytes, fill_samples, number_bytes, parse_chain, parse_grid, parse_overlay, parse_record,
-    parse_steps, parse_tray, steps_text, tray_bytes,
+    Clap, Colour, Crop, Entry, Frame, Grid, Iscl, Marks, Named, Operation, Oracle, Outcome,
+    Overlay, OverlayInput, Point, Property, Reader, Scene, SceneParts, Sighted, Size, chain_bytes,
+    fill_samples, number_bytes, parse_chain, parse_grid, parse_overlay, parse_record, parse_steps,
+    parse_tray, steps_text, tray_bytes,
 };
 use std::collections::HashSet;
 use std::fmt::Debug;
@@ -446,6 +446,7 @@ fn clap_resolve_input(rng: &mut Rng) -> Input {
     with_size(input, size)
 }
 
+/// The published Rust's rectangle and the model's; then the model's margins, too, and the composer's.
 fn clap_resolve(sides: &Sides, input: &Input) -> Verdict {
     let field = |at: usize| input.numbers("fields")[at] as u32;
     let (clap, size) = (
@@ -454,9 +455,10 @@ fn clap_resolve(sides: &Sides, input: &Input) -> Verdict {
     );
     let wants = sides.wants(|build| expected::settle(build.resolve_clap(&clap, size.0, size.1)));
     agree(wants, |want| {
-        let words = want.map(|stays| [stays.x, stays.y, stays.width, stays.height]);
+        let model = clap.resolve(size.0, size.1);
+        let words = model.map(|crop| crop.fields());
         let call = |lent: &mut [u32]| sides.ours.clap_resolve(&clap, size, lent);
-        model_answers(want, &clap.resolve(size.0, size.1)).or_else(|| ours::fills(&words, call))
+        model_answers(want, &model.map(|crop| crop.rectangle)).or_else(|| ours::fills(&words, call))
     })
 }
 
@@ -543,11 +545,7 @@ pub(crate) enum Kind {
 /// The fields of an operation on a picture of the given size.
 fn operation_fields(rng: &mut Rng, kind: Kind, size: (u32, u32)) -> Vec<i64> {
     match kind {
-        Kind::Crop => {
-            let (across, down) = (generate::span(rng, size.0), generate::span(rng, size.1));
-            let fields = [across.0, down.0, across.1, down.1];
-            fields.map(i64::from).to_vec()
-        }
+        Kind::Crop => damage::any_crop(rng, size).fields().map(i64::from).to_vec(),
         Kind::Clap => property_numbers(Property::Clap(generate::clap(rng, size))),
         Kind::Irot => vec![i64::from(generate::turn(rng, 3))],
         Kind::Imir => vec![i64::from(generate::turn(rng, 1))],
@@ -584,23 +582,31 @@ pub(crate) fn record_of(rng: &mut Rng, frame: &Frame) -> Vec<u8> {
 /// A record and an operation's fields.
 fn operation_input(rng: &mut Rng, kind: Kind) -> Input {
     let frame = generate::frame(rng);
-    let fields = operation_fields(rng, kind, (frame.width, frame.height));
+    let mut fields = operation_fields(rng, kind, (frame.width, frame.height));
     let record = record_of(rng, &frame);
-    Input::new()
-        .with_bytes("record", record)
-        .with_numbers("fields", fields)
+    let input = Input::new().with_bytes("record", record);
+    match kind {
+        Kind::Crop => {
+            let margins = fields.split_off(4);
+            input
+                .with_numbers("fields", fields)
+                .with_numbers("margins", margins)
+        }
+        _ => input.with_numbers("fields", fields),
+    }
+}
+
+/// The crop that an input names.
+pub(crate) fn crop_of(input: &Input) -> Crop {
+    let fields = [input.numbers("fields"), input.numbers("margins")].concat();
+    Crop::from_fields(std::array::from_fn(|at| fields[at] as u32))
 }
 
 /// The operation of a kind with an input's fields.
 pub(crate) fn operation_of(input: &Input, kind: Kind) -> Operation {
     let field = |at: usize| input.numbers("fields")[at] as u32;
     match kind {
-        Kind::Crop => Operation::Crop(Rectangle {
-            x: field(0),
-            y: field(1),
-            width: field(2),
-            height: field(3),
-        }),
+        Kind::Crop => Operation::Crop(crop_of(input)),
         Kind::Clap => Operation::Clap(Clap::from_fields(std::array::from_fn(field))),
         Kind::Irot => Operation::Irot(field(0) as u8),
         Kind::Imir => Operation::Imir(field(0) as u8),

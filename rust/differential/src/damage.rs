@@ -1,11 +1,11 @@
 //! Broken inputs: numbers in forms that document 01 calls malformed, records, trays and chains
-//! with faults whose number is known, and blind damage.
+//! with faults whose number is known, margins that are not a crop's, and blind damage.
 
 use crate::generate;
 use crate::rng::Rng;
 use model::{
-    Clap, Entry, Frame, Grid, Iscl, MAX_ENTRIES, Overlay, Property, Refusal, chain_bytes,
-    number_bytes, refusal,
+    Clap, Crop, Entry, Frame, Grid, Iscl, MAX_ENTRIES, Overlay, Property, Rectangle, Refusal, Size,
+    chain_bytes, number_bytes, refusal,
 };
 use std::ops::Range;
 
@@ -743,6 +743,71 @@ pub fn faulty_scene(rng: &mut Rng, faults: &[SceneFault], overlay: bool) -> Scen
         tray,
         chain: chain.bytes(),
         premultiplied: overlay.then(|| rng.bytes(count + long)),
+    }
+}
+
+/// What a crop of a picture of the given size becomes when it is broken: a margin one off, two that make
+/// up for each other, margins in each other's place, none at all; and along either axis sums that are
+/// right only modulo 2^32. Where the crop fits, none of these does.
+pub fn broken_crops(crop: &Crop, (width, height): Size) -> Vec<Crop> {
+    let mut broken = Vec::new();
+    let mut add = |change: &dyn Fn(&mut [u32; 8])| {
+        let mut fields = crop.fields();
+        change(&mut fields);
+        broken.push(Crop::from_fields(fields));
+    };
+    for by in [1, u32::MAX] {
+        for margin in 4..8 {
+            add(&|fields| fields[margin] = fields[margin].wrapping_add(by));
+        }
+        for near in [4, 5] {
+            add(&|fields| {
+                fields[near] = fields[near].wrapping_add(by);
+                fields[near + 2] = fields[near + 2].wrapping_sub(by);
+            });
+        }
+    }
+    for turn in 1..4 {
+        add(&|fields| fields[4..].rotate_left(turn));
+    }
+    for near in [4, 5] {
+        add(&|fields| fields.swap(near, near + 2));
+    }
+    add(&|fields| fields[4..].fill(0));
+    for (axis, side) in [(0, width), (1, height)] {
+        let mut add = |edge: u32, size: u32| {
+            add(&|fields| {
+                fields[axis] = edge;
+                fields[axis + 2] = size;
+                fields[axis + 4] = edge;
+                fields[axis + 6] = side.wrapping_sub(edge).wrapping_sub(size);
+            });
+        };
+        let [edge, size] = [axis, axis + 2].map(|at| crop.fields()[at]);
+        add(edge, side.wrapping_sub(edge).wrapping_add(1));
+        add(side.wrapping_add(1), size);
+        add(edge, u32::MAX);
+        add(u32::MAX, 2);
+        add(u32::MAX, u32::MAX);
+        add(1 << 31, 1 << 31);
+    }
+    broken.retain(|one| one != crop);
+    broken
+}
+
+/// A crop of a picture of the given size, most with right margins; once in four one that is broken.
+pub fn any_crop(rng: &mut Rng, size: Size) -> Crop {
+    let ((x, width), (y, height)) = (generate::span(rng, size.0), generate::span(rng, size.1));
+    let rectangle = Rectangle {
+        x,
+        y,
+        width,
+        height,
+    };
+    let crop = Crop::of(rectangle, size);
+    match rng.once_in(4) {
+        true => rng.pick(&broken_crops(&crop, size)),
+        false => crop,
     }
 }
 

@@ -1,10 +1,10 @@
-//! What document 01 wants of a call, refusals in its order, with the pictures worked by the
-//! oracle. Where the paper adds a refusal that the published Rust lacks, it is judged here.
+//! What documents 01 and 02 want of a call, refusals in their order, with the pictures worked by the
+//! oracle. Where a paper adds a refusal that the published Rust lacks, it is judged here.
 
 use crate::refusals;
 use model::{
-    Canvas, CanvasState, Colour, Entry, Frame, Grid, Iscl, Marks, Operation, Oracle, Outcome,
-    OverlayInput, Property, Refusal, Scene, SceneParts, Size, parse_chain, parse_record,
+    Canvas, CanvasState, Colour, Crop, Entry, Frame, Grid, Iscl, Margins, Marks, Operation, Oracle,
+    Outcome, OverlayInput, Property, Refusal, Scene, SceneParts, Size, parse_chain, parse_record,
     parse_steps, parse_tray, parse_untested, push_number, refusal, steps_text, tray_count,
     untested_tray,
 };
@@ -136,10 +136,27 @@ pub fn steps(oracle: &dyn Oracle, input: &[u8]) -> Want<Vec<u8>> {
     Ok(text.into_bytes())
 }
 
+/// A crop. The published Rust has no margins: where it takes the rectangle, they are held to what lies
+/// about that.
+fn crop(oracle: &dyn Oracle, frame: &Frame, to: &Crop) -> Want<Frame> {
+    let rectangle = to.rectangle;
+    let made = settle(oracle.crop(frame, &rectangle))?;
+    let margins = Margins {
+        left: rectangle.x,
+        top: rectangle.y,
+        right: frame.width - rectangle.width - rectangle.x,
+        bottom: frame.height - rectangle.height - rectangle.y,
+    };
+    match to.margins == margins {
+        true => Ok(made),
+        false => Err(Stop::Refused(refusal::OUTSIDE)),
+    }
+}
+
 /// The picture that `operation` makes of `frame`.
 fn apply(oracle: &dyn Oracle, frame: &Frame, operation: &Operation) -> Want<Frame> {
     match operation {
-        Operation::Crop(rectangle) => settle(oracle.crop(frame, rectangle)),
+        Operation::Crop(to) => crop(oracle, frame, to),
         Operation::Clap(clap) => settle(oracle.apply_clap(frame, clap)),
         Operation::Irot(angle) => settle(oracle.apply_irot(frame, *angle)),
         Operation::Imir(axis) => settle(oracle.apply_imir(frame, *axis)),

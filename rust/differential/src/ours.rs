@@ -64,7 +64,7 @@ pub trait Composer: Sync {
         None
     }
 
-    /// X, y, width and height at the start of `_words`.
+    /// X, y, width and height, then left, top, right and bottom, at the start of `_words`.
     fn clap_resolve(&self, _: &Clap, _: Size, _words: &mut [u32]) -> Option<Answer<u64>> {
         None
     }
@@ -278,8 +278,11 @@ impl Composer for Linked {
         output: &mut [u8],
     ) -> Option<Answer<usize>> {
         let written = match *operation {
-            Operation::Crop(to) => {
-                sys::compose_crop(record, to.x, to.y, to.width, to.height, output)
+            Operation::Crop(crop) => {
+                let [x, y, width, height, left, top, right, bottom] = crop.fields();
+                sys::compose_crop(
+                    record, x, y, width, height, left, top, right, bottom, output,
+                )
             }
             Operation::Clap(clap) => {
                 let [width_n, width_d, height_n, height_d, x_n, x_d, y_n, y_d] = clap.fields();

@@ -6,7 +6,8 @@ use compose::{
     Chroma, GridDescriptor, HeifFrame, HeifPixelFormat, OverlayDescriptor, Plane, props,
 };
 use model::{
-    Clap, Colour, Frame, Grid, Iscl, Oracle, Outcome, Overlay, OverlayInput, parse_record, refusal,
+    Clap, Colour, Crop, Frame, Grid, Iscl, Oracle, Outcome, Overlay, OverlayInput, parse_record,
+    refusal,
 };
 
 /// The same frame in the crate's own shape. Nothing is judged.
@@ -29,6 +30,24 @@ pub fn grid_descriptor(grid: &Grid) -> GridDescriptor {
 pub fn overlay_descriptor(overlay: &Overlay) -> OverlayDescriptor {
     let offsets = overlay.offsets.clone();
     OverlayDescriptor::new(overlay.fill, overlay.width, overlay.height, offsets)
+}
+
+pub fn crop(crop: &Crop) -> props::Crop {
+    let [x, y, width, height, left, top, right, bottom] = crop.fields();
+    props::Crop {
+        rect: props::CropRect {
+            x,
+            y,
+            width,
+            height,
+        },
+        margins: props::Margins {
+            left,
+            top,
+            right,
+            bottom,
+        },
+    }
 }
 
 pub fn clap(clap: &Clap) -> props::Clap {

@@ -1,7 +1,8 @@
 //! Inputs a step smaller than a given one, for showing a difference on little.
 
 use crate::compare::Input;
-use model::{Frame, chain_bytes, parse_chain, parse_record, parse_tray, tray_bytes};
+use crate::comparisons::crop_of;
+use model::{Crop, Frame, chain_bytes, parse_chain, parse_record, parse_tray, tray_bytes};
 
 /// Smaller inputs, the ones that take most away first: whole pictures and entries, then bytes,
 /// then numbers nearer to 0.
@@ -18,8 +19,33 @@ pub fn smaller(input: &Input) -> Vec<Input> {
             }
         }
     }
+    if right_margins(input).is_some_and(|right| input.numbers("margins") == right) {
+        candidates = candidates
+            .into_iter()
+            .flat_map(with_right_margins)
+            .collect();
+    }
     candidates.retain(|candidate| candidate != input);
     candidates
+}
+
+/// The margins that the rectangle of a crop has in its record.
+fn right_margins(input: &Input) -> Option<Vec<i64>> {
+    input.numbers.iter().find(|(name, _)| *name == "margins")?;
+    let frame = parse_record(input.bytes("record")).ok()?;
+    let crop = Crop::of(crop_of(input).rectangle, (frame.width, frame.height));
+    Some(crop.fields()[4..].iter().copied().map(i64::from).collect())
+}
+
+/// A crop with right margins again, where there are some, and as it is.
+fn with_right_margins(input: Input) -> Vec<Input> {
+    let mended = right_margins(&input).map(|margins| {
+        edited(&input, |copy| {
+            let list = copy.numbers.iter_mut().find(|(name, _)| *name == "margins");
+            list.expect("margins").1 = margins;
+        })
+    });
+    mended.into_iter().chain([input]).collect()
 }
 
 fn edited(input: &Input, edit: impl FnOnce(&mut Input)) -> Input {

@@ -109,7 +109,7 @@ macro_rules! on_record {
             name: $name,
             comparison: $name,
             buffers: 1,
-            handed: |_, input| (parts(input, &["record"]), fields(input, "fields")),
+            handed: |_, input| (parts(input, &["record"]), all_fields(input)),
             answer: |oracle, input| {
                 let operation = comparisons::operation_of(input, $kind);
                 let record = expected::operation(oracle, input.bytes("record"), &operation)?;
@@ -458,6 +458,12 @@ fn fields(input: &Input, name: &str) -> Vec<u32> {
         .iter()
         .map(|field| *field as u32)
         .collect()
+}
+
+/// The fields of an operation on one record; a crop's margins are behind its rectangle.
+fn all_fields(input: &Input) -> Vec<u32> {
+    let lists = input.numbers.iter();
+    lists.flat_map(|(name, _)| fields(input, name)).collect()
 }
 
 /// 1 and matrix and range of a description, or none.

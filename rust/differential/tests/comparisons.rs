@@ -1,9 +1,9 @@
 //! Every comparison on a few hundred cases, and the frame that runs them.
 
-use differential::compare::{Comparison, Input, Sides, Verdict};
+use differential::compare::{Comparison, Difference, Input, Sides, Verdict};
 use differential::comparisons::ALL;
 use differential::ours::{Answer, Composer, Linked};
-use model::{Clap, Colour, Iscl, Layout, Operation, Size, parse_record};
+use model::{Clap, Colour, Crop, Iscl, Layout, Operation, Rectangle, Size, parse_record};
 
 #[test]
 fn every_comparison_agrees() {
@@ -48,6 +48,30 @@ fn a_difference_is_made_small() {
         "seven: 1 cases, 0 accepted, 0 refused, 1 differences\n  \
          case 0: a byte from 7 on\n    bytes=07 numbers=[0]"
     );
+}
+
+/// A crop's margins go with its picture, which is cut to the rectangle's far edges.
+#[test]
+fn a_crop_is_made_small() {
+    let Some(sides) = Sides::open() else { return };
+    let comparison = ALL.iter().find(|known| known.name == "crop").expect("it");
+    let wrong = Sides {
+        ours: &SHIFTED,
+        ..sides
+    };
+    let report = comparison.run(&wrong, 25, 1);
+    assert!(report.differences.len() > 4, "{report}");
+    for Difference { input, .. } in &report.differences {
+        let [x, y, ..] = input.numbers("fields") else {
+            panic!("{input}");
+        };
+        assert_eq!(input.numbers("margins"), [*x, *y, 0, 0], "{input}");
+        let shows = format!(
+            "fields={:?} margins=[{x}, {y}, 0, 0]",
+            input.numbers("fields")
+        );
+        assert!(input.to_string().ends_with(&shows), "{input}");
+    }
 }
 
 /// Judges every record malformed.
@@ -101,8 +125,44 @@ const CLOCKWISE: Writer = Writer(|record, op, out| match op {
 /// A crop that shifts an odd edge instead of promoting.
 const SHIFTED: Writer = Writer(|record, op, out| match op {
     Operation::Crop(mut to) => {
-        to.x &= !1;
+        let odd = to.rectangle.x & 1;
+        to.rectangle.x -= odd;
+        to.margins.left = to.margins.left.wrapping_sub(odd);
+        to.margins.right = to.margins.right.wrapping_add(odd);
         other(record, Operation::Crop(to), out)
+    }
+    _ => None,
+});
+
+/// A crop that overlooks a wrong bottom margin.
+const DEEP: Writer = Writer(|record, op, out| match op {
+    Operation::Crop(mut to) => {
+        if let Ok(frame) = parse_record(record) {
+            let right = Crop::of(to.rectangle, (frame.width, frame.height));
+            to.margins.bottom = right.margins.bottom;
+        }
+        other(record, Operation::Crop(to), out)
+    }
+    _ => None,
+});
+
+/// A crop that adds up in 32 bits: what then passes for one has the whole width.
+const WRAPPED: Writer = Writer(|record, op, out| match op {
+    Operation::Crop(to) => {
+        let Rectangle { x, width, .. } = to.rectangle;
+        let sum = x.wrapping_add(width).wrapping_add(to.margins.right);
+        let frame = parse_record(record).ok();
+        let frame = frame.filter(|frame| sum == frame.width && width > frame.width);
+        let Some(frame) = frame else {
+            return other(record, op, out);
+        };
+        let whole = Rectangle {
+            x: 0,
+            width: frame.width,
+            ..to.rectangle
+        };
+        let crop = Crop::of(whole, (frame.width, frame.height));
+        other(record, Operation::Crop(crop), out)
     }
     _ => None,
 });
@@ -311,8 +371,9 @@ impl Composer for Sizer {
         let turned = Clap::from_fields([hn, hd, wn, wd, yn, yd, xn, xd]);
         let answer = Linked.clap_resolve(&turned, (size.1, size.0), words);
         if answer == Some(Ok(0)) {
-            words.swap(0, 1);
-            words.swap(2, 3);
+            for pair in words[..8].chunks_exact_mut(2) {
+                pair.swap(0, 1);
+            }
         }
         answer
     }
@@ -335,14 +396,47 @@ impl Composer for Sizer {
     }
 }
 
+/// Wrong in margins: the right one is a column short.
+struct Shaver;
+
+impl Composer for Shaver {
+    fn clap_resolve(&self, clap: &Clap, size: Size, words: &mut [u32]) -> Option<Answer<u64>> {
+        let answer = Linked.clap_resolve(clap, size, words);
+        if answer == Some(Ok(0)) {
+            words[6] = words[6].wrapping_sub(1);
+        }
+        answer
+    }
+}
+
+/// Wrong in room: four words are enough, and the margins are left out.
+struct Marginless;
+
+impl Composer for Marginless {
+    fn clap_resolve(&self, clap: &Clap, size: Size, words: &mut [u32]) -> Option<Answer<u64>> {
+        let mut all = [0; 8];
+        let answer = Linked.clap_resolve(clap, size, &mut all);
+        match (answer, words.get_mut(..4)) {
+            (Some(Ok(0)), None) => Some(Err(17)),
+            (Some(Ok(0)), Some(words)) => {
+                words.copy_from_slice(&all[..4]);
+                answer
+            }
+            _ => answer,
+        }
+    }
+}
+
 #[test]
 fn a_wrong_composer_is_found() {
     let Some(sides) = Sides::open() else { return };
-    let wrong: [(&str, &'static dyn Composer, &[&str]); 18] = [
+    let wrong: [(&str, &'static dyn Composer, &[&str]); 22] = [
         ("judges every record malformed", &Stern, &["record"]),
         ("a plane too far, a tray's word", &Lax, &["record", "tray"]),
         ("turns clockwise", &CLOCKWISE, &["irot"]),
         ("shifts instead of promoting", &SHIFTED, &["crop"]),
+        ("any bottom margin", &DEEP, &["crop"]),
+        ("sums of 32 bits", &WRAPPED, &["crop"]),
         ("rounds an edge", &ROUNDED, &["clap"]),
         ("mirrors through promotion", &PROMOTED, &["imir"]),
         ("17 too early", &HASTY, &["crop", "clap", "irot", "imir"]),
@@ -369,6 +463,8 @@ fn a_wrong_composer_is_found() {
             &Sizer,
             &["clap-resolve", "iscl-size", "steps"],
         ),
+        ("a margin too short", &Shaver, &["clap-resolve"]),
+        ("no margins", &Marginless, &["clap-resolve"]),
     ];
     for (what, ours, names) in wrong {
         for name in names {

@@ -4,15 +4,17 @@
 mod common;
 
 use common::{bytes, on_each_build};
-use compose::props::{Clap, CropRect, Imir, Irot, Property, PropertyEntry};
+use compose::props::{self, Clap, CropRect, Imir, Irot, Property, PropertyEntry};
 use compose::{
-    Chroma, HeifFrame, HeifPixelFormat, Plane, Refusal, apply_clap, apply_imir, apply_irot,
-    apply_transforms, apply_transforms_owned, chain, crop, resize_area,
+    Chroma, HeifFrame, HeifPixelFormat, Plane, RecordFrame, Refusal, apply_clap, apply_imir,
+    apply_irot, apply_transforms, apply_transforms_owned, chain, crop, crop_with_margins,
+    operation, recorded, resize_area,
 };
+use differential::damage::broken_crops;
 use differential::generate;
 use differential::rng::Rng;
 use differential::shaped::{self, heif, hold};
-use model::{Frame, Operation, Rectangle, parse_record};
+use model::{Crop, Frame, Operation, Rectangle, parse_record};
 
 #[test]
 fn operations_are_oxideav_heifs() {
@@ -198,6 +200,46 @@ fn chains_are_oxideav_heifs() {
     }
 }
 
+/// A crop with the margins of its rectangle is the rectangle's, on frames of planes, on records and on
+/// frames over records; one that does not fit is refused by each.
+#[test]
+fn crops_with_margins() {
+    let mut rng = Rng::new(17);
+    for _ in 0..1_000 {
+        let frame = generate::frame(&mut rng);
+        let (planes, record) = (heif(&frame), frame.record());
+        let over = RecordFrame::from_record(&record).expect("a record");
+        let size = (frame.width, frame.height);
+        let (x, width) = generate::span(&mut rng, size.0);
+        let (y, height) = generate::span(&mut rng, size.1);
+        let rectangle = Rectangle {
+            x,
+            y,
+            width,
+            height,
+        };
+        let to = Crop::of(rectangle, size);
+        let ours = shaped::crop(&to);
+        assert_eq!(props::Crop::of(ours.rect, size.0, size.1), ours);
+        let part = crop(&planes, x, y, width, height);
+        assert_eq!(ours.fits(size.0, size.1), part.is_ok());
+        assert_eq!(crop_with_margins(&planes, &ours), part);
+        let part = operation::crop(&record, x, y, width, height);
+        assert_eq!(operation::crop_with_margins(&record, &ours), part);
+        let part = recorded::crop(&over, x, y, width, height);
+        assert_eq!(recorded::crop_with_margins(&over, &ours), part);
+        for broken in broken_crops(&to, size) {
+            let broken = shaped::crop(&broken);
+            assert!(!broken.fits(size.0, size.1), "{broken:?}");
+            let outside = Refusal::OUTSIDE;
+            assert_eq!(crop_with_margins(&planes, &broken), Err(outside));
+            let part = operation::crop_with_margins(&record, &broken);
+            assert_eq!(part, Err(outside));
+            assert_eq!(recorded::crop_with_margins(&over, &broken), Err(outside));
+        }
+    }
+}
+
 #[test]
 fn apertures_for_rectangles() {
     let mut rng = Rng::new(16);
@@ -221,7 +263,7 @@ fn apertures_for_rectangles() {
             width: rect.width,
             height: rect.height,
         };
-        let want = Operation::Crop(rectangle)
+        let want = Operation::Crop(Crop::of(rectangle, (frame.width, frame.height)))
             .apply(&frame)
             .expect("a rectangle inside");
         let made = apply_clap(&heif(&frame), &clap).expect("a rectangle inside");

@@ -2,10 +2,11 @@
 //! rectangle of it, every flag byte. The published Rust is not needed here.
 
 use compose::sys;
+use differential::damage::broken_crops;
 use differential::generate::{self, Form};
-use differential::ours::{Composer, Linked, fills, writes};
+use differential::ours::{BEFORE, Composer, Linked, fills, writes};
 use differential::rng::Rng;
-use model::{Chroma, Clap, Colour, Frame, Operation, Rectangle, fill_samples, parse_record};
+use model::{Chroma, Clap, Colour, Crop, Frame, Operation, Rectangle, fill_samples, parse_record};
 
 /// Holds the composer to the model: the number, the length, each byte, and what is left alone.
 fn hold(frame: &Frame, operation: Operation) {
@@ -56,9 +57,129 @@ fn every_rectangle_of_every_small_picture() {
                     width,
                     height,
                 };
-                hold(&frame, Operation::Crop(rectangle));
+                let crop = Crop::of(rectangle, (frame.width, frame.height));
+                hold(&frame, Operation::Crop(crop));
             }
         }
+    }
+}
+
+/// Each rectangle in a picture, with its margins.
+fn crops(size: (u32, u32)) -> Vec<Crop> {
+    let inside = |side: u32| {
+        let spans = spans(side).into_iter();
+        spans.filter(move |(start, length)| *length > 0 && start + length <= side)
+    };
+    let mut crops = Vec::new();
+    for (x, width) in inside(size.0) {
+        for (y, height) in inside(size.1) {
+            let rectangle = Rectangle {
+                x,
+                y,
+                width,
+                height,
+            };
+            crops.push(Crop::of(rectangle, size));
+        }
+    }
+    crops
+}
+
+/// A crop that is 9, held to the model.
+fn hold_broken(frame: &Frame, crop: Crop) {
+    let operation = Operation::Crop(crop);
+    assert_eq!(operation.apply(frame), Err(9), "{crop:?}");
+    hold(frame, operation);
+}
+
+#[test]
+fn margins_broken_in_each_way() {
+    for frame in small_frames(3) {
+        let size = (frame.width, frame.height);
+        for crop in crops(size) {
+            let broken = broken_crops(&crop, size);
+            assert!(broken.len() >= 20, "{crop:?}: {}", broken.len());
+            for crop in broken {
+                hold_broken(&frame, crop);
+            }
+        }
+    }
+}
+
+/// Of all margins about a rectangle just its own are taken.
+#[test]
+fn every_margin_of_a_small_picture() {
+    let frame = Frame::mono(3, 2, &[1, 2, 3, 4, 5, 6]);
+    for crop in crops((3, 2)) {
+        let [x, y, width, height, ..] = crop.fields();
+        let mut taken = 0;
+        for at in 0..4u32.pow(4) {
+            let [left, top, right, bottom] = [0, 2, 4, 6].map(|shift| at >> shift & 3);
+            let fields = [x, y, width, height, left, top, right, bottom];
+            match Crop::from_fields(fields) == crop {
+                true => {
+                    hold(&frame, Operation::Crop(crop));
+                    taken += 1;
+                }
+                false => hold_broken(&frame, Crop::from_fields(fields)),
+            }
+        }
+        assert_eq!(taken, 1);
+    }
+}
+
+/// Along each axis sums that come to the side modulo 2^32 alone.
+#[test]
+fn margins_that_add_up_in_32_bits_alone() {
+    const MOST: u32 = u32::MAX;
+    let frame = Frame::mono(4, 4, &[7; 16]);
+    for [edge, size, behind] in [
+        [MOST, 2, 3],
+        [MOST, MOST, 6],
+        [MOST, 1, 4],
+        [2, MOST, 3],
+        [0, MOST, 5],
+        [1 << 31, 1 << 31, 4],
+        [1 << 31, 2, (1 << 31) + 2],
+        [1, 1 << 31, (1 << 31) + 3],
+        [1, 4, MOST],
+        [0, 5, MOST],
+        [4, 4, MOST - 3],
+    ] {
+        assert_eq!(edge.wrapping_add(size).wrapping_add(behind), 4);
+        let across = Crop::from_fields([edge, 1, size, 2, edge, 1, behind, 1]);
+        let down = Crop::from_fields([1, edge, 2, size, 1, edge, 1, behind]);
+        for crop in [across, down] {
+            hold_broken(&frame, crop);
+        }
+    }
+}
+
+/// The record is judged first, then the crop, then the room; and then nothing is written.
+#[test]
+fn crops_refuse_in_their_order() {
+    let right = Crop::from_fields([0, 0, 1, 1, 0, 0, 1, 0]);
+    let broken = Crop::from_fields([0, 0, 1, 1, 0, 0, 0, 1]);
+    let record = Frame::mono(2, 1, &[1, 2]).record();
+    let mut shallow = record.clone();
+    shallow[3] = 7;
+    let mut empty = record.clone();
+    empty[0] = 0;
+    for (record, crop, room, number) in [
+        (&record[..8], right, 0, 5),
+        (&record[..8], broken, 0, 5),
+        (&[], broken, 99, 5),
+        (&shallow, broken, 0, 6),
+        (&empty, broken, 99, 3),
+        (&record, broken, 0, 9),
+        (&record, broken, 99, 9),
+        (&record, right, 0, 17),
+        (&record, right, 7, 17),
+    ] {
+        let mut output = vec![BEFORE; room];
+        let answer = Linked.operation(record, &Operation::Crop(crop), &mut output);
+        assert_eq!(answer, Some(Err(number)), "{crop:?} of {record:?}");
+        assert_eq!(output, vec![BEFORE; room]);
     }
 }
 

@@ -10,6 +10,7 @@ use differential::damage::{
 use differential::generate;
 use differential::ours::{Composer, Linked, fills, writes};
 use differential::rng::Rng;
+use differential::shaped;
 use model::{
     Clap, Entry, Grid, Iscl, Overlay, Property, chain_bytes, parse_chain, parse_grid,
     parse_overlay, steps_text,
@@ -92,11 +93,16 @@ fn read_steps(input: &[u8]) -> String {
     text
 }
 
-fn hold_clap(clap: Clap, size: (u32, u32)) -> Result<[u32; 4], u8> {
-    let want = clap.resolve(size.0, size.1);
-    let want = want.map(|stays| [stays.x, stays.y, stays.width, stays.height]);
+/// What an aperture leaves of a size and the margins about it: the composer, and `compose`, held to the
+/// model.
+fn hold_clap(clap: Clap, size: (u32, u32)) -> Result<[u32; 8], u8> {
+    let crop = clap.resolve(size.0, size.1);
+    let want = crop.map(|crop| crop.fields());
     let departs = fills(&want, |words| Linked.clap_resolve(&clap, size, words));
     assert_eq!(departs, None, "{clap:?} of {size:?}");
+    let ours = shaped::clap(&clap).resolve(size.0, size.1);
+    let crop = crop.map(|crop| shaped::crop(&crop));
+    assert_eq!(ours.map_err(Refusal::number), crop);
     want
 }
 
@@ -268,6 +274,44 @@ fn apertures_of_the_paper() {
     }
 }
 
+/// The fields of a crop with across and down in each other's place.
+fn exchanged([x, y, width, height, left, top, right, bottom]: [u32; 8]) -> [u32; 8] {
+    [y, x, height, width, top, left, bottom, right]
+}
+
+/// Of every aperture with small terms that every small size takes: left and top are the rectangle's
+/// edges, and left, width and right make up the width, top, height and bottom the height.
+#[test]
+fn margins_of_every_small_aperture() {
+    let mut axes = Vec::new();
+    for (n, d) in (0..=8).flat_map(|n| [(n, 1), (n, 2)]) {
+        for (off_n, off_d) in (-4..=4i32).flat_map(|n| [(n, 1), (n, 2)]) {
+            axes.push([n, d, off_n.cast_unsigned(), off_d]);
+        }
+    }
+    let (mut taken, mut most) = (0, [0; 4]);
+    for size in (1..=4).flat_map(|width| (1..=4).map(move |height| (width, height))) {
+        for [wn, wd, xn, xd] in &axes {
+            for [hn, hd, yn, yd] in &axes {
+                let clap = Clap::from_fields([*wn, *wd, *hn, *hd, *xn, *xd, *yn, *yd]);
+                let Ok(fields) = hold_clap(clap, size) else {
+                    continue;
+                };
+                let [x, y, width, height, left, top, right, bottom] = fields;
+                assert_eq!((left, top), (x, y), "{clap:?} of {size:?}");
+                let sums = (left + width + right, top + height + bottom);
+                assert_eq!(sums, size, "{clap:?}");
+                taken += 1;
+                for (most, margin) in most.iter_mut().zip([left, top, right, bottom]) {
+                    *most = margin.max(*most);
+                }
+            }
+        }
+    }
+    assert!(taken > 3_000, "{taken}");
+    assert_eq!(most, [3; 4]);
+}
+
 /// Every aperture with small terms of every small input, along each axis.
 #[test]
 fn every_small_aperture() {
@@ -281,7 +325,7 @@ fn every_small_aperture() {
                         let down = Clap::from_fields([1, 1, n, d, 0, 1, off_n, off_d]);
                         let stays = hold_clap(across, (input, 1));
                         let turned = hold_clap(down, (1, input));
-                        assert_eq!(turned, stays.map(|[x, y, w, h]| [y, x, h, w]));
+                        assert_eq!(turned, stays.map(exchanged));
                     }
                 }
             }
@@ -306,7 +350,8 @@ fn the_largest_apertures() {
     }
     // The middle of the longest side.
     let clap = Clap::from_fields([1, 1, 1, 1, 0, MOST, 0, 1]);
-    assert_eq!(hold_clap(clap, (MOST, 1)), Ok([MOST / 2, 0, 1, 1]));
+    let middle = [MOST / 2, 0, 1, 1, MOST / 2, 0, MOST / 2, 0];
+    assert_eq!(hold_clap(clap, (MOST, 1)), Ok(middle));
 }
 
 /// Document 01's case, the limits of a size that changes, and none for one that does not.

@@ -12,9 +12,9 @@ use differential::generate::{self, Form};
 use differential::ours::{Answer, Composer, Linked};
 use differential::rng::Rng;
 use model::{
-    Chroma, Clap, Colour, Entry, Frame, Grid, Iscl, Marks, Operation, Overlay, Property, Rectangle,
-    Refusal, Scene, SceneParts, chain_bytes, grid_room, overlay_room, parse_record, record_size,
-    tray_bytes,
+    Chroma, Clap, Colour, Crop, Entry, Frame, Grid, Iscl, Marks, Operation, Overlay, Property,
+    Rectangle, Refusal, Scene, SceneParts, chain_bytes, grid_room, overlay_room, parse_record,
+    record_size, tray_bytes,
 };
 
 /// Every chroma, depth and alpha.
@@ -68,13 +68,14 @@ fn a_records_size_is_what_operations_write() {
     for (form, size) in forms().flat_map(|form| SIZES.map(|size| (form, size))) {
         let record = generate::frame_of(&mut rng, size, form, false).record();
         let (width, height) = size;
+        let corner = Rectangle {
+            x: width / 2,
+            y: height / 3,
+            width: width - width / 2,
+            height: height - height / 3,
+        };
         let operations = [
-            Operation::Crop(Rectangle {
-                x: width / 2,
-                y: height / 3,
-                width: width - width / 2,
-                height: height - height / 3,
-            }),
+            Operation::Crop(Crop::of(corner, size)),
             Operation::Clap(Clap::from_fields([width, 1, height, 1, 0, 1, 0, 1])),
             Operation::Irot(1),
             Operation::Irot(2),

@@ -12,9 +12,9 @@ use differential::generate;
 use differential::ours::{Answer, Composer, Linked};
 use differential::rng::Rng;
 use model::{
-    Entry, Frame, Iscl, Marks, Named, Operation, OverlayInput, Point, Property, Rectangle, Refusal,
-    Scene, SceneParts, Sight, Sighted, Size, chain_bytes, grid_scene, overlay_scene, parse_record,
-    tray_bytes,
+    Crop, Entry, Frame, Iscl, Marks, Named, Operation, OverlayInput, Point, Property, Rectangle,
+    Refusal, Scene, SceneParts, Sight, Sighted, Size, chain_bytes, grid_scene, overlay_scene,
+    parse_record, tray_bytes,
 };
 
 /// The parts of a draft, every entry applied.
@@ -173,7 +173,8 @@ fn rectangle_and_turn_are_the_chains() {
         } = sighted.sight();
         let mut frame = luma(&composed.record);
         let mirror = exchanged.then_some(Operation::Imir(1));
-        let steps = [Operation::Crop(rectangle)].into_iter().chain(mirror);
+        let crop = Crop::of(rectangle, (frame.width, frame.height));
+        let steps = [Operation::Crop(crop)].into_iter().chain(mirror);
         for step in steps.chain([Operation::Irot(turns)]) {
             frame = step.apply(&frame).expect("a picture");
         }

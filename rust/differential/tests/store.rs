@@ -6,7 +6,7 @@ use differential::expected;
 use differential::ours::{Answer, BEFORE, Composer, Linked};
 use differential::store::{self, Call};
 use model::refusal::ROOM;
-use model::{Clap, Colour, Iscl, Marks, Operation, Rectangle, Scene, SceneParts};
+use model::{Clap, Colour, Crop, Iscl, Marks, Operation, Scene, SceneParts};
 use std::path::PathBuf;
 
 fn in_replay(file: &str) -> PathBuf {
@@ -127,12 +127,7 @@ impl Fields<'_> {
     fn operation(&self, number: u32) -> Option<Operation> {
         let fields = self.0;
         Some(match number {
-            1 => Operation::Crop(Rectangle {
-                x: fields[0],
-                y: fields[1],
-                width: fields[2],
-                height: fields[3],
-            }),
+            1 => Operation::Crop(Crop::from_fields(std::array::from_fn(|at| fields[at]))),
             2 => Operation::Clap(self.clap()),
             3 => Operation::Irot(fields[0] as u8),
             4 => Operation::Imir(fields[0] as u8),
@@ -181,7 +176,9 @@ fn answer(call: &Call) -> Answer<Vec<u8>> {
         }),
         12 => {
             let size = (fields[8], fields[9]);
-            numbers::<u32, 4>(|words| Linked.clap_resolve(&of.clap(), size, words))
+            let words = numbers::<u32, 8>(|words| Linked.clap_resolve(&of.clap(), size, words));
+            // The Rust has no margins.
+            words.map(|words| words[..16].to_vec())
         }
         13 => {
             let size = (fields[4], fields[5]);
@@ -232,7 +229,7 @@ fn modelled(call: &Call) -> Option<Answer<Vec<u8>>> {
         12 => of
             .clap()
             .resolve(fields[8], fields[9])
-            .map(|stays| words(&[stays.x, stays.y, stays.width, stays.height])),
+            .map(|crop| words(&crop.fields()[..4])),
         13 => of
             .iscl()
             .output_size(fields[4], fields[5])
@@ -277,6 +274,29 @@ fn the_program_can_hold_the_calls() {
         assert!(others.map(Vec::len).max() <= Some(1_024));
         assert!(call.lent.into_iter().max() <= Some(store::LENT));
     }
+}
+
+/// Crops that are 9 for their margins are stored, and such that are for their rectangle.
+#[test]
+fn crops_of_both_sorts_are_stored() {
+    let stored = stored();
+    let crops = stored.iter().find(|operation| operation.name == "crop");
+    let refused = crops
+        .expect("it")
+        .calls
+        .iter()
+        .filter(|call| call.answer == Err(9));
+    let by_margins = |call: &&Call| {
+        let Some(Operation::Crop(crop)) = Fields(&call.fields).operation(1) else {
+            return false;
+        };
+        let frame = model::parse_record(&call.parts[0]).expect("a record");
+        let right = Crop::of(crop.rectangle, (frame.width, frame.height));
+        Operation::Crop(right).apply(&frame).is_ok()
+    };
+    let (margins, rectangles): (Vec<&Call>, Vec<&Call>) = refused.partition(by_margins);
+    let counts = [margins.len(), rectangles.len()];
+    assert!(counts.into_iter().all(|count| count > 2), "{counts:?}");
 }
 
 /// Every operation that lends a buffer has calls of 17, and iscl on a record its 10 and its 4.

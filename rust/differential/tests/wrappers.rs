@@ -9,8 +9,8 @@ use compose::props::{Clap, Imir, Irot, Iscl, Property, PropertyEntry};
 use compose::{
     GridCanvas, GridDescriptor, HeifFrame, OverlayDescriptor, OverlayInput, Refusal, Result,
     apply_clap, apply_imir, apply_irot, apply_iscl, apply_transforms, apply_transforms_owned,
-    attach_alpha, composite_grid, composite_overlay, crop, rescale_depth, resize_area,
-    resize_nearest,
+    attach_alpha, composite_grid, composite_overlay, crop, crop_with_margins, rescale_depth,
+    resize_area, resize_nearest,
 };
 use differential::expected::{Stop, Want, operation, settle};
 use differential::generate;
@@ -18,7 +18,7 @@ use differential::rng::Rng;
 use differential::shaped::{
     self, grid, grid_descriptor, heif, hold_to, judged, overlay_descriptor,
 };
-use model::{Canvas, Frame, Grid, Operation, Oracle, Rectangle, parse_record, refusal};
+use model::{Canvas, Crop, Frame, Grid, Operation, Oracle, Rectangle, parse_record, refusal};
 
 /// Makes a frame one that no record holds, by one fault or two.
 fn spoil(rng: &mut Rng, frame: &mut Frame) {
@@ -163,6 +163,8 @@ fn the_first_refusal_is_document_01s() {
     assert_eq!(resize_nearest(&deep(), 0, 1), Err(Refusal::DEPTH));
     assert_eq!(rescale_depth(&empty(), 40), Err(Refusal::EMPTY));
     assert_eq!(crop(&deep(), 9, 9, 9, 9), Err(Refusal::DEPTH));
+    let broken = shaped::crop(&Crop::from_fields([0, 0, 1, 1, 1, 1, 1, 1]));
+    assert_eq!(crop_with_margins(&deep(), &broken), Err(Refusal::DEPTH));
     let none = Clap::new(0, 0, 0, 0, 0, 0, 0, 0);
     assert_eq!(apply_clap(&deep(), &none), Err(Refusal::DEPTH));
     let none = Iscl::new(0, 0, 0, 0);
@@ -208,14 +210,19 @@ fn operations_on_doubtful_frames() {
             );
 
             let [x, y, width, height] = std::array::from_fn(|_| rng.number(0..=5));
-            let rectangle = Operation::Crop(Rectangle {
+            let rectangle = Rectangle {
                 x,
                 y,
                 width,
                 height,
-            });
+            };
+            let to = Crop::of(rectangle, (frame.width, frame.height));
             let cropped = crop(&ours, x, y, width, height);
-            hold_to(cropped, wanted(oracle, &frame, &rectangle), "crop");
+            hold_to(
+                cropped,
+                wanted(oracle, &frame, &Operation::Crop(to)),
+                "crop",
+            );
             let sized = resize_nearest(&ours, width, height);
             let nearest = Operation::Nearest(width, height);
             hold_to(sized, wanted(oracle, &frame, &nearest), "nearest");

@@ -1,4 +1,4 @@
-//! Document 01 as plain Rust: house numbers, frame records, trays, chains and descriptor bodies, with
+//! Document 01, with what document 02 changes, as plain Rust: house numbers, frame records, trays, chains and descriptor bodies, with
 //! the refusals of each; the operations on one record, fill colours, grids and overlays, scenes and
 //! points, chains on one record, room, and the text of the steps program.
 //! All of it is written from the paper and shares nothing with the composer or with the published
@@ -28,7 +28,7 @@ pub use composite::{composite_grid, composite_overlay};
 pub use derived::{parse_grid, parse_overlay};
 pub use fill::fill_samples;
 pub use number::{Reader, number_bytes, push_number};
-pub use operation::Operation;
+pub use operation::{Crop, Margins, Operation};
 pub use oracle::{
     Canvas, CanvasState, Colour, Grid, Oracle, Overlay, OverlayInput, Rectangle, TileForm, Work,
 };

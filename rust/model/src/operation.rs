@@ -1,15 +1,93 @@
 //! Operations on one picture (document 01, the paragraphs clap, irot, imir, iscl and "Other
-//! operations"), worked out sample by sample.
+//! operations"; document 02, A1, for a crop's margins), worked out sample by sample.
 
 use crate::chain::{Clap, Iscl};
 use crate::oracle::Rectangle;
 use crate::record::{Chroma, Frame, MAX_PIXELS};
 use crate::refusal::{self, Refusal};
+use crate::steps::Size;
+
+/// What a crop takes on each side of its rectangle, in pixels of the picture.
+#[derive(Clone, Copy, Debug, PartialEq, Eq)]
+pub struct Margins {
+    pub left: u32,
+    pub top: u32,
+    pub right: u32,
+    pub bottom: u32,
+}
+
+/// A rectangle of a picture, and the margins about it.
+#[derive(Clone, Copy, Debug, PartialEq, Eq)]
+pub struct Crop {
+    pub rectangle: Rectangle,
+    pub margins: Margins,
+}
+
+impl Crop {
+    /// A rectangle with its margins in a picture of the given size. Where it passes the far edge no
+    /// margin is right, and 0 stands there.
+    pub fn of(rectangle: Rectangle, (width, height): Size) -> Self {
+        let far = |side: u32, start: u32, size: u32| {
+            let rest = i64::from(side) - i64::from(start) - i64::from(size);
+            rest.max(0) as u32
+        };
+        Self {
+            rectangle,
+            margins: Margins {
+                left: rectangle.x,
+                top: rectangle.y,
+                right: far(width, rectangle.x, rectangle.width),
+                bottom: far(height, rectangle.y, rectangle.height),
+            },
+        }
+    }
+
+    /// A crop of its eight fields: x, y, width, height, left, top, right, bottom.
+    pub fn from_fields([x, y, width, height, left, top, right, bottom]: [u32; 8]) -> Self {
+        Self {
+            rectangle: Rectangle {
+                x,
+                y,
+                width,
+                height,
+            },
+            margins: Margins {
+                left,
+                top,
+                right,
+                bottom,
+            },
+        }
+    }
+
+    pub fn fields(&self) -> [u32; 8] {
+        let Self { rectangle, margins } = self;
+        [
+            rectangle.x,
+            rectangle.y,
+            rectangle.width,
+            rectangle.height,
+            margins.left,
+            margins.top,
+            margins.right,
+            margins.bottom,
+        ]
+    }
+
+    /// Whether rectangle and margins are those of a crop of a picture of the given size.
+    fn fits(&self, (width, height): Size) -> bool {
+        let [x, y, across, down, left, top, right, bottom] = self.fields().map(u64::from);
+        let sides = [u64::from(width), u64::from(height)];
+        across.min(down) > 0
+            && [left, top] == [x, y]
+            && [left + across + right, top + down + bottom] == sides
+    }
+}
 
 /// An operation on one record.
 #[derive(Clone, Copy, Debug, PartialEq, Eq)]
 pub enum Operation {
-    Crop(Rectangle),
+    Crop(Crop),
     Clap(Clap),
     /// An angle.
     Irot(u8),
@@ -26,7 +104,7 @@ impl Operation {
     /// The picture that the operation makes of `frame`, or its own refusal.
     pub fn apply(&self, frame: &Frame) -> Result<Frame, Refusal> {
         match *self {
-            Self::Crop(rectangle) => crop(frame, rectangle),
+            Self::Crop(to) => crop(frame, to),
             Self::Clap(clap) => crop(frame, clap.resolve(frame.width, frame.height)?),
             Self::Irot(angle) => Ok(turn(frame, angle % 4)),
             Self::Imir(axis) => Ok(mirror(frame, axis % 2)),
@@ -92,21 +170,25 @@ pub(crate) fn promotes(frame: &Frame, across: &[u32], down: &[u32]) -> bool {
     halved.0 && odd(across) || halved.1 && odd(down)
 }
 
-fn crop(frame: &Frame, to: Rectangle) -> Result<Frame, Refusal> {
-    let inside = |start: u32, size: u32, side: u32| {
-        size > 0 && u64::from(start) + u64::from(size) <= u64::from(side)
-    };
-    if !inside(to.x, to.width, frame.width) || !inside(to.y, to.height, frame.height) {
+fn crop(frame: &Frame, to: Crop) -> Result<Frame, Refusal> {
+    if !to.fits((frame.width, frame.height)) {
         return Err(refusal::OUTSIDE);
     }
+    let to = to.rectangle;
     let promoted = promotes(frame, &[to.x, to.width], &[to.y, to.height]);
     let size = (to.width, to.height);
     Ok(drawn(frame, size, promoted, |x, y| (to.x + x, to.y + y)))
 }
 
 impl Clap {
-    /// The rectangle that stays of a picture; the width axis is judged wholly before the height.
-    pub fn resolve(&self, width: u32, height: u32) -> Result<Rectangle, Refusal> {
+    /// The rectangle that stays of a picture, and its margins; the width axis is judged wholly before
+    /// the height.
+    pub fn resolve(&self, width: u32, height: u32) -> Result<Crop, Refusal> {
+        let rectangle = self.stays(width, height)?;
+        Ok(Crop::of(rectangle, (width, height)))
+    }
+
+    fn stays(&self, width: u32, height: u32) -> Result<Rectangle, Refusal> {
         let axis = |[n, d, off_d]: [u32; 3], off_n: i32, input: u32| {
             if d == 0 || off_d == 0 {
                 return Err(refusal::ZERO_DENOMINATOR);

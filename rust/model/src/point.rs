@@ -133,7 +133,7 @@ impl Sighted {
             .filter_map(|entry| entry.applied(essential_only))
         {
             let step = match operation {
-                Operation::Clap(clap) => Step::Cut(clap.resolve(last.0, last.1)?),
+                Operation::Clap(clap) => Step::Cut(clap.resolve(last.0, last.1)?.rectangle),
                 Operation::Irot(angle) => {
                     turns = (turns + angle % 4) % 4;
                     Step::Turn(angle % 4, last)

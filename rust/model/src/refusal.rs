@@ -19,7 +19,7 @@ pub const DEPTH: Refusal = 6;
 pub const ZERO_DENOMINATOR: Refusal = 7;
 /// A clap size or edge that is not whole.
 pub const NOT_WHOLE: Refusal = 8;
-/// A clap size or edge, or a crop, outside the picture.
+/// A clap size or edge, or a crop, outside the picture; margins that are not the crop's.
 pub const OUTSIDE: Refusal = 9;
 /// A scaled side above 2^32 − 1.
 pub const SIDE_OVERFLOW: Refusal = 10;

@@ -38,7 +38,7 @@ fn form_after(form: &Frame, property: Property) -> Result<Frame, Refusal> {
     let size = (form.width, form.height);
     let (size, promoted) = match property {
         Property::Clap(clap) => {
-            let stays = clap.resolve(form.width, form.height)?;
+            let stays = clap.resolve(form.width, form.height)?.rectangle;
             let odd = promotes(form, &[stays.x, stays.width], &[stays.y, stays.height]);
             ((stays.width, stays.height), odd)
         }

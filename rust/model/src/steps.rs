@@ -29,7 +29,7 @@ impl Entry {
         match self.property {
             Property::Other | Property::Imir(_) => Ok((width, height)),
             Property::Clap(clap) => {
-                let stays = clap.resolve(width, height)?;
+                let stays = clap.resolve(width, height)?.rectangle;
                 Ok((stays.width, stays.height))
             }
             Property::Irot(angle) if angle % 2 == 1 => Ok((height, width)),

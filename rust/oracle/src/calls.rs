@@ -121,7 +121,10 @@ fn entries(chain: &[Entry]) -> Vec<PropertyEntry> {
 /// An operation on one frame.
 fn operate(frame: &HeifFrame, operation: &Operation) -> Result<HeifFrame> {
     match operation {
-        Operation::Crop(to) => compose::crop(frame, to.x, to.y, to.width, to.height),
+        Operation::Crop(crop) => {
+            let to = crop.rectangle;
+            compose::crop(frame, to.x, to.y, to.width, to.height)
+        }
         Operation::Clap(fields) => compose::apply_clap(frame, &clap(fields)),
         Operation::Irot(angle) => compose::apply_irot(frame, &Irot::new(*angle)),
         Operation::Imir(axis) => compose::apply_imir(frame, &Imir::new(*axis)),
