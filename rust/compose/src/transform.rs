@@ -78,25 +78,32 @@ pub fn crop_with_margins(f: &HeifFrame, to: &Crop) -> Result<HeifFrame> {
     f.validate()?;
     match (Bands::crop(f, to), f.form().cropped(to)) {
         (Some(bands), _) => bands.made(),
-        (None, Some(_)) => promoted_part(f, to.rect),
+        (None, Some(_)) => promoted_part(f, to),
         // The call has the refusal.
         (None, None) => on_frame(f, |record| operation::crop_with_margins(record, to)),
     }
 }
 
 /// A crop that promotes: what shares a chroma sample with the part is read, too, and no more.
-fn promoted_part(f: &HeifFrame, to: CropRect) -> Result<HeifFrame> {
+fn promoted_part(f: &HeifFrame, to: &Crop) -> Result<HeifFrame> {
     let (across, down) = f.format.chroma.shift();
-    let span = |edge: u32, size: u32, side: u32, shift: u32| {
-        let start = edge >> shift << shift;
-        let end = (edge + size).next_multiple_of(1 << shift).min(side);
+    let Crop { rect, margins } = to;
+    let span = |before: u32, behind: u32, side: u32, shift: u32| {
+        let start = before >> shift << shift;
+        let end = (side - behind).next_multiple_of(1 << shift).min(side);
         (start, end - start)
     };
-    let (left, width) = span(to.x, to.width, f.width, across);
-    let (top, height) = span(to.y, to.height, f.height, down);
+    let (left, width) = span(margins.left, margins.right, f.width, across);
+    let (top, height) = span(margins.top, margins.bottom, f.height, down);
     let mut record = Vec::new();
     f.push_part(CropRect::new(left, top, width, height), &mut record);
-    let made = operation::crop(&record, to.x - left, to.y - top, to.width, to.height);
+    let made = operation::crop(
+        &record,
+        rect.x - left,
+        rect.y - top,
+        rect.width,
+        rect.height,
+    );
     stock::give(record);
     HeifFrame::of_made(made?)
 }
