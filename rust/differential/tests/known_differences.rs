@@ -19,6 +19,7 @@
 //! | a depth that `validate` does not look at | `0101000700010105` and `010100110002020500` | 6 | `validate` accepts | `validate` accepts |
 //! | the size after an iscl | 1 × 1, iscl 65535/1, 65535/1 | 4 | `Iscl::output_size` and `ItemProperties::output_size` accept, 65,535 × 65,535; `apply_iscl` says "limit exceeded" | the same |
 //! | an area of a ratio that no iscl has | `resize_area` of 70,001 × 1 to 70,000 × 1 | 4 | accepts | accepts |
+//! | margins that are not a crop's own | crop of `0101000800010105` to 0, 0, 1, 1 with the margins 0, 0, 0, 1 | 9, by document 02 | has no margins: accepts the rectangle | the same |
 //! | 257 rows of tiles | `GridDescriptor::new(257, 1, 2, 2)`, 257 tiles of 2 × 2 | 4: a body has 256 at most | `composite_grid` accepts; `to_bytes` writes a body of one row | the same |
 //! | no rows of tiles | `GridDescriptor::new(0, 1, 2, 2)`, no tiles | 3 | `composite_grid` says "no tiles" | the same |
 //! | no inputs for an offset | `OverlayDescriptor` of one offset, no inputs | 15 | "0 inputs for 1 offsets", which is 11 | the same |
@@ -35,8 +36,8 @@ use differential::compare::Sides;
 use differential::ours::{Composer, Linked};
 use differential::shaped::{grid_descriptor, heif, overlay_descriptor};
 use model::{
-    Chroma, Colour, Entry, Frame, Grid, Iscl, Operation, Oracle, Outcome, Overlay, OverlayInput,
-    Plane, Property, chain_bytes, parse_tray, parse_untested,
+    Chroma, Colour, Crop, Entry, Frame, Grid, Iscl, Operation, Oracle, Outcome, Overlay,
+    OverlayInput, Plane, Property, chain_bytes, parse_tray, parse_untested,
 };
 
 /// Runs `plain` on the plain build and `checked` on the checked one, where they are present.
@@ -273,6 +274,19 @@ fn an_area_of_a_ratio_that_no_iscl_has() {
 }
 
 /// Rows of tiles that no body holds: more than 256, and none.
+#[test]
+fn margins_that_are_not_a_crops_own() {
+    let record = bytes("0101000800010105");
+    let crop = Crop::from_fields([0, 0, 1, 1, 0, 0, 0, 1]);
+    let ours = Linked.operation(&record, &Operation::Crop(crop), &mut [0; 8]);
+    assert_eq!(ours, Some(Err(9)));
+    let frame = Frame::mono(1, 1, &[5]);
+    on_each_build(|oracle| {
+        let part = oracle.crop(&frame, &crop.rectangle).done();
+        assert_eq!(part.expect("a picture").record(), record);
+    });
+}
+
 #[test]
 fn rows_that_no_body_holds() {
     for (rows, refusal) in [(257, 4), (0, 3)] {

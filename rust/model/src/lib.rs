@@ -1,6 +1,7 @@
-//! Document 01, with what document 02 changes, as plain Rust: house numbers, frame records, trays, chains and descriptor bodies, with
-//! the refusals of each; the operations on one record, fill colours, grids and overlays, scenes and
-//! points, chains on one record, room, and the text of the steps program.
+//! Document 01, with what document 02 changes, as plain Rust: house numbers, frame records, trays,
+//! chains and descriptor bodies, with the refusals of each; the operations on one record, fill
+//! colours, grids and overlays, scenes and points, chains on one record, room, and the text of the
+//! steps program.
 //! All of it is written from the paper and shares nothing with the composer or with the published
 //! Rust, so that both can be held against it.
 //!
