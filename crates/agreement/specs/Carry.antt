@@ -60,7 +60,7 @@ pub record Tracked : Type 0 where
 
 unfoldable pub carryAfter : Property → Tracked → Out Tracked
 carryAfter Property.Other c = done c
-carryAfter (Property.Clap k) c = andThen (resolveOf k (c .width) (c .height)) (λ k. done (record { width = k .rect .width; height = k .rect .height; place = onward (cropPlace (k .rect)) (c .place) }))
+carryAfter (Property.Clap k) c = andThen (resolveOf k (c .width) (c .height)) (λ q. done (record { width = q .rect .width; height = q .rect .height; place = onward (cropPlace (q .rect)) (c .place) }))
 carryAfter (Property.Irot k) c =
     let q = quarterOf (k .angle) in
     done

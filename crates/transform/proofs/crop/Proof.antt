@@ -38,17 +38,20 @@ fits-requires c κs = search needs
 
 returns : tie.Need-returns
 returns c =
-    let at-f = c .before .before .before .before in
-    refused-answers _ _ _ (crop-outside _ _ (taken (at-f)) _ _ (sym (c .before .fits2 .ensures) ∙ not-true _ (c .if1 .taken)))
+    let after-f = c .before .before .before .before in
+    refused-answers _ _ _ (crop-outside _ _ (taken after-f) _ _ (sym (c .before .fits2 .ensures) ∙ not-true _ (c .if1 .taken)))
 
 crop-move-requires : tie.Need-crop-move-requires
 crop-move-requires c κs = search needs
 
 draw-requires : tie.Need-draw-requires
 draw-requires c κs =
-    let at-f = c .before .before .before .before .before .before in
+    let if1 = c .before .before .if1 in
     let fits2 = c .before .before .before .fits2 in
-    (whole-sound _ _ (taken (at-f)) .0, rw (c .before .crop-move .ensures) (crop-fit _ _ (taken (at-f)) _ 0 (sym (fits2 .ensures) ∙ not-false _ (c .before .before .if1 .left))))
+    let after-f = c .before .before .before .before .before .before in (
+      whole-sound _ _ (taken after-f) .0,
+      rw (c .before .crop-move .ensures) (crop-fit _ _ (taken after-f) _ 0 (sym (fits2 .ensures) ∙ not-false _ (if1 .left))),
+    )
 
 returns-2 : tie.Need-returns-2
 unfolding cropRun
@@ -61,13 +64,17 @@ same-length c = search needs
 
 returns-3 : tie.Need-returns-3
 returns-3 c =
-    let start = c .before .before .before .before .before .before .before .before .before .before .before .before .before .before in
-    let at-f = c .before .before .before .before .before .before .before .before .before in
-    let f = c .before .before .before .before .before .before .before .before .before .f in
-    let fits2 = c .before .before .before .before .before .before .fits2 in
-    let if1 = c .before .before .before .before .before .if1 in
     let crop-move = c .before .before .before .before .crop-move in
-    answers-as _ _ _ _ _ (crop-drawn _ _ (taken (at-f)) _ _ (sym (fits2 .ensures) ∙ not-false _ (if1 .left)) ∙ ap (λ (v : Move). fitted (length (now (start .args .out))) (encode (moved v (decode (now (start .args .«record»)) (f .given .0 .0))))) (sym (crop-move .ensures))) (c .before .before .draw .ensures)
+    let if1 = c .before .before .before .before .before .if1 in
+    let fits2 = c .before .before .before .before .before .before .fits2 in
+    let after-f = c .before .before .before .before .before .before .before .before .before in
+    let f = after-f .f in
+    let start = after-f .before .before .before .before .before in
+    answers-as _ _ _ _ _
+    (crop-drawn _ _ (taken after-f) _ _ (sym (fits2 .ensures) ∙ not-false _ (if1 .left))
+    ∙ ap (λ (v : Move). fitted (length (now (start .args .out))) (encode (moved v (decode (now (start .args .«record»)) (f .given .0 .0)))))
+    (sym (crop-move .ensures)))
+    (c .before .before .draw .ensures)
 
 pub crop-spec : {M : Type 1} → statement M
 crop-spec =

@@ -56,11 +56,15 @@ same-length c = search needs
 returns-3 : tie.Need-returns-3
 unfolding clapWords clapOf cropFields
 returns-3 c =
-    let start = c .before .before .before .before .before .before .before .before .before .before in
-    let resolve = c .before .before .before .before .before .before .before .before .resolve in
-    let found = c .before .before .before .before .before .before .found in
     let if1 = c .before .before .before .before .if1 in
-    done-code _ (cropFields (found .given .0 .0)) (now (start .args .answer)) _ (then-done _ (sym (resolve .ensures) ∙ ap resolvedOut (found .given .1)) ∙ fitted-room (length (now (start .args .answer))) _ (if1 .left)) (if1 .left) (c .before .before .put-crop .ensures)
+    let after-found = c .before .before .before .before .before .before in
+    let found = after-found .found in
+    let resolve = after-found .before .before .resolve in
+    let start = after-found .before .before .before .before in
+    done-code _ (cropFields (found .given .0 .0)) (now (start .args .answer)) _
+    (then-done _ (sym (resolve .ensures) ∙ ap resolvedOut (found .given .1)) ∙ fitted-room (length (now (start .args .answer))) _ (if1 .left))
+    (if1 .left)
+    (c .before .before .put-crop .ensures)
 
 pub compose-clap-resolve-spec : {M : Type 1} → statement M
 compose-clap-resolve-spec =

@@ -22,21 +22,22 @@ unexchanged-requires c κs = search needs
 
 add-t7 : tie.Need-add-t7
 add-t7 c =
-    let start = c .before .before .before .before .before .before in
-    let at-unexchanged = c .before .before .before in
-    omega (arith, start .pre .0 .across, lies (at-unexchanged) .across)
+    let after-unexchanged = c .before .before .before in
+    let start = after-unexchanged .before .before .before in
+    omega (arith, start .pre .0 .across, lies after-unexchanged .across)
 
 add-t8 : tie.Need-add-t8
 add-t8 c =
-    let start = c .before .before .before .before .before .before .before .before in
-    let at-unexchanged = c .before .before .before .before .before in
-    omega (arith, start .pre .0 .down, lies (at-unexchanged) .down)
+    let after-unexchanged = c .before .before .before .before .before in
+    let start = after-unexchanged .before .before .before in
+    omega (arith, start .pre .0 .down, lies after-unexchanged .down)
 
 returns : tie.Need-returns
 returns c =
-    let start = c .before .before .before .before .before .before .before .before in
-    let unturned = c .before .before .before .before .before .before .unturned in
-    let unexchanged = c .before .before .before .before .before .unexchanged in
+    let after-unexchanged = c .before .before .before .before .before in
+    let unexchanged = after-unexchanged .unexchanged in
+    let unturned = after-unexchanged .before .unturned in
+    let start = after-unexchanged .before .before .before in
     cropped-is (start .args .self) (start .args .k) _ (unseen-is (start .args .self) (start .args .k) _ _ (unturned .ensures) (unexchanged .ensures))
 
 pub cropped-spec : {M : Type 1} → statement M

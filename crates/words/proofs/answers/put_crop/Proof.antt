@@ -27,11 +27,21 @@ same-length c = search needs
 returns : tie.Need-returns
 unfolding cropFields
 returns c =
-    let start = c .before .before .before .before .before .before .before .before .before .before .before .before .before .before .before .before .before .before .before in
-    let put-sides = c .before .before .before .before .before .before .before .before .before .before .before .before .before .before .put-sides in
-    let put-sides2 = c .before .before .before .before .before .before .before .before .before .before .put-sides2 in
     let put-sides3 = c .before .before .before .before .before .before .put-sides3 in
-    words-after _ _ _ (start .args .k .rect .x ∷ start .args .k .rect .y ∷ start .args .k .rect .width ∷ start .args .k .rect .height ∷ start .args .k .margins .left ∷ start .args .k .margins .top ∷ []) _ _ _ (words-after _ _ _ (start .args .k .rect .x ∷ start .args .k .rect .y ∷ start .args .k .rect .width ∷ start .args .k .rect .height ∷ []) _ _ _ (words-after _ _ _ (start .args .k .rect .x ∷ start .args .k .rect .y ∷ []) _ _ _ (put-sides .ensures .1) (put-sides .ensures .0) (put-sides2 .ensures .1)) (omega (arith, put-sides .ensures .0, put-sides2 .ensures .0)) (put-sides3 .ensures .1)) (omega (arith, put-sides .ensures .0, put-sides2 .ensures .0, put-sides3 .ensures .0)) (c .before .before .put-sides4 .ensures .1)
+    let after-put-sides2 = c .before .before .before .before .before .before .before .before .before .before in
+    let put-sides2 = after-put-sides2 .put-sides2 in
+    let after-put-sides = after-put-sides2 .before .before .before .before in
+    let put-sides = after-put-sides .put-sides in
+    let start = after-put-sides .before .before .before .before .before in
+    let r = start .args .k .rect in
+    let m = start .args .k .margins in
+    words-after _ _ _ (r .x ∷ r .y ∷ r .width ∷ r .height ∷ m .left ∷ m .top ∷ []) _ _ _
+    (words-after _ _ _ (r .x ∷ r .y ∷ r .width ∷ r .height ∷ []) _ _ _
+    (words-after _ _ _ (r .x ∷ r .y ∷ []) _ _ _ (put-sides .ensures .1) (put-sides .ensures .0) (put-sides2 .ensures .1))
+    (omega (arith, put-sides .ensures .0, put-sides2 .ensures .0))
+    (put-sides3 .ensures .1))
+    (omega (arith, put-sides .ensures .0, put-sides2 .ensures .0, put-sides3 .ensures .0))
+    (c .before .before .put-sides4 .ensures .1)
 
 pub put-crop-spec : {M : Type 1} → statement M
 put-crop-spec =
