@@ -34,6 +34,7 @@ use Rattle.sequence.proofs.ComposeLaws.{any-order-composes}
 use Rattle.sequence.proofs.MadeLaws.{made-ok, ok-made}
 use Rattle.cases.proofs.Holds.{table-holds}
 use Rattle.words.proofs.CanvasLaws.{canvas-words, words-small}
+use Rattle.promises.proofs.BeforeLaws.{crop-before}
 use Rattle.promises.proofs.DemandLaws.{grid-demand, overlay-demand}
 use Rattle.promises.specs.Promises.{Promises}
 
@@ -60,6 +61,7 @@ kept = record {
   marginsAlone = around-between;
   cropTaken = crop-around;
   cropRefused = crop-refused;
+  cropBefore = crop-before;
   clapCrops = clap-crops;
   isclCovers = scaled-covers;
   isclLeast = scaled-least;

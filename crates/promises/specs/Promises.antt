@@ -1,4 +1,5 @@
--- What is promised beyond the calls' contracts: each theorem that document 01 or the demands ask for, with the sentence that asks for it.
+-- What is promised beyond the calls' contracts: each theorem that document 01, document 02 or the demands ask for, with the sentence that asks
+-- for it.
 use mathlib.Core.Bool.{Bool, false, true}
 use mathlib.Core.List.{List, [], _++_, _∷_}
 use mathlib.Core.Path.{_≡_}
@@ -72,6 +73,7 @@ use Rattle.point.specs.declared.Point.{Point}
 use Rattle.point.specs.declared.Spot.{Spot}
 use Rattle.cases.specs.Table.{AllHold, table}
 use Rattle.words.specs.Canvas.{canvasOf, wordsOf}
+use Rattle.promises.specs.Before.{rectRun}
 
 -- ---- demand 3, and document 01's "Point call", of a picture run and the point runs, which take a tray and a place; bare are those with
 -- the empty chain
@@ -140,12 +142,14 @@ pub record Promises : Type 0 where
   -- a rectangle of a picture has margins, and no others
   pub marginsThere : (r : CropRect) (width height : ℕ) → Inside r width height → Around (between r width height) width height
   pub marginsAlone : (k : Crop) (width height : ℕ) → Around k width height → k ≡ between (k .rect) width height
-  -- "crop refuses 9 also where margins handed in break those rules for its record. Pictures stay the same bytes": one that is taken goes by
-  -- its rectangle alone, and a clap is the crop to the rectangle and the margins that it resolves to
+  -- "crop refuses 9 also where margins handed in break those rules for its record"
   pub cropTaken : (s : List ℕ) (fr : Frame) (k : Crop) (room : ℕ) → recordOf s ≡ done fr → Around k (fr .form .width) (fr .form .height)
       → cropRun s k room ≡ fitted room (encode (crop (decode s fr) (k .rect)))
   pub cropRefused : (s : List ℕ) (fr : Frame) (k : Crop) (room : ℕ) → recordOf s ≡ done fr → (Around k (fr .form .width) (fr .form .height) → ⊥)
       → cropRun s k room ≡ refused (reason 9)
+  -- "Pictures stay the same bytes": with the margins about a rectangle, inside or not, crop answers what it did by the rectangle alone; and
+  -- a clap is the crop to the rectangle and the margins that it resolves to
+  pub cropBefore : (s : List ℕ) (fr : Frame) (r : CropRect) (room : ℕ) → recordOf s ≡ done fr → cropRun s (between r (fr .form .width) (fr .form .height)) room ≡ rectRun s r room
   pub clapCrops : (s : List ℕ) (fr : Frame) (c : Clap) (room : ℕ) → recordOf s ≡ done fr
       → clapRun s c room ≡ andThen (resolveOf c (fr .form .width) (fr .form .height)) (λ k. cropRun s k room)
   -- "size × n / d rounded up": the least whole number that is not below it

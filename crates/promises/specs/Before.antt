@@ -1,0 +1,18 @@
+-- Runs as they stood before a request of document 02 changed what they take: promises compare with them.
+use mathlib.Core.List.{List}
+use Prim.Native.Nat.{_+_, ℕ}
+use lib.Dec.{eqb, ltb}
+use Rattle.laws.specs.Out.{Out, andThen, fitted, refuse}
+use Rattle.records.specs.Record.{recordOf}
+use Rattle.sizes.specs.declared.clap.CropRect.{CropRect}
+use Rattle.planes.specs.Bytes.{decode, encode}
+use Rattle.motions.specs.Turn.{crop}
+
+-- crop to a rectangle alone (before A1): the record, then 9 for one that has no side or is not inside, then 17
+unfoldable pub rectRun : List ℕ → CropRect → ℕ → Out (List ℕ)
+rectRun s r room =
+    andThen (recordOf s) (λ fr.
+    refuse (eqb (r .width) 0) 9
+    (refuse (eqb (r .height) 0) 9
+    (refuse (ltb (fr .form .width) (r .x + r .width)) 9
+    (refuse (ltb (fr .form .height) (r .y + r .height)) 9 (fitted room (encode (crop (decode s fr) r)))))))
