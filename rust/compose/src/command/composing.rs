@@ -75,7 +75,8 @@ pub const SCENE: Command = Command {
     more: "\
 As `compose grid` or `compose overlay`, then the properties of CHAIN in turn (`compose entries` makes
 one), in one call. A few bytes can ask for a very large picture: --max-pixels and --max-bytes say what
-may be made, and what asks for more is refused (4) before any memory is taken.
+may be made, and what asks for more is refused (4) before any memory is taken. It says how much each
+clap took on each side.
   compose scene grid field.body tiles.tray turn.chain -o turned.rec
 ",
     run: run_scene,
@@ -208,7 +209,8 @@ fn compose(
         false => pictures,
     };
     let made = read.answer(words, call(&read))?;
-    pictures.write(words, &target, &made)
+    pictures.write(words, &target, &made)?;
+    target.out.say_of_it(&read.files.taken(&read.scene()))
 }
 
 fn run_grid(words: &mut Words) -> Result<(), Failure> {

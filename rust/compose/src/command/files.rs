@@ -94,7 +94,15 @@ impl Output {
         self.put(bytes)
             .map_err(|error| failed("written", &self.file, &error))?;
         let length = counted(bytes.len(), "byte");
-        say(&format!("{}: {about}, {length}\n", self.file))
+        self.say_of_it(&format!("{}: {about}, {length}\n", self.file))
+    }
+
+    /// Says more of what was written, unless that went to standard output.
+    pub fn say_of_it(&self, text: &str) -> Result<(), Failure> {
+        match self.file.as_str() {
+            "-" => Ok(()),
+            _ => say(text),
+        }
     }
 
     /// A file is written beside its place and then renamed, so that it is there whole or not at all.

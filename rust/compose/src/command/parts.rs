@@ -2,6 +2,7 @@
 //! number alone, so that its parts are judged alone here, in document 01's order, until one of them
 //! gives that number.
 
+use super::properties::taken;
 use compose::props::{Property, PropertyEntry};
 use compose::record::{self, RecordInfo};
 use compose::scene::Marks;
@@ -75,7 +76,25 @@ impl Files {
             None => self.tiles(scene, &records)?,
             Some(_) => self.inputs(&records)?,
         }
-        self.entries(scene, size)
+        self.entries(scene, size, |_, _, _| {})
+    }
+
+    /// What each clap that a scene applies takes of the picture before it, a line each.
+    pub fn taken(&self, scene: &Scene) -> String {
+        let mut text = String::new();
+        let count = tray::announced(scene.tray).unwrap_or(0) as usize;
+        let (Some(file), Ok((size, _))) = (&self.chain, self.body(scene, count)) else {
+            return text;
+        };
+        // A scene that was composed has no refused entry.
+        let _ = self.entries(scene, size, |index, property, before| {
+            if let Property::Clap(clap) = property
+                && let Ok(crop) = clap.resolve(before.0, before.1)
+            {
+                text += &format!("{}: {}\n", entry_of(file, index), taken(&crop, before));
+            }
+        });
+        text
     }
 
     /// The size of a body's canvas, and how many tiles a grid has.
@@ -136,16 +155,22 @@ impl Files {
         }
     }
 
-    /// The applied entries of the chain in turn, on the size that each leaves.
-    fn entries(&self, scene: &Scene, size: Size) -> Result<(), Part> {
+    /// The applied entries of the chain in turn, on the size that each leaves; `each` sees an entry's
+    /// index, its property and the size before it.
+    fn entries(
+        &self,
+        scene: &Scene,
+        mut size: Size,
+        mut each: impl FnMut(usize, &Property, Size),
+    ) -> Result<(), Part> {
         let (Some(file), Ok(entries)) = (&self.chain, chain::entries(scene.chain)) else {
             return Ok(());
         };
-        let mut size = size;
         for (index, entry) in entries.iter().enumerate() {
             if scene.essential_only && !entry.essential {
                 continue;
             }
+            each(index, &entry.property, size);
             let after = self.size_after(entry, size);
             size = after.map_err(|refusal| (entry_of(file, index), refusal))?;
         }

@@ -421,6 +421,28 @@ fn a_chain_says_where_it_is_refused() {
     }
 }
 
+/// A scene says what each clap of its chain took, unless the picture itself goes to standard output.
+#[test]
+fn scenes_say_what_they_take() {
+    let folder = with_tiles("scene-takes");
+    folder.done("body grid 1 2 4 2 -o grid.body");
+    folder.done("entries clap! 3 1 2 1 -1 2 0 1 irot! 1 clap 2 1 1 1 0 1 1 1 -o part.chain");
+    let first = "part.chain, entry 0: takes 0 left, 0 top, 1 right, 0 bottom of 4 × 2\n";
+    let last = "part.chain, entry 2: takes 0 left, 2 top, 0 right, 0 bottom of 2 × 3\n";
+    let scene = "scene grid grid.body tiles.tray part.chain";
+    assert_eq!(
+        folder.done(&format!("{scene} -o out.rec")),
+        format!("out.rec: 2 × 1, mono, depth 8, 9 bytes\n{first}{last}")
+    );
+    let row = [2, 1, 0, 8, 0, 2, 2, 1, 3];
+    assert_eq!(folder.get("out.rec"), row);
+    assert_eq!(folder.run(&format!("{scene} -o -")).stdout, row);
+    assert_eq!(
+        folder.done(&format!("{scene} --essential -o out.rec --force")),
+        format!("out.rec: 2 × 3, mono, depth 8, 13 bytes\n{first}")
+    );
+}
+
 /// What a crop and a clap take stands beside what they leave.
 #[test]
 fn crops_say_what_they_take() {

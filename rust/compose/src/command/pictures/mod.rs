@@ -155,7 +155,7 @@ enum Samples {
 
 /// A picture file to be written.
 pub struct Target {
-    out: Output,
+    pub out: Output,
     format: Format,
 }
 
