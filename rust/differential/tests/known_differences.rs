@@ -273,7 +273,7 @@ fn an_area_of_a_ratio_that_no_iscl_has() {
     });
 }
 
-/// Rows of tiles that no body holds: more than 256, and none.
+/// A crop whose bottom margin is one row more than its record has.
 #[test]
 fn margins_that_are_not_a_crops_own() {
     let record = bytes("0101000800010105");
@@ -287,6 +287,7 @@ fn margins_that_are_not_a_crops_own() {
     });
 }
 
+/// Rows of tiles that no body holds: more than 256, and none.
 #[test]
 fn rows_that_no_body_holds() {
     for (rows, refusal) in [(257, 4), (0, 3)] {
