@@ -1,13 +1,13 @@
 -- What stood before a request of document 02, in what stands now.
 use mathlib.Core.List.{List}
 use mathlib.Core.Path.{_∙_, _≡_, sym}
-use Prim.Native.Nat.{_+_, _≤_, ℕ}
+use Prim.Native.Nat.{_+_, ℕ}
 use native.Mathlib.Omega.{arith}
 use lib.Dec.{eqb, ltb}
 use borrow.Author.Tests.{eqb-false, le-ltb, ltb-false, ne-eqb}
 use Rattle.laws.proofs.Order.{apart, by-test, positive}
 use Rattle.laws.proofs.Out.{refuse-no, refuse-yes, then-done}
-use Rattle.laws.specs.Out.{Out, done, reason, refuse, refused}
+use Rattle.laws.specs.Out.{Out, done, reason, refused}
 use Rattle.records.specs.Record.{recordOf}
 use Rattle.records.specs.declared.record.Frame.{Frame}
 use Rattle.sizes.proofs.MarginLaws.{around-fits, around-inside, between-around, fits-around}
@@ -16,22 +16,20 @@ use Rattle.sizes.specs.Sound.{Inside}
 use Rattle.sizes.specs.declared.clap.CropRect.{CropRect}
 use Rattle.transform.proofs.Runs.{crop-outside, crop-taken}
 use Rattle.transform.specs.Run.{cropRun}
-use Rattle.promises.specs.Before.{rectRun}
+use Rattle.promises.specs.Before.{rectJudged, rectRun}
 
 -- ---- crop by a rectangle alone: its four tests in turn
 
-above : (n : ℕ) → 1 ≤ n → n ≡ 0 → ⊥
-above n h e = omega arith
-
-inside : {A : Type 0} (r : CropRect) (w h : ℕ) (o : Out A) → Inside r w h
-    → refuse (eqb (r .width) 0) 9 (refuse (eqb (r .height) 0) 9 (refuse (ltb w (r .x + r .width)) 9 (refuse (ltb h (r .y + r .height)) 9 o))) ≡ o
+inside : {A : Type 0} (r : CropRect) (w h : ℕ) (o : Out A) → Inside r w h → rectJudged r w h o ≡ o
+unfolding rectJudged
 inside r w h o i =
-    refuse-no _ _ (ne-eqb (r .width) 0 (above _ (i .wide))) ∙ refuse-no _ _ (ne-eqb (r .height) 0 (above _ (i .tall)))
+    refuse-no _ _ (ne-eqb (r .width) 0 (λ z. omega (arith, i .wide)))
+    ∙ refuse-no _ _ (ne-eqb (r .height) 0 (λ z. omega (arith, i .tall)))
     ∙ refuse-no _ _ (le-ltb w _ (i .across))
     ∙ refuse-no _ _ (le-ltb h _ (i .down))
 
-outside : {A : Type 0} (r : CropRect) (w h : ℕ) (o : Out A) → (Inside r w h → ⊥)
-    → refuse (eqb (r .width) 0) 9 (refuse (eqb (r .height) 0) 9 (refuse (ltb w (r .x + r .width)) 9 (refuse (ltb h (r .y + r .height)) 9 o))) ≡ refused (reason 9)
+outside : {A : Type 0} (r : CropRect) (w h : ℕ) (o : Out A) → (Inside r w h → ⊥) → rectJudged r w h o ≡ refused (reason 9)
+unfolding rectJudged
 outside r w h o n =
     by-test (eqb (r .width) 0) (refuse-yes _ _) (λ a. refuse-no _ _ a
     ∙ by-test (eqb (r .height) 0) (refuse-yes _ _) (λ b. refuse-no _ _ b
