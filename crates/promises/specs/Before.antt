@@ -8,7 +8,7 @@ use Rattle.sizes.specs.declared.clap.CropRect.{CropRect}
 use Rattle.planes.specs.Bytes.{decode, encode}
 use Rattle.motions.specs.Turn.{crop}
 
--- crop to a rectangle alone (before A1): the record, then 9 for one that has no side or is not inside, then 17
+-- before A1: 9 for a rectangle that has no side or is not inside a picture of that size
 unfoldable pub rectJudged : {A : Type 0} → CropRect → ℕ → ℕ → Out A → Out A
 rectJudged r width height o =
     refuse (eqb (r .width) 0) 9
@@ -16,6 +16,7 @@ rectJudged r width height o =
     (refuse (ltb width (r .x + r .width)) 9
     (refuse (ltb height (r .y + r .height)) 9 o)))
 
+-- crop to a rectangle alone: the record, then 9, then 17
 unfoldable pub rectRun : List ℕ → CropRect → ℕ → Out (List ℕ)
 rectRun s r room =
     andThen (recordOf s) (λ fr. rectJudged r (fr .form .width) (fr .form .height) (fitted room (encode (crop (decode s fr) r))))
