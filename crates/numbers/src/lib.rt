@@ -157,8 +157,8 @@ pub fn signed(pattern: u32, range: u64) -> Offset
 }
 
 // How many digits n has.
-pub fn decimal_length(n: u32) -> usize
-    ensures { λ r. ⌜ (r ≡ length (decimal n)) × (r ≤ 10) ⌝ }
+pub fn long_decimal_length(n: u64) -> usize
+    ensures { λ r. ⌜ (r ≡ length (decimal n)) × (r ≤ 20) ⌝ }
 {
     let mut rest = n;
     let mut count: usize = 1;
@@ -169,12 +169,19 @@ pub fn decimal_length(n: u32) -> usize
     count
 }
 
+// The same of a number of 32 bits.
+pub fn decimal_length(n: u32) -> usize
+    ensures { λ r. ⌜ (r ≡ length (decimal n)) × (r ≤ 10) ⌝ }
+{
+    long_decimal_length(n as u64)
+}
+
 // Writes n in decimal at `at`, and returns the place past it.
-pub fn write_decimal(out: &mut [u8], at: usize, n: u32) -> usize
+pub fn write_long_decimal(out: &mut [u8], at: usize, n: u64) -> usize
     requires { ⌜ at + length (decimal n) ≤ length (now out) ⌝ }
     ensures { λ r. ⌜ (r ≡ at + length (decimal n)) × (now (out .exit) ≡ puts (now (out .entry)) at (decimal n)) ⌝ }
 {
-    let end = at + decimal_length(n);
+    let end = at + long_decimal_length(n);
     let mut i = end;
     let mut rest = n;
     while rest >= 10 {
@@ -185,6 +192,14 @@ pub fn write_decimal(out: &mut [u8], at: usize, n: u32) -> usize
     i -= 1;
     out[i] = (48 + rest) as u8;
     end
+}
+
+// The same of a number of 32 bits.
+pub fn write_decimal(out: &mut [u8], at: usize, n: u32) -> usize
+    requires { ⌜ at + length (decimal n) ≤ length (now out) ⌝ }
+    ensures { λ r. ⌜ (r ≡ at + length (decimal n)) × (now (out .exit) ≡ puts (now (out .entry)) at (decimal n)) ⌝ }
+{
+    write_long_decimal(out, at, n as u64)
 }
 
 // The lesser of two numbers.

@@ -1,10 +1,12 @@
 -- Laws of the text: how its parts are stored, how long they are, and how it goes on entry by entry.
 use mathlib.Core.List.{List, [], _++_, _∷_}
 use mathlib.Core.Path.{_∙_, _≡_, ap, refl, sym}
-use Prim.Native.Nat.{_*_, _+_, _-_, _<_, _≤_, ℕ}
+use Prim.Native.Nat.{_*_, _+_, _-_, _<_, _^_, _≤_, ℕ}
 use native.Mathlib.Omega.{arith}
 use lib.ListN.{length, length-append, set, take}
-use Rattle.laws.proofs.Order.{apart, by-order}
+use native.Mathlib.Nat.{mul-comm}
+use lib.Dec.{lit<}
+use Rattle.laws.proofs.Order.{apart, by-order, mul-below}
 use Rattle.laws.proofs.Out.{andThen-done, done-answers, done-same, fitted-room, fitted-short, not-done}
 use Rattle.laws.proofs.Puts.{puts-append}
 use Rattle.laws.specs.Ascii.{ascii, characterBytes}
@@ -13,19 +15,23 @@ use Rattle.laws.specs.Pick.{pick}
 use Rattle.laws.specs.Puts.{puts}
 use Rattle.laws.specs.declared.Answer.the-variants.{Wrote}
 use Rattle.laws.specs.declared.Refusal.{Refusal}
-use Rattle.numbers.proofs.Decimal.{decimal-short}
+use Rattle.numbers.proofs.Decimal.{decimal-few, decimal-short}
 use Rattle.numbers.specs.Decimal.{decimal}
 use Rattle.numbers.specs.Number.{onNumber, readNumber}
 use Rattle.numbers.specs.declared.NumberRead.{NumberRead}
 use Rattle.numbers.specs.declared.NumberRead.the-variants.{Number}
 use Rattle.image.specs.Format.{judgedSize, sizeOut}
 use Rattle.image.specs.declared.size.Size.{Size}
+use Rattle.image.proofs.JudgedLaws.{judged-sound}
+use Rattle.image.specs.Sound.{SizeSound}
 use Rattle.props.proofs.ChainLaws.{chain-few, entries-first, entries-none, entries-step}
 use Rattle.props.proofs.Prefix.{chain-prefix, number-prefix}
 use Rattle.props.specs.Chain.{chainAt, entriesAt}
 use Rattle.props.specs.Entry.{kindOf}
 use Rattle.props.specs.Size.{sizeAfter}
 use Rattle.props.specs.declared.entry.PropertyEntry.{PropertyEntry}
+use Rattle.props.proofs.SizeLaws.{size-sound}
+use Rattle.props.specs.declared.entry.Property.{Property}
 use Rattle.steps_text.specs.Input.{Steps, stepsOf}
 use Rattle.steps_text.specs.Text.{fieldText, heading, lineText, lineThen, linesFrom, outText, refusalText, refusedLine, refusedWord, textOf}
 use Rattle.steps_text.specs.declared.input.Input.{Input}
@@ -142,29 +148,48 @@ text-refused s r e = ap outText e
 
 -- ---- how long it can be
 
-line-short : (i kind : ℕ) (z : Size) → length (lineText i kind z) ≤ 44
-line-short i kind z = omega (arith, length-line i kind z, decimal-short i, decimal-short kind, decimal-short (z .width), decimal-short (z .height))
+-- the sides of a picture have at most ten digits, an entry's kind one and its index three
+side-few : (a b : ℕ) → 1 ≤ b → a * b ≤ 2 ^ 30 → length (decimal a) ≤ 10
+side-few a b h l = decimal-few 9 a (omega (arith, mul-below a b a 1 (omega arith) h, l))
 
-refused-short : (i kind : ℕ) (e : Refusal) → length (refusedLine i kind e) ≤ 44
-refused-short i kind e = omega (arith, length-refused i kind e, length-refusal e, decimal-short i, decimal-short kind, decimal-short (e .number))
+kind-few : (p : Property) → length (decimal (kindOf p)) ≤ 1
+unfolding kindOf
+kind-few Property.Other = decimal-few 0 0 (lit< tt)
+kind-few (Property.Clap c) = decimal-few 0 1 (lit< tt)
+kind-few (Property.Irot t) = decimal-few 0 2 (lit< tt)
+kind-few (Property.Imir m) = decimal-few 0 3 (lit< tt)
+kind-few (Property.Iscl k) = decimal-few 0 4 (lit< tt)
 
-lines-short : (i : ℕ) (es : List PropertyEntry) (z : Size) → length (linesFrom i es z) ≤ 44 * length es
+line-short : (i : ℕ) (p : Property) (z : Size) → i < 256 → SizeSound z → length (lineText i (kindOf p) z) ≤ 44
+line-short i p z h s =
+    let a = side-few (z .width) (z .height) (s .tall) (s .area) in
+    let b = side-few (z .height) (z .width) (s .wide) (rw (mul-comm (z .height) (z .width)) (s .area)) in
+    omega (arith, length-line i (kindOf p) z, decimal-few 2 i (omega arith), kind-few p)
+
+refused-short : (i : ℕ) (p : Property) (e : Refusal) → i < 256 → length (refusedLine i (kindOf p) e) ≤ 44
+refused-short i p e h = omega (arith, length-refused i (kindOf p) e, length-refusal e, decimal-few 2 i (omega arith), kind-few p, decimal-short (e .number))
+
+lines-short : (i : ℕ) (es : List PropertyEntry) (z : Size) → i + length es ≤ 256 → SizeSound z → length (linesFrom i es z) ≤ 44 * length es
 unfolding linesFrom lineThen
-lines-short i [] z = omega arith
-lines-short i (e ∷ es) z = go (λ y. lines-short (i + 1) es y) (sizeAfter (e .property) z)
+lines-short i [] z h s = omega arith
+lines-short i (e ∷ es) z h s = go (λ y t. lines-short (i + 1) es y (omega arith) t) (sizeAfter (e .property) z) refl
   where
-    go : ((y : Size) → length (linesFrom (i + 1) es y) ≤ 44 * length es) → (o : Out Size) → length (lineThen i (kindOf (e .property)) o (λ y. linesFrom (i + 1) es y)) ≤ 44 * length (e ∷ es)
-    go k (refused r) = omega (arith, refused-short i (kindOf (e .property)) r)
-    go k (done y) = omega (arith, length-append (lineText i (kindOf (e .property)) y) (linesFrom (i + 1) es y), line-short i (kindOf (e .property)) y, k y)
+    go : ((y : Size) → SizeSound y → length (linesFrom (i + 1) es y) ≤ 44 * length es) → (o : Out Size) → sizeAfter (e .property) z ≡ o
+        → length (lineThen i (kindOf (e .property)) o (λ y. linesFrom (i + 1) es y)) ≤ 44 * length (e ∷ es)
+    go k (refused r) q = omega (arith, refused-short i (e .property) r (omega arith))
+    go k (done y) q =
+        let t = size-sound (e .property) z y s q in
+        omega (arith, length-append (lineText i (kindOf (e .property)) y) (linesFrom (i + 1) es y), line-short i (e .property) y (omega arith) t, k y t)
 
-steps-few : (s : List ℕ) (t : Steps) → stepsOf s ≡ done t → length (t .entries) ≤ 256
+steps-read : (s : List ℕ) (t : Steps) → stepsOf s ≡ done t → (length (t .entries) ≤ 256) × SizeSound (t .size)
 unfolding stepsOf
-steps-few s t e =
+steps-read s t e =
     let a = on-number-done _ _ t e in
     let b = on-number-done _ _ t (a .3) in
     let c = andThen-done _ _ t (b .3) in
     let d = andThen-done _ _ t (c .2) in
-    omega (arith, chain-few s (b .1) (c .0) (c .1), ap (λ x. length (x .entries)) (done-same _ t (d .2)))
+    let q = done-same _ t (d .2) in
+    (omega (arith, chain-few s (b .1) (c .0) (c .1), ap (λ x. length (x .entries)) q), rw (ap (λ x. x .size) q) at (judged-sound (a .0) (b .0) (d .0) (d .1)))
 
 pub text-short : (s : List ℕ) → length (textOf s) ≤ 11287
 unfolding textOf outText heading ascii characterBytes pick
@@ -172,7 +197,9 @@ text-short s = go (stepsOf s) refl
   where
     go : (o : Out Steps) → stepsOf s ≡ o → length (outText o) ≤ 11287
     go (refused r) e = omega (arith, length-refusal r, decimal-short (r .number))
-    go (done t) e = omega (arith, length-append heading (linesFrom 0 (t .entries) (t .size)), lines-short 0 (t .entries) (t .size), steps-few s t e)
+    go (done t) e =
+        let k = steps-read s t e in
+        omega (arith, length-append heading (linesFrom 0 (t .entries) (t .size)), lines-short 0 (t .entries) (t .size) (omega arith) (k .1), k .0)
 
 -- the first 12,816 bytes tell the text: a longer input has the answer of what is read of it
 pub text-prefix : (n : ℕ) (s : List ℕ) → 12816 ≤ n → textOf (take n s) ≡ textOf s

@@ -9,14 +9,14 @@ use lib.ListN.{length, length-set}
 use Prim.Native.Nat.{ℕ, _+_, _-_, _^_, _≤_, _<_}
 use mathlib.Core.List.{List, []}
 use mathlib.Core.Path.{_≡_, refl, ap, _∙_}
-use Rattle.numbers.proofs.write_decimal.Statement.{statement}
-use Rattle.numbers.proofs.write_decimal.Tie as tie
-use Rattle.numbers.proofs.write_decimal.Reads as reads
-use Rattle.numbers.proofs.write_decimal.Lts as lts
-use Rattle.numbers.proofs.decimal_length.Reads as decimal-length-reads
+use Rattle.numbers.proofs.write_long_decimal.Statement.{statement}
+use Rattle.numbers.proofs.write_long_decimal.Tie as tie
+use Rattle.numbers.proofs.write_long_decimal.Reads as reads
+use Rattle.numbers.proofs.write_long_decimal.Lts as lts
+use Rattle.numbers.proofs.long_decimal_length.Reads as long-decimal-length-reads
 
 abbrev Inv-loop : tie.InvT-loop
-Inv-loop out₀ at n end i₀ rest₀ out i rest = (after : List ℕ) × (rest < 2 ^ 32) × (decimal n ≡ digitsOnto 9 rest after) × (i + length after ≡ at + length (decimal n)) × (out ≡ puts out₀ i after)
+Inv-loop out₀ at n end i₀ rest₀ out i rest = (after : List ℕ) × (rest < 2 ^ 64) × (decimal n ≡ digitsOnto 19 rest after) × (i + length after ≡ at + length (decimal n)) × (out ≡ puts out₀ i after)
 
 abbrev μ-loop : tie.MeasureT-loop
 μ-loop out₀ at n end i₀ rest₀ out i rest = rest
@@ -26,21 +26,21 @@ module _ (c : tie.At-loop Inv-loop μ-loop) where
   inside : (1 ≤ c .loop .i) × (c .loop .i ≤ length (c .loop .out)) × (length (c .loop .out) ≡ length (now (c .before .before .before .args .out)))
   inside =
       let r = c .loop in
-      let l = length-digits 9 (r .rest) (r .inv .0) in
+      let l = length-digits 19 (r .rest) (r .inv .0) in
       let e = ap length (r .inv .2) in
       let k : length (r .out) ≡ length (now (c .before .before .before .args .out)) = ap length (r .inv .4) ∙ simp length-puts in
       let p : c .before .before .before .args .at + length (decimal (c .before .before .before .args .n)) ≤ length (now (c .before .before .before .args .out)) = c .before .before .before .pre in
       (omega arith, omega arith, k)
 
-decimal-length-requires : tie.Need-decimal-length-requires Inv-loop μ-loop
-decimal-length-requires c κs = search needs
+long-decimal-length-requires : tie.Need-long-decimal-length-requires Inv-loop μ-loop
+long-decimal-length-requires c κs = search needs
 
 add-end : tie.Need-add-end Inv-loop μ-loop
 add-end c = search needs
 
 loop-holds : tie.Need-loop-holds Inv-loop μ-loop
 unfolding decimal puts
-loop-holds c = let a = c .before .before .args in ([], omega arith, refl, omega (arith, c .decimal-length .ensures .0), refl)
+loop-holds c = let a = c .before .before .args in ([], omega arith, refl, omega (arith, c .long-decimal-length .ensures .0), refl)
 
 sub-i : tie.Need-sub-i Inv-loop μ-loop
 sub-i c = omega (arith, inside (c .before))
@@ -82,15 +82,15 @@ returns c =
     let e : decimal (start .args .n) ≡ _ = r .inv .2 ∙ onto-last (r .rest) (r .inv .0) (c .loop-test .left) in
     let l = ap length e in
     let p : r .i - 1 ≡ start .args .at = omega arith in
-    (omega (arith, c .before .before .decimal-length .ensures .0), puts-front _ _ _ _ _ (inside (c .before) .0) (r .inv .4) ∙ rw (e, p))
+    (omega (arith, c .before .before .long-decimal-length .ensures .0), puts-front _ _ _ _ _ (inside (c .before) .0) (r .inv .4) ∙ rw (e, p))
 
-pub write-decimal-spec : {M : Type 1} → statement M
-write-decimal-spec =
+pub write-long-decimal-spec : {M : Type 1} → statement M
+write-long-decimal-spec =
     tie.close
     (tie.spec
     Inv-loop
     μ-loop
-    decimal-length-requires
+    long-decimal-length-requires
     add-end
     loop-holds
     sub-i
