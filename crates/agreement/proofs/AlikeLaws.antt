@@ -7,8 +7,8 @@ use native.Mathlib.Omega.{arith}
 use lib.Dec.{eqb}
 use lib.ListN.{getD, length}
 use Rattle.laws.proofs.Order.{apart, by-order, by-test, pick-false, pick-true}
-use Rattle.laws.proofs.Out.{andThen-done, done-same, refuse-done}
-use Rattle.laws.specs.Out.{Out, andThen, done, refuse, refused}
+use Rattle.laws.proofs.Out.{about-done, andThen-done, done-same, refuse-done}
+use Rattle.laws.specs.Out.{Out, about, after, andThen, done, refuse, refuseItem, refused}
 use Rattle.numbers.proofs.Number.{read-bounds, read-end, read-large, read-last, read-low, read-more, read-none}
 use Rattle.numbers.specs.Number.{onNumber, readFrom, readNumber}
 use Rattle.numbers.specs.declared.NumberRead.{NumberRead}
@@ -27,7 +27,6 @@ use Rattle.derived.specs.Grid.{gridOf}
 use Rattle.derived.specs.Overlay.{overlayOf}
 use Rattle.props.specs.Chain.{chainAt}
 use Rattle.tiles.specs.Tiles.{countOf, judgeOf, tilesAt}
-use Rattle.laws.specs.Any.{any}
 use Rattle.inputs.specs.Inputs.{firstFormat, inputsAt, otherDepth}
 use Rattle.agreement.specs.Alike.{SameBytes, SameHead, SameNumber, SameParts, SameRecords, SameTray}
 use Rattle.point.specs.Point.{Look, gridLook, gridNames, gridPoint, lookOn, overlayLook, overlayNames, overlayPoint, pointFrom, seeThroughFrame}
@@ -245,8 +244,8 @@ module _ (s t : List ℕ) (long : length s ≡ length t) where
   unfolding framesAt SameRecords
   records-same zero at h = rw long
   records-same (suc n) at h =
-      then-alike _ _ _ _ (record-same at (λ a. SameRecords n s t a) h) (λ fr e.
-      then-alike _ _ _ _ (records-same n (fr .end) (record-next at (λ a. SameRecords n s t a) h fr e)) (λ frs q. refl))
+      then-alike _ _ _ _ (ap (about 1 0) (record-same at (λ a. SameRecords n s t a) h)) (λ fr e.
+      then-alike _ _ _ _ (ap (after 1) (records-same n (fr .end) (record-next at (λ a. SameRecords n s t a) h fr (about-done 1 0 _ _ e)))) (λ frs q. refl))
 
 -- ---- trays
 
@@ -275,8 +274,8 @@ overlay-looks body s t chain flag list h =
     sym (on-same _ _ _ _ (same-count s t h) (λ n at e.
     ap (λ (o : Out (List Frame)).
     andThen (chainAt chain 0) (λ es.
-    andThen (andThen (overlayOf body n) (λ d. refuse (eqb n 0) 15 (refuse (not (eqb (length list) n)) 11 (andThen o (λ frs. refuse (any (otherDepth (firstFormat frs)) frs) 14 (done (record { descriptor = d; frames = frs })))))))
-    (λ q. refuse (any seeThroughFrame (q .frames)) 18 (lookOn es flag (q .descriptor .«output_width») (q .descriptor .«output_height») (overlayNames body q)))))
+    andThen (andThen (overlayOf body n) (λ d. refuse (eqb n 0) 15 (refuse (not (eqb (length list) n)) 11 (andThen o (λ frs. refuseItem 1 (otherDepth (firstFormat frs)) 14 frs (done (record { descriptor = d; frames = frs })))))))
+    (λ q. refuseItem 1 seeThroughFrame 18 (q .frames) (lookOn es flag (q .descriptor .«output_width») (q .descriptor .«output_height») (overlayNames body q)))))
     (same-frames s t h n at e)))
 
 pub overlay-blind : (body s t chain : List ℕ) (flag : Bool) (list : List ℕ) (x y : ℕ) → SameTray s t → overlayPoint body t chain flag list x y ≡ overlayPoint body s chain flag list x y

@@ -3,8 +3,8 @@ use mathlib.Core.Bool.{Bool}
 use mathlib.Core.List.{List}
 use mathlib.Core.Path.{_∙_, _≡_, ap, refl}
 use Prim.Native.Nat.{ℕ}
-use Rattle.laws.proofs.Out.{then-refuse}
-use Rattle.laws.specs.Out.{Out, andThen, done, refuse, refused}
+use Rattle.laws.proofs.Out.{item-then}
+use Rattle.laws.specs.Out.{Out, andThen, done, refuseItem, refused}
 use Rattle.numbers.specs.Number.{onNumber, readNumber}
 use Rattle.numbers.specs.declared.NumberRead.{NumberRead}
 use Rattle.numbers.specs.declared.NumberRead.the-variants.{Malformed, Number}
@@ -13,7 +13,6 @@ use Rattle.props.specs.declared.entry.PropertyEntry.{PropertyEntry}
 use Rattle.motions.specs.Place.{Place}
 use Rattle.sight.specs.Sight.{sightOf}
 use Rattle.tiles.specs.Tiles.{tilesAt}
-use Rattle.laws.specs.Any.{any}
 use Rattle.inputs.specs.Inputs.{inputsAt}
 use Rattle.point.specs.Point.{gridLook, gridNames, gridPoint, lookOn, overlayLook, overlayNames, overlayPoint, pointFrom, seeThroughFrame}
 use Rattle.point.specs.declared.Named.{Named}
@@ -63,7 +62,7 @@ overlaySteps body tray chain flag list x y =
     onNumber (readNumber tray 0) (λ n at.
     andThen (chainAt chain 0) (λ es.
     andThen (inputsAt body tray list n at) (λ q.
-    refuse (any seeThroughFrame (q .frames)) 18
+    refuseItem 1 seeThroughFrame 18 (q .frames)
     (pointOn es flag (q .descriptor .«output_width») (q .descriptor .«output_height») x y (overlayNames body q)))))
 
 pub overlay-steps : (body tray chain : List ℕ) (flag : Bool) (list : List ℕ) (x y : ℕ) → overlayPoint body tray chain flag list x y ≡ overlaySteps body tray chain flag list x y
@@ -72,4 +71,4 @@ overlay-steps body tray chain flag list x y =
     number-then (readNumber tray 0) _ _ _ (λ n at.
     then-then (chainAt chain 0) _ _ _ (λ es.
     then-then (inputsAt body tray list n at) _ _ _ (λ q.
-    then-refuse _ _ _ _ ∙ ap (refuse (any seeThroughFrame (q .frames)) 18) (look-point es flag _ _ x y (overlayNames body q)))))
+    item-then 1 _ 18 _ _ _ ∙ ap (refuseItem 1 seeThroughFrame 18 (q .frames)) (look-point es flag _ _ x y (overlayNames body q)))))

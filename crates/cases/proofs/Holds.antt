@@ -1,8 +1,8 @@
 -- The table of document 01's starred cases holds: one equation, computed.
 use mathlib.Core.Path.{refl}
 use lib.Ieee.{add, div, mul, ofInt, round, sub}
-use Rattle.laws.specs.Any.{any, anyBelow}
-use Rattle.laws.specs.Out.{andThen, fitted, refuse}
+use Rattle.laws.specs.Any.{any, anyBelow, firstAt}
+use Rattle.laws.specs.Out.{about, after, andThen, fitted, refuse, refuseItem}
 use Rattle.laws.specs.Pick.{pick}
 use Rattle.laws.specs.Span.{run, span}
 use Rattle.numbers.specs.Field.{bigEndian, fieldAt, offsetOf, onField, signedOf}
@@ -32,7 +32,7 @@ use Rattle.resample.specs.Run.{areaBytes, depthBytes, depthRun, isclRun}
 use Rattle.cells.specs.Cell.{tileForm, tilePic}
 use Rattle.grid.specs.Mosaic.{gridPic, mosaicAt, opaqueAt, tileIndex}
 use Rattle.grid.specs.Run.{framesIn, gridOn}
-use Rattle.tiles.specs.Tiles.{alikeFrom, canvasForm, countOf, spansCanvas, judgeOf, promotesOf, sameLayout, tilesAt}
+use Rattle.tiles.specs.Tiles.{alikeFrom, canvasForm, countOf, heldTo, spansCanvas, judgeOf, promotesOf, sameLayout, tilesAt}
 use Rattle.blend.specs.Overlay.{overAll, alphaOf, base, covers, coversAt, backdrop, over, overAt, overlayPic, overColour, placeAt, sampleOf, unpremultiply, finalSample, spotAt, overAlpha}
 use Rattle.inputs.specs.Layers.{oddAcross, oddDown, oddOffset, otherChroma, overlayForm, promotes, seeThrough, layerOf, layersOf}
 use Rattle.inputs.specs.Inputs.{alphaAbove, composedForm, firstForm, inputsAt, otherDepth}
@@ -43,7 +43,7 @@ use Rattle.point.specs.Point.{gridLook, gridNames, gridPoint, lookOn, pointFrom
 use Rattle.cases.specs.Table.{AllHold, areaRow, body, clapEdge, depth8, gives, irot1, isclWidth, joined, mono, noEntry, overBlack, spotIn, spotOf, table, tiles}
 
 pub table-holds : AllHold table
-unfolding add div mul ofInt round sub andThen fitted refuse pick run span bigEndian fieldAt offsetOf onField signedOf groups lastByte numberBytes
+unfolding add div mul ofInt round sub about after andThen firstAt fitted heldTo refuse refuseItem pick run span bigEndian fieldAt offsetOf onField signedOf groups lastByte numberBytes
     onNumber readFrom readNumber dataOf decode encode headBytes planeBytes planeHead rowBytes rowsBytes sampleAt sampleBytes sampleIn samplesOf
     bytesOf columnsOf cover formOf formatOf isDepth judgedSize halved halvesX halvesY hasAlpha hasPart isMono middleOf rowSize rowsOf sideOf
     topOf ensure full needs444 odd pixel sized headAt headOf partAt past planeAt planeOf planesAt recordAt recordOf framesAt fillAlphaOf fullOf

@@ -8,7 +8,7 @@ use native.Mathlib.Omega.{arith}
 use lib.ListN.{drop, drop-of-length-le, length, length-append, length-drop, length-replicate, replicate, take}
 use lib.Seq.{length-take-le, take-all, take-at}
 use Rattle.laws.proofs.Order.{by-test, pick-false, pick-true}
-use Rattle.laws.proofs.Out.{andThen-done, done-same, fitted-room, same-done, then-done}
+use Rattle.laws.proofs.Out.{andThen-done, done-after, done-same, fitted-room, same-done, then-done}
 use Rattle.laws.proofs.Puts.{puts-split}
 use Rattle.laws.proofs.Span.{span-end, span-step}
 use Rattle.laws.specs.Out.{Out, andThen, answerOf, done, fitted, refused, written}
@@ -20,7 +20,7 @@ use Rattle.records.specs.Record.{recordOf}
 use Rattle.planes.specs.inner.InRange.{InRange}
 use Rattle.planes.specs.Bytes.{encode, sampleBytes, samplesOf}
 use Rattle.planes.specs.Picture.{Pic}
-use Rattle.props.proofs.ChainLaws.{along-end, along-step, entries-none, entries-step, fold-step}
+use Rattle.props.proofs.ChainLaws.{fold-done, fold-step}
 use Rattle.props.specs.Chain.{applies, entriesAt, foldChain}
 use Rattle.props.specs.Entry.{entryAt}
 use Rattle.sizes.specs.declared.clap.Clap.{Clap}
@@ -86,13 +86,13 @@ chain-carried output spare flag [] P l d k fits q o s =
     let i : record { pic = P; longest = l } ≡ d = done-same _ d q in
     rw (← i) (record { room = tt; ends = refl; grows = omega arith })
 chain-carried output spare flag (e ∷ es) P l d k fits q o s =
-    let a = andThen-done _ _ d q in
+    let a = fold-done drawnAfter flag e es _ d q in
     let b = a .0 in
     let t = drawn-step flag e P l b k fits (a .1) in
     let c = chain-carried output spare flag es (b .pic) (b .longest) d (t .inRange) (t .fits) (a .2) o s in
     record {
       room = (encode (b .pic), t .bytes, le-trans (le-trans (t .fits) (c .grows)) o, le-trans (le-trans (t .fits) (c .grows)) s, c .room);
-      ends = fold-step recordAfter flag e es (encode P) (encode (b .pic)) (t .bytes) ∙ c .ends;
+      ends = fold-step recordAfter flag e es (encode P) (encode (b .pic)) (t .bytes) ∙ done-after 1 _ _ (c .ends);
       grows = le-trans (t .grows) (c .grows);
     }
 

@@ -10,7 +10,7 @@ use lib.Seq.{length-take-le, take-at}
 use Rattle.laws.proofs.Order.{and-true, by-test, pick-false, pick-true, true-and}
 use Rattle.laws.proofs.Out.{andThen-done, done-same, then-done}
 use Rattle.laws.proofs.Puts.{length-puts, puts-start}
-use Rattle.laws.specs.Out.{Out, andThen, answerOf, done, written}
+use Rattle.laws.specs.Out.{Out, after, andThen, answerOf, done, refused, written}
 use Rattle.laws.specs.Pick.{pick}
 use Rattle.laws.specs.Puts.{puts}
 use Rattle.laws.specs.declared.Answer.{Answer}
@@ -19,7 +19,7 @@ use Rattle.planes.proofs.RoundTrip.{length-encode}
 use Rattle.planes.specs.Bytes.{encode, sizeOf}
 use Rattle.planes.specs.Picture.{Pic}
 use Rattle.planes.specs.inner.InRange.{InRange}
-use Rattle.props.proofs.ChainLaws.{along-end, along-step, entries-none, entries-step}
+use Rattle.props.proofs.ChainLaws.{entries-none, entries-step, fold-done, fold-none, fold-step}
 use Rattle.props.specs.Chain.{applies, entriesAt, foldChain}
 use Rattle.props.specs.Entry.{entryAt}
 use Rattle.props.specs.declared.entry.EntryAt.{EntryAt}
@@ -181,6 +181,11 @@ module _ (p : Property) (t : Stage) (output spare : List ℕ) (k : Drawable p t 
 
 -- ---- an entry, whichever it is
 
+bytes-after : (n : ℕ) (o : Out (List ℕ)) → bytesIn (after n o) ≡ bytesIn o
+unfolding bytesIn after
+bytes-after n (refused r) = refl
+bytes-after n (done bs) = refl
+
 taken-is : (bs : List ℕ) → bytesIn (done bs) ≡ bs
 unfolding bytesIn
 taken-is bs = refl
@@ -321,9 +326,9 @@ plan-is p q r = rw (p, q, r)
 
 -- where a plan leads from the next stage
 lands-on : (flag : Bool) (x : PropertyEntry) (es : List PropertyEntry) (t r : Stage) → Lands flag (x ∷ es) t → Planned flag x t r → Lands flag es r
-unfolding foldChain chainPlanAfter Gives
+unfolding chainPlanAfter Gives
 lands-on flag x es t r k p =
-    let a = andThen-done _ _ (k .plan) (k .run) in
+    let a = fold-done chainPlanAfter flag x es _ (k .plan) (k .run) in
     let c = by-test (applies flag x) (applied (a .0) (a .1)) (skipped (a .0) (a .1)) in
     record { longest = c .0; plan = k .plan; run = rw (c .1) (a .2); even = k .even }
   where
@@ -378,8 +383,9 @@ module _ (s : List ℕ) (flag : Bool) (end d f : List ℕ) (left next : ℕ) (t 
   onward : (b : List ℕ) → entryBytes flag (x .entry) reached ≡ done b → chainBytes s (left - 1) (x .next) flag b ≡ end
   unfolding chainBytes
   onward b q =
-      let k = along-step recordAfter flag left s next (g .ready .entries) reached (g .ready .read) x b some at q in
-      ap bytesIn (then-done _ (k .1) ∙ sym (k .2) ∙ sym (then-done _ (g .ready .read))) ∙ g .same
+      ap bytesIn (then-done _ (split .1)) ∙ sym (bytes-after 1 _)
+      ∙ ap bytesIn (sym (fold-step recordAfter flag (x .entry) (split .0) reached b q) ∙ ap (λ (es : List PropertyEntry). foldChain recordAfter flag es reached) (sym (split .2)) ∙ sym (then-done _ (g .ready .read)))
+      ∙ g .same
 
   pub going-on : (r : Stage) (output′ spare′ : List ℕ) → Moved flag (x .entry) t output spare going-able r output′ spare′ → Going s flag end d f (left - 1) (x .next) r output′ spare′
   unfolding Roomy
@@ -410,7 +416,7 @@ going-ends s flag end d f left next t output spare g z u output′ spare′ w =
     let i : u .current .inside ≡ true = w .side ∙ ap (λ (c : ChainPlan). c .even) (done-same _ (k .plan) (k .run)) ∙ k .even in
     let c : take (u .current .size) output′ ≡ end =
     sym (ap (λ (b : Bool). lying b (u .current .size) output′ spare′) i) ∙ sym (plain-bytes u _ (w .drawn)) ∙ w .arrived .bytes
-    ∙ sym (ap bytesIn (then-done _ (g .ready .read) ∙ along-end recordAfter flag left s next (g .ready .entries) (stageBytes t (recordIn t output spare)) (g .ready .read) z)) ∙ g .same in
+    ∙ sym (ap bytesIn (then-done _ (g .ready .read) ∙ ap (λ (es : List PropertyEntry). foldChain recordAfter flag es (stageBytes t (recordIn t output spare))) n ∙ fold-none recordAfter flag _)) ∙ g .same in
     record {
       size = sym (ap length (sym c) ∙ length-take-le (u .current .size) output′ (w .arrived .staged .first));
       begins = c;

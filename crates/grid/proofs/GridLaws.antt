@@ -10,7 +10,7 @@ use lib.Dec.{ltb}
 use lib.ListN.{getD, length}
 use borrow.Author.Tests.{eqb-true, leb-true, ne-eqb, not-false}
 use Rattle.laws.proofs.Order.{and-true, by-equal, by-test, pick-false, pick-le, pick-true}
-use Rattle.laws.proofs.Out.{andThen-done, done-same, not-done, refuse-done}
+use Rattle.laws.proofs.Out.{about-done, after-done, andThen-done, done-same, not-done, refuse-done}
 use Rattle.laws.specs.Out.{done}
 use Rattle.laws.specs.Pick.{pick}
 use Rattle.laws.specs.Puts.{Bytes}
@@ -32,6 +32,7 @@ use Rattle.cells.proofs.Suited.{tile-sound}
 use Rattle.grid.specs.Run.{framesIn}
 use Rattle.tiles.specs.Tiles.{alikeFrom, canvasForm, countOf, spansCanvas, judgeOf, promotesOf, sameLayout, tilesAt, tilesOf}
 use Rattle.tiles.specs.declared.judge.Tiles.{Tiles}
+use Rattle.tiles.proofs.TilesLaws.{alike-first}
 use Rattle.grid.specs.inner.Ready.{Alike, TilesTaken}
 
 -- ---- what was judged
@@ -71,14 +72,13 @@ all-alike t a b [] l e =
     let q = done-same a b e in
     record { least = omega arith; most = λ h. omega arith; alike = λ i h. absurd (not-suc-le-zero h); alpha = λ i h m. absurd (not-suc-le-zero h) }
 all-alike t a b (fr ∷ frs) l e =
-    let u = refuse-done _ 13 _ b e in
-    let v = refuse-done _ 14 _ b (u .1) in
+    let u = alike-first t a b fr frs e in
     let m : pick (hasAlpha (fr .form .format)) 1 a ≤ 1 = pick-le _ 1 a 1 (omega arith) l in
-    let k = all-alike t (pick (hasAlpha (fr .form .format)) 1 a) b frs m (v .1) in
+    let k = all-alike t (pick (hasAlpha (fr .form .format)) 1 a) b frs m (u .2) in
     record {
       least = alpha-least (fr .form .format) a b (k .least) l;
       most = λ h. k .most m;
-      alike = λ i h. first-or fr frs (λ (f : Frame). Alike t (f .form)) (same-alike t (fr .form) (u .0) (v .0)) (k .alike) i h;
+      alike = λ i h. first-or fr frs (λ (f : Frame). Alike t (f .form)) (same-alike t (fr .form) (u .0) (u .1)) (k .alike) i h;
       alpha = λ i h. first-or fr frs (λ (f : Frame). f .form .format .alpha ≤ 1 → f .form .format .alpha ≤ b) (first-alpha (fr .form .format) a b (k .least)) (k .alpha) i h;
     }
 
@@ -93,7 +93,7 @@ frames-sound (suc n) s at frs e i l =
     let a = andThen-done _ _ frs e in
     let b = andThen-done _ _ frs (a .2) in
     let q = done-same _ frs (b .2) in
-    rw (← q) (first-or (a .0) (b .0) (Sound s) (record-sound s at (a .0) (a .1)) (λ j m. frames-sound n s (a .0 .end) (b .0) (b .1) j m) i (rw (← q) at l))
+    rw (← q) (first-or (a .0) (b .0) (Sound s) (record-sound s at (a .0) (about-done _ _ _ _ (a .1))) (λ j m. frames-sound n s (a .0 .end) (b .0) (after-done 1 _ _ (b .1)) j m) i (rw (← q) at l))
 
 -- ---- the whole
 
@@ -159,11 +159,9 @@ alpha-some : (t : Form) (a b : ℕ) (frs : List Frame) → alikeFrom t a frs ≡
 unfolding alikeFrom
 alpha-some t a b [] e = inl (sym (done-same a b e))
 alpha-some t a b (fr ∷ frs) e =
-    let u = refuse-done _ 13 _ b e in
-    let v = refuse-done _ 14 _ b (u .1) in
     by-test (hasAlpha (fr .form .format))
     (λ h. inr (0, omega arith, h))
-    (λ h. elim (alpha-some t (pick (hasAlpha (fr .form .format)) 1 a) b frs (v .1)) [ inl q ↦ inl (q ∙ pick-false _ _ _ h) | inr k ↦ inr (suc (k .0), later (k .0) (k .1), k .2) ])
+    (λ h. elim (alpha-some t (pick (hasAlpha (fr .form .format)) 1 a) b frs (alike-first t a b fr frs e .2)) [ inl q ↦ inl (q ∙ pick-false _ _ _ h) | inr k ↦ inr (suc (k .0), later (k .0) (k .1), k .2) ])
   where
     later : (i : ℕ) → i < length frs → suc i < length (fr ∷ frs)
     later i l = omega arith

@@ -9,8 +9,8 @@ use lib.Dec.{eqb, leb, ltb}
 use lib.ListN.{length}
 use borrow.Author.Tests.{eq-eqb, le-ltb, lt-leb, lt-ltb, ne-eqb}
 use Rattle.laws.proofs.Order.{by-equal, by-order, by-test, pick-false, pick-le, pick-true, true-and}
-use Rattle.laws.proofs.Out.{andThen-done, done-same, refuse-done}
-use Rattle.laws.specs.Any.{any, anyBelow}
+use Rattle.laws.proofs.Out.{about-done, after-done, andThen-done, done-same, refuse-done}
+use Rattle.laws.specs.Any.{anyBelow}
 use Rattle.laws.specs.Out.{Out, done, refused}
 use Rattle.laws.specs.Pick.{pick}
 use Rattle.laws.specs.Puts.{Bytes}
@@ -32,6 +32,8 @@ use Rattle.planes.specs.Bytes.{decode, sampleIn}
 use Rattle.inputs.specs.Inputs.{alphaAbove, firstForm}
 use Rattle.inputs.specs.declared.alpha_check.AlphaPlane.{AlphaPlane}
 use Rattle.inputs.specs.inner.Summary.{alphaPlane, alphaPlaneAt, noAlpha, searchedRows}
+use Rattle.inputs.specs.inner.Sought.{foundAt}
+use Rattle.inputs.proofs.FoundLaws.{found-here, found-next, none-found}
 
 -- ---- records in turn
 
@@ -57,7 +59,17 @@ frames-from zero s at frs e = sym (done-same [] frs (refuse-done (ltb at (length
 frames-from (suc n) s at frs e =
     let a = andThen-done _ _ frs e in
     let b = andThen-done _ _ frs (a .2) in
-    sym (done-same _ frs (b .2)) ∙ ap (λ (l : List Frame). a .0 ∷ l) (frames-from n s (a .0 .end) (b .0) (b .1)) ∙ sym (from-read n s at (a .0) (a .1))
+    sym (done-same _ frs (b .2)) ∙ ap (λ (l : List Frame). a .0 ∷ l) (frames-from n s (a .0 .end) (b .0) (after-done 1 _ _ (b .1))) ∙ sym (from-read n s at (a .0) (about-done 1 0 _ _ (a .1)))
+
+-- no more than were asked for
+pub from-few : (n : ℕ) (s : List ℕ) (at : ℕ) → length (framesFrom n s at) ≤ n
+unfolding framesFrom onward
+from-few zero s at = omega arith
+from-few (suc n) s at = go (recordAt s at) (λ fr. from-few n s (fr .end))
+  where
+    go : (o : Out Frame) → ((fr : Frame) → length (framesFrom n s (fr .end)) ≤ n) → length (onward o (λ fr. framesFrom n s (fr .end))) ≤ suc n
+    go (refused r) k = omega arith
+    go (done fr) k = omega (arith, k fr)
 
 -- the first of them
 pub frames-first : (n : ℕ) (s : List ℕ) (at : ℕ) (fr : Frame) (frs : List Frame) → 0 < n → recordAt s at ≡ done fr → framesAt n s at ≡ done frs → firstForm frs ≡ fr .form
@@ -181,8 +193,9 @@ module _ (s : List ℕ) (at top : ℕ) where
   abbrev q : AlphaPlane
   q = alphaPlaneAt at (recordAt s at)
 
-  abbrev seen : ℕ → Bool
-  seen n = any (alphaAbove s top) (framesFrom n s at)
+  -- the first record with a sample above top: of n from the place on, i before them; k where there is none
+  abbrev seen : ℕ → ℕ → ℕ → ℕ
+  seen i n k = foundAt i (alphaAbove s top) (framesFrom n s at) k
 
   cases : {X : Type 0} → ((r : Refusal) → recordAt s at ≡ refused r → X) → ((fr : Frame) → recordAt s at ≡ done fr → X) → X
   cases {X} f g = go (recordAt s at) refl
@@ -213,18 +226,18 @@ module _ (s : List ℕ) (at top : ℕ) where
       (λ fr e. rw (q-done fr e) (shown-inside s fr (record-inside s at fr e) x y (rw (q-done fr e) at hx) (rw (q-done fr e) at hy)))
 
   -- found
-  pub hunt-found : (n x y : ℕ) → 0 < n → x < q .columns → y < q .rows → top < shown s q x y → seen n ≡ true
-  unfolding noAlpha any
-  hunt-found n x y h hx hy l =
+  pub hunt-found : (i n k x y : ℕ) → 0 < n → x < q .columns → y < q .rows → top < shown s q x y → seen i n k ≡ i
+  unfolding noAlpha
+  hunt-found i n k x y h hx hy l =
       cases (λ r e. absurd (none x (rw (q-refused r e) at hx)))
-      (λ fr e. rw (from-next n s at fr h e, plane-above s fr top x y (rw (q-done fr e) at hx) (rw (q-done fr e) at hy) (rw (q-done fr e) at l)))
+      (λ fr e. rw (from-next n s at fr h e) (found-here (alphaAbove s top) i fr _ k (plane-above s fr top x y (rw (q-done fr e) at hx) (rw (q-done fr e) at hy) (rw (q-done fr e) at l))))
 
   -- not in this one
-  pub hunt-clear : (n : ℕ) → 0 < n → ((y : ℕ) → y < q .rows → (x : ℕ) → x < q .columns → shown s q x y ≤ top) → seen n ≡ any (alphaAbove s top) (framesFrom (n - 1) s (q .end))
-  unfolding noAlpha any
-  hunt-clear n h f =
-      cases (λ r e. rw (q-refused r e, from-refused n s at r e, from-refused (n - 1) s at r e))
-      (λ fr e. rw (q-done fr e, plane-end s fr, from-next n s at fr h e, plane-clear s fr top (rw (q-done fr e) at f)))
+  pub hunt-clear : (i n k : ℕ) → 0 < n → ((y : ℕ) → y < q .rows → (x : ℕ) → x < q .columns → shown s q x y ≤ top) → seen i n k ≡ foundAt (i + 1) (alphaAbove s top) (framesFrom (n - 1) s (q .end)) k
+  unfolding noAlpha
+  hunt-clear i n k h f =
+      cases (λ r e. rw (q-refused r e, from-refused n s at r e, from-refused (n - 1) s at r e) (none-found (alphaAbove s top) i k ∙ sym (none-found (alphaAbove s top) (i + 1) k)))
+      (λ fr e. rw (q-done fr e, plane-end s fr, from-next n s at fr h e) (found-next (alphaAbove s top) i fr _ k (plane-clear s fr top (rw (q-done fr e) at f))))
 
 -- ---- what is found at a place
 
@@ -262,9 +275,21 @@ searched-all d rows bytes top stride x y small l h g f =
 
 -- ---- the search, by what a place's plane was found to be
 
-pub some-none : (t : Frame → Bool) (n : ℕ) (s : List ℕ) (at : ℕ) → n ≤ 0 → any t (framesFrom n s at) ≡ false
-unfolding any framesFrom
-some-none t n s at h = let e : n ≡ 0 = omega arith in rw e
+pub some-none : (t : Frame → Bool) (i n : ℕ) (s : List ℕ) (at k : ℕ) → n ≤ 0 → foundAt i t (framesFrom n s at) k ≡ k
+unfolding framesFrom
+some-none t i n s at k h = let e : n ≡ 0 = omega arith in rw e (none-found t i k)
+
+-- the search for a record, i of k behind
+module _ (t : Frame → Bool) (i k : ℕ) (s : List ℕ) (at : ℕ) where
+  pub sought-refused : (r : Refusal) → recordAt s at ≡ refused r → foundAt i t (framesFrom (k - i) s at) k ≡ k
+  sought-refused r e = rw (from-refused (k - i) s at r e) (none-found t i k)
+
+  module _ (fr : Frame) (h : i < k) (e : recordAt s at ≡ done fr) where
+    pub sought-here : t fr ≡ true → foundAt i t (framesFrom (k - i) s at) k ≡ i
+    sought-here q = rw (from-next (k - i) s at fr (omega arith) e) (found-here t i fr _ k q)
+
+    pub sought-next : t fr ≡ false → foundAt i t (framesFrom (k - i) s at) k ≡ foundAt (i + 1) t (framesFrom (k - (i + 1)) s (fr .end)) k
+    sought-next q = let z : k - i - 1 ≡ k - (i + 1) = omega arith in rw (from-next (k - i) s at fr (omega arith) e) (found-next t i fr _ k q ∙ rw z)
 
 module _ (s : List ℕ) (at top : ℕ) (r : AlphaPlane) (d : List ℕ) (e : r ≡ alphaPlaneAt at (recordAt s at)) (g : d ≡ dataOf s (r .plane)) where
   pub seen-inside : r .plane .start + r .plane .len ≤ length s
@@ -273,8 +298,9 @@ module _ (s : List ℕ) (at top : ℕ) (r : AlphaPlane) (d : List ℕ) (e : r �
   pub seen-shown : (x y : ℕ) → x < r .columns → y < r .rows → (1 ≤ r .bytes) × (r .bytes ≤ 2) × (y * r .plane .stride + x * r .bytes + r .bytes ≤ length d)
   seen-shown x y hx hy = rw (g, e) (hunt-shown s at top x y (rw e at hx) (rw e at hy))
 
-  pub seen-found : (n x y : ℕ) → 0 < n → x < r .columns → y < r .rows → top < sampleIn d (r .bytes) (r .plane .stride) x y → any (alphaAbove s top) (framesFrom n s at) ≡ true
-  seen-found n x y h hx hy l = hunt-found s at top n x y h (rw e at hx) (rw e at hy) (rw (g, e) at l)
+  pub seen-found : (i n k x y : ℕ) → 0 < n → x < r .columns → y < r .rows → top < sampleIn d (r .bytes) (r .plane .stride) x y → foundAt i (alphaAbove s top) (framesFrom n s at) k ≡ i
+  seen-found i n k x y h hx hy l = hunt-found s at top i n k x y h (rw e at hx) (rw e at hy) (rw (g, e) at l)
 
-  pub seen-clear : (n : ℕ) → 0 < n → ((y : ℕ) → y < r .rows → (x : ℕ) → x < r .columns → sampleIn d (r .bytes) (r .plane .stride) x y ≤ top) → any (alphaAbove s top) (framesFrom n s at) ≡ any (alphaAbove s top) (framesFrom (n - 1) s (r .end))
-  seen-clear n h f = rw e (hunt-clear s at top n h (rw (g, e) at f))
+  pub seen-clear : (i n k : ℕ) → 0 < n → ((y : ℕ) → y < r .rows → (x : ℕ) → x < r .columns → sampleIn d (r .bytes) (r .plane .stride) x y ≤ top)
+      → foundAt i (alphaAbove s top) (framesFrom n s at) k ≡ foundAt (i + 1) (alphaAbove s top) (framesFrom (n - 1) s (r .end)) k
+  seen-clear i n k h f = rw e (hunt-clear s at top i n k h (rw (g, e) at f))

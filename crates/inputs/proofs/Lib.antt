@@ -1,3 +1,4 @@
 pub mod BlendLaws
+pub mod FoundLaws
 pub mod FrameLaws
 pub mod SummaryLaws

@@ -4,8 +4,8 @@ use mathlib.Core.List.{List, [], _∷_}
 use Prim.Native.Nat.{ℕ}
 use lib.Dec.{eqb, ltb}
 use lib.ListN.{length}
-use Rattle.laws.specs.Any.{any, anyBelow}
-use Rattle.laws.specs.Out.{Out, andThen, done, refuse}
+use Rattle.laws.specs.Any.{anyBelow}
+use Rattle.laws.specs.Out.{Out, andThen, done, refuse, refuseItem}
 use Rattle.image.specs.Format.{hasAlpha}
 use Rattle.records.specs.Tray.{framesAt, noForm}
 use Rattle.image.specs.declared.format.Form.{Form}
@@ -35,14 +35,14 @@ unfoldable pub otherDepth : PixelFormat → Frame → Bool
 otherDepth f fr = not (eqb (fr .form .format .depth) (f .depth))
 
 -- a tray of n records, the first at a place: the body, 15 no inputs, 11 a premultiplied list of another length, the records and what
--- is left over, 14 a depth that differs
+-- is left over, 14 the first record whose depth differs
 unfoldable pub inputsAt : List ℕ → List ℕ → List ℕ → ℕ → ℕ → Out Inputs
 inputsAt body tray premultiplied n at =
     andThen (overlayOf body n) (λ d.
     refuse (eqb n 0) 15
     (refuse (not (eqb (length premultiplied) n)) 11
     (andThen (framesAt n tray at) (λ frs.
-    refuse (any (otherDepth (firstFormat frs)) frs) 14 (done (record { descriptor = d; frames = frs }))))))
+    refuseItem 1 (otherDepth (firstFormat frs)) 14 frs (done (record { descriptor = d; frames = frs }))))))
 
 unfoldable pub alphaAbove : List ℕ → ℕ → Frame → Bool
 alphaAbove tray top fr =

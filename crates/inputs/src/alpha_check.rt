@@ -1,13 +1,21 @@
 // The search for an alpha sample above top.
 ghost use mathlib.Core.Path.{_≡_};
 ghost use Rattle.records.specs.Record.{recordAt};
-ghost use Rattle.laws.specs.Any.{any};
+ghost use Rattle.laws.specs.Out.{done, refuseItem};
 ghost use Rattle.inputs.specs.Inputs.{alphaAbove};
 ghost use Rattle.records.specs.inner.Frames.{framesFrom};
-ghost use Rattle.inputs.specs.inner.Summary.{noAlpha, alphaPlaneAt, searchedRows};
+ghost use Rattle.inputs.specs.inner.Sought.{foundAt};
+ghost use Rattle.inputs.specs.inner.Summary.{noAlpha, alphaOut, alphaPlaneAt, searchedRows};
 use image::Part;
+use laws::Refusal;
 use records::FrameRead;
 use records::Plane;
+
+// What holding alpha samples to top answers.
+pub enum AlphaRead {
+    Within,
+    Refused(Refusal),
+}
 
 // A record's alpha plane and the place past the record. Where there is no alpha, or no record, it has no rows.
 pub(crate) struct AlphaPlane {
@@ -73,11 +81,12 @@ fn searched_rows(rows: usize, bytes: usize, top: u16) -> usize
     rows
 }
 
-// Whether an alpha sample of so many records in turn is above top, drawn or cut off. All loops are left on the first found.
-pub fn alpha_above(tray: &[u8], first: usize, count: u32, top: u16) -> bool
-    ensures { λ r. ⌜ r ≡ any (alphaAbove (now (tray .entry)) top) (framesFrom count (now (tray .entry)) first) ⌝ }
+// The first of so many records in turn that has an alpha sample above top, drawn or cut off; the count where none has. All loops are
+// left on the first found.
+fn alpha_above(tray: &[u8], first: usize, count: u32, top: u16) -> u32
+    ensures { λ r. ⌜ r ≡ foundAt 0 (alphaAbove (now (tray .entry)) top) (framesFrom count (now (tray .entry)) first) count ⌝ }
 {
-    let mut found = false;
+    let mut found = count;
     let mut at = first;
     'search: for i in 0..count {
         let q = alpha_at(tray, at);
@@ -90,7 +99,7 @@ pub fn alpha_above(tray: &[u8], first: usize, count: u32, top: u16) -> bool
         for y in 0..rows {
             for x in 0..columns {
                 if planes::sample(plane, bytes, stride, x, y) > top {
-                    found = true;
+                    found = i;
                     break 'search;
                 }
             }
@@ -98,4 +107,15 @@ pub fn alpha_above(tray: &[u8], first: usize, count: u32, top: u16) -> bool
         at = q.end;
     }
     found
+}
+
+// Holds every alpha sample of so many records in turn to top. Refusal: 16, of the first record that has one above.
+pub fn check_alpha(tray: &[u8], first: usize, count: u32, top: u16) -> AlphaRead
+    ensures { λ r. ⌜ alphaOut r ≡ refuseItem 1 (alphaAbove (now (tray .entry)) top) 16 (framesFrom count (now (tray .entry)) first) (done tt) ⌝ }
+{
+    let above = alpha_above(tray, first, count, top);
+    if above < count {
+        return AlphaRead::Refused(Refusal::OPACITY.about(Refusal::RECORD, above as u64));
+    }
+    AlphaRead::Within
 }

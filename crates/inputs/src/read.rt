@@ -1,4 +1,5 @@
-// The body and the records of an overlay whose tray count was read, with every refusal from the body's to 14.
+// The body and the records of an overlay whose tray count was read, with every refusal from the body's to 14. A record's own refusal has
+// its index, and 14 that of the first record whose depth differs.
 ghost use mathlib.Core.Path.{_≡_};
 ghost use Prim.Native.Nat.{_≤_};
 ghost use Rattle.laws.specs.Pick.{pick};
@@ -6,6 +7,8 @@ ghost use Rattle.derived.specs.inner.Sound.{OverlaySound};
 ghost use Rattle.inputs.specs.Layers.{oddOffset};
 ghost use Rattle.inputs.specs.inner.Summary.{summarised, summaryForm, planOut, framesPlan};
 ghost use Rattle.inputs.specs.inner.Plan.{planAt};
+use crate::sought::Sought;
+use crate::sought::first_sought;
 use derived::OverlayDescriptor;
 use derived::OverlayRead;
 use derived::Placement;
@@ -114,7 +117,7 @@ fn read_frames(
     while i < count {
         match records::read_record(tray, at) {
             FrameRead::Refused(e) => {
-                return PlanRead::Refused(e);
+                return PlanRead::Refused(e.about(Refusal::RECORD, i as u64));
             }
             FrameRead::Read(fr) => {
                 so_far = summarise(so_far, f, fr.form, d.offset(body, i));
@@ -127,7 +130,8 @@ fn read_frames(
         return PlanRead::Refused(Refusal::MALFORMED);
     }
     if so_far.other_depth {
-        return PlanRead::Refused(Refusal::LAYOUT);
+        let other = first_sought(tray, first, count, Sought::OtherDepth(f.depth));
+        return PlanRead::Refused(Refusal::LAYOUT.about(Refusal::RECORD, other as u64));
     }
     PlanRead::Read(Plan {
         descriptor: d,
@@ -157,7 +161,7 @@ pub fn read_inputs(
                 return PlanRead::Refused(Refusal::COUNT);
             }
             match records::read_record(tray, first) {
-                FrameRead::Refused(e) => PlanRead::Refused(e),
+                FrameRead::Refused(e) => PlanRead::Refused(e.about(Refusal::RECORD, 0)),
                 FrameRead::Read(fr) => {
                     let form = fr.form;
                     read_frames(body, tray, d, first, form.format)

@@ -1,12 +1,18 @@
--- Whether one of many passes a test.
+-- Whether one of many passes a test, and which is the first.
 use mathlib.Core.Bool.{Bool, _||_, false}
 use mathlib.Core.List.{List, [], _∷_}
-use Prim.Native.Nat.{suc, zero, ℕ}
+use Prim.Native.Nat.{_+_, suc, zero, ℕ}
+use Rattle.laws.specs.Pick.{pick}
 
 -- one of a list
 unfoldable pub any : {A : Type 0} → (A → Bool) → List A → Bool
 any t [] = false
 any t (a ∷ rest) = t a || any t rest
+
+-- the index of the first of a list that does, from 0; its length where none does
+unfoldable pub firstAt : {A : Type 0} → (A → Bool) → List A → ℕ
+firstAt t [] = 0
+firstAt t (a ∷ rest) = pick (t a) 0 (1 + firstAt t rest)
 
 -- a number below n
 unfoldable pub anyBelow : ℕ → (ℕ → Bool) → Bool

@@ -1,7 +1,9 @@
 // What every call shares: why it refuses, and what it answers.
+ghost use mathlib.Core.Path.{_≡_};
+ghost use Rattle.laws.specs.Out.{ownReason};
 
-// Why a call refuses: document 01's number, and room for the item that is refused: `sort` says which list it stands in, `index` where in it, from 0. Sort 0
-// is no item, and its index is 0. Today every refusal has both 0.
+// Why a call refuses: document 01's number, and where it is an item's own refusal (document 02, A2), the list that the item stands in
+// and its index there, from 0. Sort 0: of no item, and then the index is 0.
 pub struct Refusal {
     pub number: u8,
     pub sort: u8,
@@ -9,6 +11,11 @@ pub struct Refusal {
 }
 
 impl Refusal {
+    // The sorts of items: a record of the tray, an entry of the chain.
+    pub const RECORD: u8 = 1;
+
+    pub const ENTRY: u8 = 2;
+
     // A descriptor body is empty or cut short.
     pub const SHORT: Refusal = Refusal {
         number: 1,
@@ -117,6 +124,17 @@ impl Refusal {
         sort: 0,
         index: 0,
     };
+
+    // The same as the own refusal of an item.
+    pub fn about(self, sort: u8, index: u64) -> Refusal
+        ensures { λ r. ⌜ r ≡ ownReason (self .number) sort index ⌝ }
+    {
+        Refusal {
+            number: self.number,
+            sort,
+            index,
+        }
+    }
 }
 
 // What a call that writes comes to: how many bytes it wrote, or why it refuses.

@@ -8,9 +8,9 @@ use native.Mathlib.Omega.{arith}
 use lib.ListN.{length}
 use borrow.Author.Tests.{eqb-false, eqb-true, not-false}
 use Rattle.laws.proofs.Order.{pick-le, positive}
-use Rattle.laws.proofs.Out.{andThen-done, done-same, refuse-done, refused-back, then-done, then-refused}
+use Rattle.laws.proofs.Out.{about-done, andThen-done, done-same, item-done, item-no, item-refused, refuse-done, refused-back, then-done, then-refused}
 use Rattle.laws.specs.Any.{any}
-use Rattle.laws.specs.Out.{Out, andThen, done, fitted, reason, refuse, refused}
+use Rattle.laws.specs.Out.{Out, andThen, done, fitted, reason, refuseItem, refused}
 use Rattle.laws.specs.declared.Refusal.{Refusal}
 use Rattle.numbers.specs.Number.{onNumber, readNumber}
 use Rattle.numbers.specs.declared.NumberRead.the-variants.{Malformed, Number}
@@ -33,6 +33,8 @@ use Rattle.inputs.specs.Inputs.{Inputs, alphaAbove, composedForm, firstForm, fi
 use Rattle.inputs.specs.Layers.{layersOf, overlayForm, seeThrough}
 use Rattle.inputs.specs.declared.read.Plan.{Plan}
 use Rattle.inputs.specs.inner.Plan.{planAt, planOf}
+use Rattle.inputs.specs.declared.alpha_check.AlphaRead.{AlphaRead}
+use Rattle.inputs.specs.inner.Summary.{alphaOut}
 use Rattle.opaque.proofs.FitLaws.{form-fits}
 use Rattle.opaque.specs.inner.Laid.{unfit}
 use Rattle.blend.specs.Overlay.{overlayPic}
@@ -46,7 +48,7 @@ frames-sound zero s at frs h e = absurd (not-suc-le-zero h)
 frames-sound (suc n) s at frs h e =
     let a = andThen-done _ _ frs e in
     let b = andThen-done _ _ frs (a .2) in
-    rw (← done-same _ frs (b .2)) (record-sound s at (a .0) (a .1) .form)
+    rw (← done-same _ frs (b .2)) (record-sound s at (a .0) (about-done 1 0 _ _ (a .1)) .form)
 
 module _ (body tray list : List ℕ) (n at : ℕ) where
   -- what was taken
@@ -69,7 +71,7 @@ module _ (body tray list : List ℕ) (n at : ℕ) where
       let b = refuse-done _ _ _ q (a .2) in
       let c = refuse-done _ _ _ q (b .1) in
       let d = andThen-done _ _ q (c .1) in
-      let f = refuse-done _ _ _ q (d .2) in
+      let f = item-done 1 _ 14 _ _ q (d .2) in
       let o = overlay-taken body n (a .0) (a .1) in
       took-as _ q (done-same _ q (f .1)) (record { body-read = a .1; offsets = o .0; count = o .1; nonempty = positive n (eqb-false n 0 (b .0)); many = eqb-true _ _ (not-false _ (c .0)); frames = d .1; depths = f .0 })
 
@@ -110,7 +112,7 @@ planPic body tray list colour plan = overlayPic (plan .form) (fillFor (plan .des
 pub record Taken (body tray list : List ℕ) (colour : Colour) (room n at : ℕ) (plan : Plan) : Type 0 where
   pub sound : PlanSound body tray list plan
   pub left : overlayRun body tray list colour room
-      ≡ refuse (any (alphaAbove tray (topOf (plan .form .format))) (framesFrom n tray at)) 16 (fitted room (encode (planPic body tray list colour plan)))
+      ≡ refuseItem 1 (alphaAbove tray (topOf (plan .form .format))) 16 (framesFrom n tray at) (fitted room (encode (planPic body tray list colour plan)))
 
 module _ (body tray list : List ℕ) (colour : Colour) (room : ℕ) where
   pub run-malformed : readNumber tray 0 ≡ Malformed → overlayRun body tray list colour room ≡ refused (reason 5)
@@ -119,7 +121,7 @@ module _ (body tray list : List ℕ) (colour : Colour) (room : ℕ) where
 
   module _ (n at : ℕ) (counted : readNumber tray 0 ≡ Number n at) where
     abbrev going : Inputs → Out (List ℕ)
-    going q = refuse (any (alphaAbove tray (topOf (firstFormat (q .frames)))) (q .frames)) 16 (fitted room (encode (composed body tray list colour q)))
+    going q = refuseItem 1 (alphaAbove tray (topOf (firstFormat (q .frames)))) 16 (q .frames) (fitted room (encode (composed body tray list colour q)))
 
     run-counted : overlayRun body tray list colour room ≡ andThen (inputsAt body tray list n at) going
     unfolding overlayRun onNumber
@@ -129,10 +131,10 @@ module _ (body tray list : List ℕ) (colour : Colour) (room : ℕ) where
     unfolding planAt
     run-refused r e = run-counted ∙ then-refused _ (refused-back (inputsAt body tray list n at) (planOf body tray list at) r e)
 
-    as-plan : (q : Inputs) → Took body tray list n at q → going q ≡ refuse (any (alphaAbove tray (topOf (planOf body tray list at q .form .format))) (framesFrom n tray at)) 16 (fitted room (encode (planPic body tray list colour (planOf body tray list at q))))
+    as-plan : (q : Inputs) → Took body tray list n at q → going q ≡ refuseItem 1 (alphaAbove tray (topOf (planOf body tray list at q .form .format))) 16 (framesFrom n tray at) (fitted room (encode (planPic body tray list colour (planOf body tray list at q))))
     unfolding planOf composed composedForm overlayForm topOf
     as-plan q k =
-        ap₂ (λ (a b : List Frame). refuse (any (alphaAbove tray (topOf (firstFormat (q .frames)))) a) 16
+        ap₂ (λ (a b : List Frame). refuseItem 1 (alphaAbove tray (topOf (firstFormat (q .frames)))) 16 a
         (fitted room
         (encode (overlayPic (composedForm body tray list q) (fillFor (q .descriptor .«canvas_fill») (firstFormat (q .frames) .depth) colour)
         (layersOf body tray list (q .descriptor) 0 b)))))
@@ -148,9 +150,16 @@ module _ (body tray list : List ℕ) (colour : Colour) (room : ℕ) where
         let k = took body tray list n at (a .0) (a .1) in
         taken-as _ plan (done-same _ plan (a .2)) (record { sound = plan-sound body tray list n at (a .0) k; left = run-counted ∙ then-done _ (a .1) ∙ as-plan (a .0) k })
 
--- what the search answered, at a top that was worked out
-pub above-is : (tray : List ℕ) (n at t t′ : ℕ) (b : Bool) → t ≡ t′ → b ≡ any (alphaAbove tray t) (framesFrom n tray at) → any (alphaAbove tray t′) (framesFrom n tray at) ≡ b
-above-is tray n at t t′ b e k = rw (← e) (sym k)
+-- what alpha samples held to a top that was worked out come to
+module _ (tray : List ℕ) (n at t t′ : ℕ) (r : AlphaRead) (e : t ≡ t′) (k : alphaOut r ≡ refuseItem 1 (alphaAbove tray t) 16 (framesFrom n tray at) (done tt)) where
+  held : {B : Type 0} (o : Out B) → refuseItem 1 (alphaAbove tray t′) 16 (framesFrom n tray at) o ≡ refuseItem 1 (alphaAbove tray t) 16 (framesFrom n tray at) o
+  held o = rw (← e)
+
+  pub alpha-refused : {B : Type 0} (o : Out B) (x : Refusal) → r ≡ AlphaRead.Refused x → refuseItem 1 (alphaAbove tray t′) 16 (framesFrom n tray at) o ≡ refused x
+  alpha-refused o x q = held o ∙ item-refused 1 (alphaAbove tray t) 16 (framesFrom n tray at) tt o x (sym k ∙ ap alphaOut q)
+
+  pub alpha-within : {B : Type 0} (o : Out B) → r ≡ AlphaRead.Within → refuseItem 1 (alphaAbove tray t′) 16 (framesFrom n tray at) o ≡ o
+  alpha-within o q = held o ∙ item-no 1 (alphaAbove tray t) 16 (framesFrom n tray at) o (item-done 1 (alphaAbove tray t) 16 (framesFrom n tray at) (done tt) tt (sym k ∙ ap alphaOut q) .0)
 
 -- room for the picture, by its size
 module _ {body tray list : List ℕ} {colour : Colour} {room n at : ℕ} {plan : Plan} (t : Taken body tray list colour room n at plan) (k : ℕ) (e : k ≡ sizeOf (plan .form)) where

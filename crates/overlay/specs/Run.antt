@@ -1,8 +1,7 @@
 -- What composite_overlay answers and writes (document 01, Overlay and "Refusals in order").
 use mathlib.Core.List.{List}
 use Prim.Native.Nat.{ℕ}
-use Rattle.laws.specs.Any.{any}
-use Rattle.laws.specs.Out.{Out, andThen, fitted, refuse}
+use Rattle.laws.specs.Out.{Out, andThen, fitted, refuseItem}
 use Rattle.numbers.specs.Number.{onNumber, readNumber}
 use Rattle.image.specs.Format.{topOf}
 use Rattle.image.specs.declared.format.Part.{Part}
@@ -16,8 +15,6 @@ use Rattle.derived.specs.declared.overlay.Fill.{Fill}
 use Rattle.inputs.specs.Inputs.{Inputs, alphaAbove, composedForm, firstFormat, inputsAt}
 use Rattle.inputs.specs.Layers.{layersOf}
 use Rattle.blend.specs.Overlay.{overlayPic}
-
--- ---- 16: any alpha sample above top, drawn or cut off
 
 -- ---- the picture
 
@@ -36,10 +33,11 @@ composed body tray premultiplied colour q =
     overlayPic (composedForm body tray premultiplied q) (fillFor (q .descriptor .«canvas_fill») (firstFormat (q .frames) .depth) colour)
     (layersOf body tray premultiplied (q .descriptor) 0 (q .frames))
 
--- composite_overlay: 5 a tray count that cannot be read, the body and the records, 16, then 17
+-- composite_overlay: 5 a tray count that cannot be read, the body and the records, 16 the first record with an alpha sample above top,
+-- drawn or cut off, then 17
 unfoldable pub overlayRun : List ℕ → List ℕ → List ℕ → Colour → ℕ → Out (List ℕ)
 overlayRun body tray premultiplied colour room =
     onNumber (readNumber tray 0) (λ n at.
     andThen (inputsAt body tray premultiplied n at) (λ q.
-    refuse (any (alphaAbove tray (topOf (firstFormat (q .frames)))) (q .frames)) 16
+    refuseItem 1 (alphaAbove tray (topOf (firstFormat (q .frames)))) 16 (q .frames)
     (fitted room (encode (composed body tray premultiplied colour q)))))

@@ -8,6 +8,7 @@ ghost use Rattle.laws.specs.Out.{answerOf, written};
 ghost use Rattle.overlay.specs.Run.{overlayRun};
 pub use crate::draw::draw_overlay;
 use fill::Colour;
+use inputs::AlphaRead;
 use inputs::PlanRead;
 use laws::Answer;
 use laws::Refusal;
@@ -37,8 +38,8 @@ pub fn composite_overlay(
         PlanRead::Read(plan) => {
             let form = plan.form;
             let format = form.format;
-            if inputs::alpha_above(tray, first, count, format.top()) {
-                return Answer::Refused(Refusal::OPACITY);
+            if let AlphaRead::Refused(e) = inputs::check_alpha(tray, first, count, format.top()) {
+                return Answer::Refused(e);
             }
             if out.len() < planes::record_size(form) {
                 return Answer::Refused(Refusal::ROOM);

@@ -104,29 +104,30 @@ impl ChainPlan {
     }
 }
 
-// Where the entries of a chain that was judged lead from a composed form. Refusals: the entries' in turn.
+// Where the entries of a chain that was judged lead from a composed form. Refusals: the entries' in turn, with their index.
 pub fn plan_chain(s: &[u8], chain: Chain, essential_only: bool, m: Form) -> ChainPlanRead
     requires { ⌜ Judged (now s) chain × FormSound m ⌝ }
     ensures { λ r. ⌜ chainPlanOut r ≡ andThen (entriesAt (chain .count) (now (s .entry)) (chain .first)) (λ es. chainPlanOf es «essential_only» m) ⌝ }
 {
+    let count = chain.count;
     let mut next = chain.first;
-    let mut left = chain.count;
+    let mut i: u32 = 0;
     let mut reached = ChainPlan::new(m);
-    while left > 0 {
+    while i < count {
         let EntryRead::Read(e) = props::read_entry(s, next) else {
             return ChainPlanRead::Refused(Refusal::MALFORMED);
         };
         let entry = e.entry;
         match reached.after_entry(entry, essential_only) {
             ChainPlanRead::Refused(r) => {
-                return ChainPlanRead::Refused(r);
+                return ChainPlanRead::Refused(r.about(Refusal::ENTRY, i as u64));
             }
             ChainPlanRead::ChainPlan(z) => {
                 reached = z;
             }
         }
         next = e.next;
-        left -= 1;
+        i += 1;
     }
     ChainPlanRead::ChainPlan(reached)
 }

@@ -7,8 +7,8 @@ use native.Mathlib.Nat.{div-lt-iff-lt-mul, mul-comm}
 use native.Mathlib.Omega.{arith}
 use borrow.Author.Tests.{leb-false, not-false, not-true}
 use Rattle.laws.proofs.Order.{mul-below, pick-false, pick-true, true-and}
-use Rattle.laws.proofs.Out.{andThen-done, done-same, holds-done, refuse-done, refuse-no, refuse-yes, refused-back, then-done, then-refused}
-use Rattle.laws.specs.Out.{Out, andThen, done, reason, refuse, refused}
+use Rattle.laws.proofs.Out.{andThen-done, done-same, holds-done, item-done, item-no, item-yes, refuse-done, refused-back, then-done, then-refused}
+use Rattle.laws.specs.Out.{Out, andThen, done, ownReason, reason, refuseItem, refused}
 use Rattle.laws.specs.Pick.{pick}
 use Rattle.laws.specs.declared.Refusal.{Refusal}
 use Rattle.numbers.specs.Number.{onNumber, readNumber}
@@ -39,7 +39,7 @@ use Rattle.sight.specs.declared.Sight.{Sight}
 use Rattle.grid.proofs.GridLaws.{tiles-taken}
 use Rattle.tiles.specs.Tiles.{tilesOf}
 use Rattle.tiles.specs.declared.judge.Tiles.{Tiles}
-use Rattle.inputs.proofs.FrameLaws.{frames-from, from-next, from-refused}
+use Rattle.inputs.proofs.FrameLaws.{frames-from, from-few, from-next, from-refused}
 use Rattle.records.specs.inner.Frames.{framesFrom}
 use Rattle.blend.specs.Overlay.{covers, spotAt}
 use Rattle.inputs.specs.Layers.{seeThrough, layerOf, layersOf}
@@ -47,6 +47,8 @@ use Rattle.laws.specs.Any.{any}
 use Rattle.inputs.specs.inner.Plan.{planAt, planOf}
 use Rattle.inputs.specs.Inputs.{Inputs, inputsAt}
 use Rattle.inputs.specs.declared.read.Plan.{Plan}
+use Rattle.inputs.proofs.FoundLaws.{first-found}
+use Rattle.inputs.specs.inner.Sought.{foundAt}
 use Rattle.point.proofs.GridShown.{canvas-sides}
 use Rattle.point.specs.inner.Look.{GridHeld, Tiled, gridHeld, gridLooked, overlayHeld, overlayLooked, placeIn}
 use Rattle.point.specs.Point.{Look, gridLook, gridNames, liesOver, lookOn, overlayLook, overlayNames, pointFrom, seeThroughFrame, spotUnder, topmostNamed}
@@ -239,7 +241,7 @@ some-see body tray list d i (fr ∷ frs) = ap (λ (b : Bool). hasAlpha (fr .form
 
 module _ (body tray list : List ℕ) (n at : ℕ) where
   abbrev Taken : Inputs → Type 0
-  Taken q = OverlaySound body (q .descriptor) × (q .frames ≡ framesFrom (q .descriptor .count) tray at)
+  Taken q = OverlaySound body (q .descriptor) × (q .descriptor .count ≡ n) × (q .frames ≡ framesFrom n tray at)
 
   taken-as : (q u : Inputs) → q ≡ u → Taken q → Taken u
   taken-as q u e k = rw e at k
@@ -251,9 +253,9 @@ module _ (body tray list : List ℕ) (n at : ℕ) where
       let b = refuse-done _ _ _ q (a .2) in
       let c = refuse-done _ _ _ q (b .1) in
       let d = andThen-done _ _ q (c .1) in
-      let f = refuse-done _ _ _ q (d .2) in
+      let f = item-done 1 _ 14 _ _ q (d .2) in
       let o = overlay-taken body n (a .0) (a .1) in
-      taken-as _ q (done-same _ q (f .1)) (o .0, frames-from n tray at (d .0) (d .1) ∙ ap (λ (m : ℕ). framesFrom m tray at) (sym (o .1)))
+      taken-as _ q (done-same _ q (f .1)) (o .0, o .1, frames-from n tray at (d .0) (d .1))
 
 module _ (body tray chain : List ℕ) (flag : Bool) (list : List ℕ) where
   abbrev OverlayRefused : Refusal → Type 0
@@ -269,7 +271,7 @@ module _ (body tray chain : List ℕ) (flag : Bool) (list : List ℕ) where
 
   module _ (n at : ℕ) (counted : readNumber tray 0 ≡ Number n at) where
     abbrev goes : List PropertyEntry → Inputs → Out Look
-    goes es q = refuse (any seeThroughFrame (q .frames)) 18 (lookOn es flag (q .descriptor .«output_width») (q .descriptor .«output_height») (overlayNames body q))
+    goes es q = refuseItem 1 seeThroughFrame 18 (q .frames) (lookOn es flag (q .descriptor .«output_width») (q .descriptor .«output_height») (overlayNames body q))
 
     overlay-counted : overlayLook body tray chain flag list ≡ andThen (chainAt chain 0) (λ es. andThen (inputsAt body tray list n at) (goes es))
     unfolding overlayLook onNumber
@@ -292,7 +294,8 @@ module _ (body tray chain : List ℕ) (flag : Bool) (list : List ℕ) where
 
       record Planned (q : Plan) : Type 0 where
         sound : OverlaySound body (q .descriptor)
-        left : overlayLook body tray chain flag list ≡ refuse (q .alpha) 18 (andThen (planSights q) (λ s. done (overlayLooked body tray (planLooked q s))))
+        alpha : q .alpha ≡ any seeThroughFrame (framesFrom n tray at)
+        left : overlayLook body tray chain flag list ≡ refuseItem 1 seeThroughFrame 18 (framesFrom n tray at) (andThen (planSights q) (λ s. done (overlayLooked body tray (planLooked q s))))
 
       planned-as : (q u : Plan) → q ≡ u → Planned q → Planned u
       planned-as q u e k = rw e at k
@@ -304,11 +307,13 @@ module _ (body tray chain : List ℕ) (flag : Bool) (list : List ℕ) where
           let k = inputs-taken body tray list n at q e in
           record {
             sound = k .0;
+            alpha = some-see body tray list (q .descriptor) 0 (q .frames) ∙ ap (any seeThroughFrame) (k .2);
             left =
                 overlay-counted ∙ then-done _ (j .1) ∙ then-done _ e
-                ∙ ap₂ (λ (b : Bool) (o : Out Look). refuse b 18 o) (sym (some-see body tray list (q .descriptor) 0 (q .frames)))
+                ∙ ap₂ (λ (frs : List Frame) (o : Out Look). refuseItem 1 seeThroughFrame 18 frs o) (k .2)
                 (look-on chain c (j .0) flag _ _ (overlayNames body q)
-                ∙ ap (λ (frs : List Frame). andThen (sights chain c flag (q .descriptor .«output_width») (q .descriptor .«output_height»)) (λ s. done (record { sight = s; names = overlayNames body (record { descriptor = q .descriptor; frames = frs }) }))) (k .1));
+                ∙ ap (λ (frs : List Frame). andThen (sights chain c flag (q .descriptor .«output_width») (q .descriptor .«output_height»)) (λ s. done (record { sight = s; names = overlayNames body (record { descriptor = q .descriptor; frames = frs }) })))
+                (k .2 ∙ ap (λ (m : ℕ). framesFrom m tray at) (sym (k .1))));
           }
 
       module _ (q : Plan) (taken : planAt body tray list n at ≡ done q) where
@@ -316,12 +321,17 @@ module _ (body tray chain : List ℕ) (flag : Bool) (list : List ℕ) where
         unfolding planAt
         plan-planned = let a = andThen-done _ _ q taken in planned-as _ q (done-same _ q (a .2)) (planned (a .0) (a .1))
 
-        pub overlay-alpha : q .alpha ≡ true → OverlayRefused (reason 18)
-        overlay-alpha e = overlay-no _ (plan-planned .left ∙ refuse-yes _ _ e)
+        pub overlay-alpha : (i : ℕ) → q .alpha ≡ true → i ≡ foundAt 0 seeThroughFrame (framesFrom n tray at) n → OverlayRefused (ownReason 18 1 i)
+        overlay-alpha i e f =
+            let some : any seeThroughFrame (framesFrom n tray at) ≡ true = sym (plan-planned .alpha) ∙ e in
+            overlay-no _ (plan-planned .left ∙ item-yes 1 seeThroughFrame 18 (framesFrom n tray at) i _ some (first-found seeThroughFrame 1 18 (framesFrom n tray at) n i (from-few n tray at) f some))
 
         module _ (opaque : q .alpha ≡ false) where
+          none-seen : {B : Type 0} (o : Out B) → refuseItem 1 seeThroughFrame 18 (framesFrom n tray at) o ≡ o
+          none-seen o = item-no 1 seeThroughFrame 18 (framesFrom n tray at) o (sym (plan-planned .alpha) ∙ opaque)
+
           pub overlay-sight : (r : Refusal) → planSights q ≡ refused r → OverlayRefused r
-          overlay-sight r e = overlay-no _ (plan-planned .left ∙ refuse-no _ _ opaque ∙ then-refused _ e)
+          overlay-sight r e = overlay-no _ (plan-planned .left ∙ none-seen _ ∙ then-refused _ e)
 
           pub overlay-done : (s : Sight) → planSights q ≡ done s
               → (done (overlayLooked body tray (planLooked q s)) ≡ overlayLook body tray chain flag list) × overlayHeld body (OverlayLookRead.Look (planLooked q s))
@@ -329,4 +339,4 @@ module _ (body tray chain : List ℕ) (flag : Bool) (list : List ℕ) where
           overlay-done s e =
               let z = plan-planned .sound .canvas in
               let u = sides-low _ _ (z .wide) (z .tall) (z .area) in
-              (sym (plan-planned .left ∙ refuse-no _ _ opaque ∙ then-done _ e), (plan-planned .sound, sights-bounded chain c (judged-chain chain 0 c judged .0) flag _ _ s e (u .0) (u .1)))
+              (sym (plan-planned .left ∙ none-seen _ ∙ then-done _ e), (plan-planned .sound, sights-bounded chain c (judged-chain chain 0 c judged .0) flag _ _ s e (u .0) (u .1)))

@@ -2,7 +2,7 @@
 use mathlib.Core.Bool.{Bool, _&&_}
 use mathlib.Core.List.{List, [], _∷_}
 use Prim.Native.Nat.{_%_, _*_, _+_, _/_, ℕ}
-use Rattle.laws.specs.Out.{Out, andThen, done, refuse, refused}
+use Rattle.laws.specs.Out.{Out, andThen, done, refuseItem, refused}
 use Rattle.laws.specs.Pick.{pick}
 use Rattle.numbers.specs.Number.{onNumber, readNumber}
 use Rattle.image.specs.Format.{hasAlpha}
@@ -18,7 +18,6 @@ use Rattle.sight.specs.declared.Sight.{Sight}
 use Rattle.tiles.specs.Tiles.{tilesAt}
 use Rattle.tiles.specs.declared.judge.Tiles.{Tiles}
 use Rattle.blend.specs.Overlay.{covers, spotAt}
-use Rattle.laws.specs.Any.{any}
 use Rattle.inputs.specs.Inputs.{Inputs, inputsAt}
 use Rattle.point.specs.declared.Named.{Named}
 use Rattle.point.specs.declared.Point.{Point}
@@ -72,7 +71,7 @@ gridLook body tray chain essentialOnly =
     andThen (tilesAt body tray n at) (λ t.
     lookOn es essentialOnly (t .desc .«output_width») (t .desc .«output_height») (gridNames t))))
 
--- as the overlay scene, without 16 and 17; 18 an input with alpha, after 14. The colour description names no spot, and is judged by
+-- as the overlay scene, without 16 and 17; 18 the first input with alpha, after 14. The colour description names no spot, and is judged by
 -- no refusal
 unfoldable pub seeThroughFrame : Frame → Bool
 seeThroughFrame fr = hasAlpha (fr .form .format)
@@ -82,7 +81,7 @@ overlayLook body tray chain essentialOnly premultiplied =
     onNumber (readNumber tray 0) (λ n at.
     andThen (chainAt chain 0) (λ es.
     andThen (inputsAt body tray premultiplied n at) (λ q.
-    refuse (any seeThroughFrame (q .frames)) 18
+    refuseItem 1 seeThroughFrame 18 (q .frames)
     (lookOn es essentialOnly (q .descriptor .«output_width») (q .descriptor .«output_height») (overlayNames body q)))))
 
 -- the place: 18 last, a place outside

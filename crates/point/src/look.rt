@@ -10,6 +10,7 @@ use crate::names::name_tile;
 use crate::names::name_topmost;
 use derived::OverlayDescriptor;
 use inputs::PlanRead;
+use inputs::Sought;
 use laws::Refusal;
 use numbers::NumberRead;
 use props::ChainRead;
@@ -130,7 +131,11 @@ pub fn look_overlay(
             PlanRead::Refused(e) => OverlayLookRead::Refused(e),
             PlanRead::Read(q) => {
                 if q.alpha {
-                    return OverlayLookRead::Refused(Refusal::POINT);
+                    let seen = inputs::first_sought(tray, first, count, Sought::Alpha);
+                    return OverlayLookRead::Refused(Refusal::POINT.about(
+                        Refusal::RECORD,
+                        seen as u64,
+                    ));
                 }
                 let descriptor = q.descriptor;
                 match sight::reduce_judged(

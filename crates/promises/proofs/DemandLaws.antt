@@ -3,9 +3,9 @@ use mathlib.Core.Bool.{Bool, false}
 use mathlib.Core.List.{List, []}
 use mathlib.Core.Path.{_∙_, _≡_, ap, ap₂, refl, sym}
 use Prim.Native.Nat.{_<_, _≤_, ℕ}
-use Rattle.laws.proofs.Out.{Holds, andThen-done, holds-map, refuse-done, refuse-no, then-done}
+use Rattle.laws.proofs.Out.{Holds, andThen-done, holds-map, item-done, item-no, then-done}
 use Rattle.laws.specs.Any.{any}
-use Rattle.laws.specs.Out.{Out, andThen, done, refuse}
+use Rattle.laws.specs.Out.{Out, andThen, done, refuse, refuseItem}
 use Rattle.laws.specs.Pick.{pick}
 use Rattle.laws.specs.Puts.{Bytes}
 use Rattle.numbers.specs.Number.{lastByte, onNumber, readFrom, readNumber}
@@ -171,12 +171,12 @@ module _ (body tray list : List ℕ) (colour : Colour) (bytes : Bytes body) (fla
   sides-point x y = ap₂ (λ (w h : ℕ). pointOn es flag w h x y (overlayNames body q)) (canvas-sides .0) (canvas-sides .1)
 
   -- 18 an input with alpha
-  not-18 : (x y : ℕ) → refuse (any seeThroughFrame (q .frames)) 18 (overlayPointed x y) ≡ overlayPointed x y
-  not-18 x y = refuse-no _ _ opaque
+  not-18 : (x y : ℕ) → refuseItem 1 seeThroughFrame 18 (q .frames) (overlayPointed x y) ≡ overlayPointed x y
+  not-18 x y = item-no 1 _ 18 _ _ opaque
 
   -- 16 an alpha sample above top
-  not-16 : refuse (any (alphaAbove tray (topOf (firstFormat (q .frames)))) (q .frames)) 16 (chainDrawn es flag overlaid) ≡ chainDrawn es flag overlaid
-  not-16 = refuse-no _ _ (none-above tray (topOf (firstFormat (q .frames))) (q .frames) opaque)
+  not-16 : refuseItem 1 (alphaAbove tray (topOf (firstFormat (q .frames)))) 16 (q .frames) (chainDrawn es flag overlaid) ≡ chainDrawn es flag overlaid
+  not-16 = item-no 1 _ 16 _ _ (none-above tray (topOf (firstFormat (q .frames))) (q .frames) opaque)
 
   chained-agree : Holds (λ (d : Drawn). ReadsBack (d .pic)) (chainDrawn es flag overlaid) → (x y : ℕ) → Agrees (overlayReads body tray colour) x y (chainDrawn es flag overlaid) (overlayPointed x y)
   unfolding Agrees
@@ -187,7 +187,7 @@ module _ (body tray list : List ℕ) (colour : Colour) (bytes : Bytes body) (fla
       drawn x y output spare m)
 
   inputs-agree : Holds (λ (d : Drawn). ReadsBack (d .pic)) (chainDrawn es flag overlaid) → (x y : ℕ)
-      → Agrees (overlayReads body tray colour) x y (refuse (any (alphaAbove tray (topOf (firstFormat (q .frames)))) (q .frames)) 16 (chainDrawn es flag overlaid)) (refuse (any seeThroughFrame (q .frames)) 18 (overlayPointed x y))
+      → Agrees (overlayReads body tray colour) x y (refuseItem 1 (alphaAbove tray (topOf (firstFormat (q .frames)))) 16 (q .frames) (chainDrawn es flag overlaid)) (refuseItem 1 seeThroughFrame 18 (q .frames) (overlayPointed x y))
   inputs-agree drawn x y = agrees-as (overlayReads body tray colour) x y (sym not-16) (sym (not-18 x y)) (chained-agree drawn x y)
 
 -- ---- the calls
@@ -276,12 +276,12 @@ overlay-read body tray chain flag list x y a e =
     let i = on-number _ _ a (sym (overlay-steps body tray chain flag list x y) ∙ e) in
     let j = andThen-done _ _ a (i .3) in
     let k = andThen-done _ _ a (j .2) in
-    record { n = i .0; at = i .1; number = i .2; es = j .0; chained = j .1; q = k .0; taken = k .1; opaque = refuse-done _ _ _ a (k .2) .0 }
+    record { n = i .0; at = i .1; number = i .2; es = j .0; chained = j .1; q = k .0; taken = k .1; opaque = item-done 1 _ 18 _ _ a (k .2) .0 }
 
 module _ (body tray chain : List ℕ) (flag : Bool) (list : List ℕ) where
   overlay-points : (c : List ℕ) (r : OverlayTaken body tray c list) (x y : ℕ)
       → overlayPoint body tray c flag list x y ≡ pointOn (r .es) flag (r .q .descriptor .«output_width») (r .q .descriptor .«output_height») x y (overlayNames body (r .q))
-  overlay-points c r x y = overlay-steps body tray c flag list x y ∙ on-taken _ (r .number) ∙ then-done _ (r .chained) ∙ then-done _ (r .taken) ∙ refuse-no _ _ (r .opaque)
+  overlay-points c r x y = overlay-steps body tray c flag list x y ∙ on-taken _ (r .number) ∙ then-done _ (r .chained) ∙ then-done _ (r .taken) ∙ item-no 1 _ 18 _ _ (r .opaque)
 
   overlay-places : (r : OverlayTaken body tray chain list) → Places tray chain flag (overlayPoint body tray chain flag list) (overlayPoint body tray noChain flag list) (r .es)
   overlay-places r =

@@ -2,14 +2,14 @@
 use mathlib.Core.Bool.{Bool, false, true}
 use mathlib.Core.List.{List, [], _∷_}
 use mathlib.Core.Path.{_∙_, _≡_, ap, refl, sym}
-use Prim.Native.Nat.{_-_, _<_, _≤_, suc, zero, ℕ}
+use Prim.Native.Nat.{_+_, _-_, _<_, _≤_, suc, zero, ℕ}
 use native.Mathlib.Nat.{not-suc-le-zero}
 use native.Mathlib.Omega.{arith}
 use lib.Dec.{ltb}
 use lib.ListN.{length}
 use borrow.Author.Tests.{le-ltb, lt-ltb, ltb-false}
-use Rattle.laws.proofs.Out.{Holds, Same, andThen-done, both, done-same, not-done, pick-holds, refuse-done, refuse-no, refuse-yes, then-done, then-holds, then-refused, then-same}
-use Rattle.laws.specs.Out.{Out, andThen, done, reason, refuse, refused}
+use Rattle.laws.proofs.Out.{Holds, Same, about-done, about-holds, about-same, after-after, after-done, after-holds, after-none, after-same, after-then, andThen-done, both, done-about, done-after, done-same, not-done, own-after, pick-holds, reason-after, refuse-done, refuse-no, refuse-yes, refused-about, then-done, then-holds, then-refused, then-same}
+use Rattle.laws.specs.Out.{Out, after, andThen, done, ownReason, reason, refuse, refused}
 use Rattle.laws.specs.Pick.{pick}
 use Rattle.laws.specs.declared.Refusal.{Refusal}
 use Rattle.numbers.specs.Number.{onNumber, readNumber}
@@ -50,15 +50,15 @@ count-few s at c e = go (readNumber s at) e
 -- ---- so many entries in turn
 
 -- one is read, and the rest decides
-pub entries-next : (n : ℕ) (s : List ℕ) (at : ℕ) (x : EntryAt) → 0 < n → entryAt s at ≡ done x → entriesAt n s at ≡ andThen (entriesAt (n - 1) s (x .next)) (λ es. done (x .entry ∷ es))
+pub entries-next : (n : ℕ) (s : List ℕ) (at : ℕ) (x : EntryAt) → 0 < n → entryAt s at ≡ done x → entriesAt n s at ≡ andThen (after 1 (entriesAt (n - 1) s (x .next))) (λ es. done (x .entry ∷ es))
 unfolding entriesAt
 entries-next zero s at x h e = absurd (not-suc-le-zero h)
-entries-next (suc n) s at x h e = let z : suc n - 1 ≡ n = omega arith in then-done _ e ∙ rw z
+entries-next (suc n) s at x h e = let z : suc n - 1 ≡ n = omega arith in then-done _ (done-about _ _ _ _ e) ∙ rw z
 
-pub entries-refused : (n : ℕ) (s : List ℕ) (at : ℕ) (r : Refusal) → 0 < n → entryAt s at ≡ refused r → entriesAt n s at ≡ refused r
+pub entries-refused : (n : ℕ) (s : List ℕ) (at : ℕ) (r : Refusal) → 0 < n → entryAt s at ≡ refused r → entriesAt n s at ≡ refused (ownReason (r .number) 2 0)
 unfolding entriesAt
 entries-refused zero s at r h e = absurd (not-suc-le-zero h)
-entries-refused (suc n) s at r h e = then-refused _ e
+entries-refused (suc n) s at r h e = then-refused _ (refused-about _ _ _ _ e)
 
 pub entries-end : (n : ℕ) (s : List ℕ) (at : ℕ) → n ≤ 0 → length s ≤ at → entriesAt n s at ≡ done []
 unfolding entriesAt
@@ -81,7 +81,7 @@ entries-first (suc n) s at es h e =
     let a = andThen-done _ _ es e in
     let b = andThen-done _ _ es (a .2) in
     let z : suc n - 1 ≡ n = omega arith in
-    (a .0, b .0, a .1, rw z (b .1), sym (done-same _ es (b .2)))
+    (a .0, b .0, about-done _ _ _ _ (a .1), rw z (after-done 1 _ _ (b .1)), sym (done-same _ es (b .2)))
 
 pub entries-step : (n : ℕ) (s : List ℕ) (at : ℕ) (es : List PropertyEntry) (x : EntryAt) → 0 < n → entriesAt n s at ≡ done es → entryAt s at ≡ done x
     → (rest : List PropertyEntry) × (entriesAt (n - 1) s (x .next) ≡ done rest) × (es ≡ x .entry ∷ rest)
@@ -91,7 +91,7 @@ entries-step n s at es x h e q =
     (a .1, ap (λ k. entriesAt (n - 1) s (k .next)) (sym p) ∙ a .3, a .4 ∙ ap (λ k. k .entry ∷ a .1) p)
 
 pub entries-read {ℓ} : {X : Type ℓ} (n : ℕ) (s : List ℕ) (at : ℕ) (es : List PropertyEntry) (r : Refusal) → 0 < n → entriesAt n s at ≡ done es → entryAt s at ≡ refused r → X
-entries-read n s at es r h e q = not-done r es (sym (entries-refused n s at r h q) ∙ e)
+entries-read n s at es r h e q = not-done _ es (sym (entries-refused n s at r h q) ∙ e)
 
 pub entries-none : (n : ℕ) (s : List ℕ) (at : ℕ) (es : List PropertyEntry) → n ≤ 0 → entriesAt n s at ≡ done es → es ≡ []
 unfolding entriesAt
@@ -105,7 +105,15 @@ entries-length zero s at es e = let a = refuse-done _ _ _ es e in ap length (sym
 entries-length (suc n) s at es e =
     let a = andThen-done _ _ es e in
     let b = andThen-done _ _ es (a .2) in
-    ap length (sym (done-same _ es (b .2))) ∙ ap suc (entries-length n s (a .0 .next) (b .0) (b .1))
+    ap length (sym (done-same _ es (b .2))) ∙ ap suc (entries-length n s (a .0 .next) (b .0) (after-done 1 _ _ (b .1)))
+
+-- ---- the same behind i entries, of k
+
+pub entries-refused-on : (i n : ℕ) (s : List ℕ) (at : ℕ) (r : Refusal) → 0 < n → entryAt s at ≡ refused r → after i (entriesAt n s at) ≡ refused (ownReason (r .number) 2 i)
+entries-refused-on i n s at r h e = own-after i _ 2 _ refl (entries-refused n s at r h e)
+
+pub entries-left-on : (i n : ℕ) (s : List ℕ) (at : ℕ) → n ≤ 0 → at < length s → after i (entriesAt n s at) ≡ refused (reason 5)
+entries-left-on i n s at z h = reason-after i 5 _ (entries-left n s at z h)
 
 -- ---- judging the whole
 
@@ -121,9 +129,16 @@ pub judged-none : (s : List ℕ) (at : ℕ) (r : Refusal) → countAt s at ≡ r
 unfolding judgedAt chainAt
 judged-none s at r e = then-refused _ (then-refused _ e)
 
-pub kept-next : (c : Chain) (n : ℕ) (s : List ℕ) (at : ℕ) (x : EntryAt) → 0 < n → entryAt s at ≡ done x → kept c (entriesAt n s at) ≡ kept c (entriesAt (n - 1) s (x .next))
+pub kept-begin : (c : Chain) (k : ℕ) (s : List ℕ) (at : ℕ) → kept c (entriesAt k s at) ≡ kept c (after 0 (entriesAt (k - 0) s at))
+kept-begin c k s at = let z : k - 0 ≡ k = omega arith in rw z (ap (kept c) (sym (after-none _)))
+
+pub kept-next : (c : Chain) (i k : ℕ) (s : List ℕ) (at : ℕ) (x : EntryAt) → i < k → entryAt s at ≡ done x
+    → kept c (after i (entriesAt (k - i) s at)) ≡ kept c (after (i + 1) (entriesAt (k - (i + 1)) s (x .next)))
 unfolding kept
-kept-next c n s at x h e = ap (kept c) (entries-next n s at x h e) ∙ go (entriesAt (n - 1) s (x .next))
+kept-next c i k s at x h e =
+    let z : k - i - 1 ≡ k - (i + 1) = omega arith in
+    ap (λ o. kept c (after i o)) (entries-next (k - i) s at x (omega arith) e) ∙ ap (kept c) (after-then i _ _) ∙ go (after i (after 1 (entriesAt (k - i - 1) s (x .next))))
+    ∙ ap (kept c) (after-after i 1 _ ∙ rw z)
   where
     go : (o : Out (List PropertyEntry)) → andThen (andThen o (λ es. done (x .entry ∷ es))) (λ es. done c) ≡ andThen o (λ es. done c)
     go (refused r) = then-refused _ (then-refused _ refl) ∙ sym (then-refused _ refl)
@@ -186,30 +201,59 @@ module _ {A : Type 0} (f : Property → A → Out A) (flag : Bool) (e : Property
   abbrev stepped : Out A
   stepped = pick (applies flag e) (f (e .property) a) (done a)
 
-  pub fold-step : (b : A) → stepped ≡ done b → foldChain f flag (e ∷ es) a ≡ foldChain f flag es b
+  pub fold-step : (b : A) → stepped ≡ done b → foldChain f flag (e ∷ es) a ≡ after 1 (foldChain f flag es b)
   unfolding foldChain
-  fold-step b q = then-done _ q
+  fold-step b q = then-done _ (done-about _ _ _ _ q)
 
-  pub fold-refused : (r : Refusal) → stepped ≡ refused r → foldChain f flag (e ∷ es) a ≡ refused r
+  pub fold-refused : (r : Refusal) → stepped ≡ refused r → foldChain f flag (e ∷ es) a ≡ refused (ownReason (r .number) 2 0)
   unfolding foldChain
-  fold-refused r q = then-refused _ q
+  fold-refused r q = then-refused _ (refused-about _ _ _ _ q)
 
--- a loop over entries that were judged: of n that are left, the one at a place is folded in, or refuses; or none is left
-module _ {A : Type 0} (f : Property → A → Out A) (flag : Bool) (n : ℕ) (s : List ℕ) (at : ℕ) (es : List PropertyEntry) (a : A) (left : entriesAt n s at ≡ done es) where
-  pub along-step : (x : EntryAt) (b : A) → 0 < n → entryAt s at ≡ done x → pick (applies flag (x .entry)) (f (x .entry .property) a) (done a) ≡ done b
-      → (rest : List PropertyEntry) × (entriesAt (n - 1) s (x .next) ≡ done rest) × (foldChain f flag es a ≡ foldChain f flag rest b)
-  along-step x b h e q =
-      let k = entries-step n s at es x h left e in
-      (k .0, k .1, ap (λ l. foldChain f flag l a) (k .2) ∙ fold-step f flag (x .entry) (k .0) a b q)
+  -- a chain that answers: its first entry does, and the others
+  pub fold-done : (d : A) → foldChain f flag (e ∷ es) a ≡ done d → (b : A) × (stepped ≡ done b) × (foldChain f flag es b ≡ done d)
+  unfolding foldChain
+  fold-done d q = let k = andThen-done _ _ d q in (k .0, about-done _ _ _ _ (k .1), after-done 1 _ _ (k .2))
 
-  pub along-refused : (x : EntryAt) (r : Refusal) → 0 < n → entryAt s at ≡ done x → pick (applies flag (x .entry)) (f (x .entry .property) a) (done a) ≡ refused r
-      → foldChain f flag es a ≡ refused r
-  along-refused x r h e q =
-      let k = entries-step n s at es x h left e in
-      ap (λ l. foldChain f flag l a) (k .2) ∙ fold-refused f flag (x .entry) (k .0) a r q
+-- a loop over entries that were judged: i of k are behind, the next stands at a place, a is reached, and the run comes to what the others
+-- make of it
+pub record Along {A : Type 0} (f : Property → A → Out A) (flag : Bool) (k : ℕ) (s : List ℕ) (run : Out A) (i at : ℕ) (a : A) : Type 0 where
+  pub within : i ≤ k
+  pub rest : List PropertyEntry
+  pub left : entriesAt (k - i) s at ≡ done rest
+  pub same : run ≡ after i (foldChain f flag rest a)
 
-  pub along-end : n ≤ 0 → foldChain f flag es a ≡ done a
-  along-end h = ap (λ l. foldChain f flag l a) (entries-none n s at es h left) ∙ fold-none f flag a
+module _ {A : Type 0} (f : Property → A → Out A) (flag : Bool) (k : ℕ) (s : List ℕ) (run : Out A) where
+  pub along-begins : (at : ℕ) (es : List PropertyEntry) (a : A) → entriesAt k s at ≡ done es → run ≡ foldChain f flag es a → Along f flag k s run 0 at a
+  along-begins at es a e q = let z : k - 0 ≡ k = omega arith in record { within = omega arith; rest = es; left = rw z e; same = q ∙ sym (after-none _) }
+
+  module _ (i at : ℕ) (a : A) (g : Along f flag k s run i at a) where
+    module _ (h : i < k) where
+      -- an entry stands there
+      pub along-stands {ℓ} : {X : Type ℓ} (r : Refusal) → entryAt s at ≡ refused r → X
+      along-stands r e = entries-read (k - i) s at (g .rest) r (omega arith) (g .left) e
+
+      -- it is folded in
+      pub along-next : (x : EntryAt) (b : A) → entryAt s at ≡ done x → pick (applies flag (x .entry)) (f (x .entry .property) a) (done a) ≡ done b → Along f flag k s run (i + 1) (x .next) b
+      along-next x b e q =
+          let w = entries-step (k - i) s at (g .rest) x (omega arith) (g .left) e in
+          let z : k - i - 1 ≡ k - (i + 1) = omega arith in
+          record {
+            within = omega arith;
+            rest = w .0;
+            left = rw z at (w .1);
+            same = g .same ∙ ap (after i) (ap (λ l. foldChain f flag l a) (w .2) ∙ fold-step f flag (x .entry) (w .0) a b q) ∙ after-after i 1 _;
+          }
+
+      -- or it is refused, as its own
+      pub along-refused : (x : EntryAt) (r : Refusal) → entryAt s at ≡ done x → pick (applies flag (x .entry)) (f (x .entry .property) a) (done a) ≡ refused r
+          → run ≡ refused (ownReason (r .number) 2 i)
+      along-refused x r e q =
+          let w = entries-step (k - i) s at (g .rest) x (omega arith) (g .left) e in
+          g .same ∙ own-after i _ 2 _ refl (ap (λ l. foldChain f flag l a) (w .2) ∙ fold-refused f flag (x .entry) (w .0) a r q)
+
+    -- none is left
+    pub along-ends : k ≤ i → run ≡ done a
+    along-ends h = g .same ∙ done-after i _ _ (ap (λ l. foldChain f flag l a) (entries-none (k - i) s at (g .rest) (omega arith) (g .left)) ∙ fold-none f flag a)
 
 -- what each entry keeps, a chain keeps
 pub fold-holds : {A : Type 0} (I : A → Type 0) (f : Property → A → Out A) → ((p : Property) (a : A) → I a → Holds I (f p a))
@@ -217,7 +261,8 @@ pub fold-holds : {A : Type 0} (I : A → Type 0) (f : Property → A → Out A) 
 unfolding foldChain Holds
 fold-holds I f k flag [] a i = i
 fold-holds I f k flag (e ∷ es) a i =
-    then-holds I I _ _ (pick-holds I (applies flag e) (f (e .property) a) (done a) (k (e .property) a i) i) (λ b j. fold-holds I f k flag es b j)
+    then-holds I I _ _ (about-holds I _ _ _ (pick-holds I (applies flag e) (f (e .property) a) (done a) (k (e .property) a i) i))
+    (λ b j. after-holds I 1 _ (fold-holds I f k flag es b j))
 
 -- every applied entry's property is of some sort
 unfoldable pub Applied : (Property → Type 0) → Bool → List PropertyEntry → Type 0
@@ -230,7 +275,8 @@ pub fold-same : {A B : Type 0} (R : A → B → Type 0) (P : Property → Type 0
     → (flag : Bool) (es : List PropertyEntry) → Applied P flag es → (a : A) (b : B) → R a b → Same R (foldChain f flag es a) (foldChain g flag es b)
 unfolding foldChain Applied pick
 fold-same R P f g k flag [] n a b r = both r
-fold-same R P f g k flag (e ∷ es) n a b r = then-same R R _ _ _ _ (on (applies flag e) refl) (λ c d s. fold-same R P f g k flag es (n .1) c d s)
+fold-same R P f g k flag (e ∷ es) n a b r =
+    then-same R R _ _ _ _ (about-same R _ _ _ _ (on (applies flag e) refl)) (λ c d s. after-same R 1 _ _ (fold-same R P f g k flag es (n .1) c d s))
   where
     on : (t : Bool) → applies flag e ≡ t → Same R (pick t (f (e .property) a) (done a)) (pick t (g (e .property) b) (done b))
     on true h = k (e .property) a b (n .0 h) r

@@ -9,8 +9,8 @@ use lib.ListN.{getD, length, length-take, take}
 use lib.Seq.{getD-take}
 use borrow.Author.Tests.{le-leb, le-ltb, lt-leb, lt-ltb, ltb-false}
 use Rattle.laws.proofs.Order.{apart, by-order}
-use Rattle.laws.proofs.Out.{Holds, holds-done, pick-holds, refuse-holds, then-done, then-holds, then-refused}
-use Rattle.laws.specs.Out.{Out, andThen, done, refuse, refused}
+use Rattle.laws.proofs.Out.{Holds, about-holds, holds-done, pick-holds, refuse-holds, then-done, then-holds, then-refused}
+use Rattle.laws.specs.Out.{Out, about, after, andThen, done, refuse, refused}
 use Rattle.laws.specs.Pick.{pick}
 use Rattle.numbers.proofs.Number.{read-end, read-large, read-last, read-low, read-more, read-none}
 use Rattle.numbers.specs.Number.{onNumber, readFrom, readNumber}
@@ -46,6 +46,9 @@ near-then P Q o u f g n k = record {
 
 near-refuse : {A : Type 0} (P : A → Type 0) (t : Bool) (m : ℕ) (o u : Out A) → Near P o u → Near P (refuse t m o) (refuse t m u)
 near-refuse P t m o u n = record { same = ap (refuse t m) (n .same); holds = refuse-holds P t m u (λ e. n .holds) }
+
+near-about : {A : Type 0} (k i : ℕ) (P : A → Type 0) (o u : Out A) → Near P o u → Near P (about k i o) (about k i u)
+near-about k i P o u n = record { same = ap (about k i) (n .same); holds = about-holds P k i u (n .holds) }
 
 near-pick : {A : Type 0} (P : A → Type 0) (t : Bool) (o u o′ u′ : Out A) → Near P o u → Near P o′ u′ → Near P (pick t o o′) (pick t u u′)
 near-pick P t o u o′ u′ n m = record { same = ap₂ (pick t) (n .same) (m .same); holds = pick-holds P t u u′ (n .holds) (m .holds) }
@@ -175,8 +178,8 @@ pub entries-prefix : (m n : ℕ) (s : List ℕ) (i : ℕ) → i + 50 * m < n →
 unfolding entriesAt
 entries-prefix zero n s i h = rw (take-inside n s i (omega arith))
 entries-prefix (suc m) n s i h =
-    then-equal _ _ _ _ _ (near-entry n s i (omega arith)) (λ x l.
-    ap (λ o. andThen o (λ es. done (x .entry ∷ es))) (entries-prefix m n s (x .next) (omega arith)))
+    then-equal _ _ _ _ _ (near-about 2 0 _ _ _ (near-entry n s i (omega arith))) (λ x l.
+    ap (λ o. andThen (after 1 o) (λ es. done (x .entry ∷ es))) (entries-prefix m n s (x .next) (omega arith)))
 
 abbrev Counted : ℕ → Chain → Type 0
 Counted i c = (c .count ≤ 256) × (c .first ≤ i + 5)

@@ -19,7 +19,7 @@ pub enum ChainRead {
 }
 
 // Judges the whole chain that stands at a place and ends with the bytes. Refusals: 5 a count that is malformed; 4 above 256 entries;
-// 5 an entry that is malformed, in turn; 5 bytes left over.
+// 5 an entry that is malformed, in turn, with its index; 5 bytes left over.
 pub fn check_chain(s: &[u8], at: usize) -> ChainRead
     ensures { λ r. ⌜ chainOut r ≡ judgedAt (now (s .entry)) at ⌝ }
 {
@@ -34,17 +34,17 @@ pub fn check_chain(s: &[u8], at: usize) -> ChainRead
         return ChainRead::Refused(Refusal::LIMIT);
     }
     let mut next = first;
-    let mut left = count;
-    while left > 0 {
+    let mut i: u32 = 0;
+    while i < count {
         match read_entry(s, next) {
             EntryRead::Refused(e) => {
-                return ChainRead::Refused(e);
+                return ChainRead::Refused(e.about(Refusal::ENTRY, i as u64));
             }
             EntryRead::Read(e) => {
                 next = e.next;
             }
         }
-        left -= 1;
+        i += 1;
     }
     if next < s.len() {
         return ChainRead::Refused(Refusal::MALFORMED);

@@ -1,14 +1,14 @@
 -- Laws of trays: reading record by record.
 use mathlib.Core.List.{List, [], _∷_}
 use mathlib.Core.Path.{_∙_, _≡_, ap, refl, sym}
-use Prim.Native.Nat.{_-_, _<_, _≤_, suc, zero, ℕ}
+use Prim.Native.Nat.{_+_, _-_, _<_, _≤_, suc, zero, ℕ}
 use native.Mathlib.Nat.{not-suc-le-zero}
 use native.Mathlib.Omega.{arith}
 use lib.Dec.{ltb}
 use lib.ListN.{length}
 use borrow.Author.Tests.{le-ltb, lt-ltb}
-use Rattle.laws.proofs.Out.{andThen-done, done-same, refuse-done, refuse-no, refuse-yes, then-done, then-refused}
-use Rattle.laws.specs.Out.{Out, andThen, done, reason, refused}
+use Rattle.laws.proofs.Out.{after-after, after-done, after-none, after-then, andThen-done, done-about, done-same, own-after, reason-after, refuse-done, refuse-no, refuse-yes, refused-about, then-done, then-refused}
+use Rattle.laws.specs.Out.{Out, after, andThen, done, ownReason, reason, refused}
 use Rattle.laws.specs.declared.Refusal.{Refusal}
 use Rattle.numbers.specs.Number.{onNumber, readNumber}
 use Rattle.numbers.specs.declared.NumberRead.the-variants.{Malformed, Number}
@@ -29,15 +29,15 @@ tray-malformed s e = rw e
 -- ---- so many records in turn
 
 -- one is taken, and the rest decides
-pub frames-next : (n : ℕ) (s : List ℕ) (at : ℕ) (fr : Frame) → 0 < n → recordAt s at ≡ done fr → framesAt n s at ≡ andThen (framesAt (n - 1) s (fr .end)) (λ frs. done (fr ∷ frs))
+pub frames-next : (n : ℕ) (s : List ℕ) (at : ℕ) (fr : Frame) → 0 < n → recordAt s at ≡ done fr → framesAt n s at ≡ andThen (after 1 (framesAt (n - 1) s (fr .end))) (λ frs. done (fr ∷ frs))
 unfolding framesAt
 frames-next zero s at fr h e = absurd (not-suc-le-zero h)
-frames-next (suc n) s at fr h e = let z : suc n - 1 ≡ n = omega arith in then-done _ e ∙ rw z
+frames-next (suc n) s at fr h e = let z : suc n - 1 ≡ n = omega arith in then-done _ (done-about _ _ _ _ e) ∙ rw z
 
-pub frames-refused : (n : ℕ) (s : List ℕ) (at : ℕ) (r : Refusal) → 0 < n → recordAt s at ≡ refused r → framesAt n s at ≡ refused r
+pub frames-refused : (n : ℕ) (s : List ℕ) (at : ℕ) (r : Refusal) → 0 < n → recordAt s at ≡ refused r → framesAt n s at ≡ refused (ownReason (r .number) 1 0)
 unfolding framesAt
 frames-refused zero s at r h e = absurd (not-suc-le-zero h)
-frames-refused (suc n) s at r h e = then-refused _ e
+frames-refused (suc n) s at r h e = then-refused _ (refused-about _ _ _ _ e)
 
 pub frames-end : (n : ℕ) (s : List ℕ) (at : ℕ) → n ≤ 0 → length s ≤ at → framesAt n s at ≡ done []
 unfolding framesAt
@@ -56,7 +56,26 @@ frames-length zero s at frs e = let a = refuse-done (ltb at (length s)) 5 _ frs 
 frames-length (suc n) s at frs e =
     let a = andThen-done _ _ frs e in
     let b = andThen-done _ _ frs (a .2) in
-    ap length (sym (done-same _ frs (b .2))) ∙ ap suc (frames-length n s (a .0 .end) (b .0) (b .1))
+    ap length (sym (done-same _ frs (b .2))) ∙ ap suc (frames-length n s (a .0 .end) (b .0) (after-done 1 _ _ (b .1)))
+
+-- ---- the same behind i records, of which k are to be read
+
+-- one is taken, and the rest follows one more
+pub frames-on : (i k : ℕ) (s : List ℕ) (at : ℕ) (fr : Frame) → i < k → recordAt s at ≡ done fr
+    → after i (framesAt (k - i) s at) ≡ andThen (after (i + 1) (framesAt (k - (i + 1)) s (fr .end))) (λ frs. done (fr ∷ frs))
+frames-on i k s at fr h e =
+    let z : k - i - 1 ≡ k - (i + 1) = omega arith in
+    ap (after i) (frames-next (k - i) s at fr (omega arith) e) ∙ after-then i _ _ ∙ ap (λ o. andThen o (λ frs. done (fr ∷ frs))) (after-after i 1 _ ∙ rw z)
+
+pub frames-refused-on : (i n : ℕ) (s : List ℕ) (at : ℕ) (r : Refusal) → 0 < n → recordAt s at ≡ refused r → after i (framesAt n s at) ≡ refused (ownReason (r .number) 1 i)
+frames-refused-on i n s at r h e = own-after i _ 1 _ refl (frames-refused n s at r h e)
+
+pub frames-left-on : (i n : ℕ) (s : List ℕ) (at : ℕ) → n ≤ 0 → at < length s → after i (framesAt n s at) ≡ refused (reason 5)
+frames-left-on i n s at z h = reason-after i 5 _ (frames-left n s at z h)
+
+-- none is behind at the start
+pub frames-begin : (k : ℕ) (s : List ℕ) (at : ℕ) → framesAt k s at ≡ after 0 (framesAt (k - 0) s at)
+frames-begin k s at = let z : k - 0 ≡ k = omega arith in rw z (sym (after-none _))
 
 -- ---- counting them
 
@@ -72,9 +91,13 @@ counted-count n s at = go (framesAt n s at) refl
     go (refused r) e = then-refused _ refl ∙ sym (then-refused _ refl)
     go (done frs) e = then-done _ refl ∙ ap done (frames-length n s at frs e) ∙ sym (then-done _ refl)
 
-pub counted-next : (k n : ℕ) (s : List ℕ) (at : ℕ) (fr : Frame) → 0 < n → recordAt s at ≡ done fr → counted k (framesAt n s at) ≡ counted k (framesAt (n - 1) s (fr .end))
+pub counted-start : (k : ℕ) (s : List ℕ) (at : ℕ) → trayCount (framesAt k s at) ≡ counted k (after 0 (framesAt (k - 0) s at))
+counted-start k s at = counted-count k s at ∙ ap (counted k) (frames-begin k s at)
+
+pub counted-next : (i k : ℕ) (s : List ℕ) (at : ℕ) (fr : Frame) → i < k → recordAt s at ≡ done fr
+    → counted k (after i (framesAt (k - i) s at)) ≡ counted k (after (i + 1) (framesAt (k - (i + 1)) s (fr .end)))
 unfolding counted
-counted-next k n s at fr h e = ap (counted k) (frames-next n s at fr h e) ∙ go (framesAt (n - 1) s (fr .end))
+counted-next i k s at fr h e = ap (counted k) (frames-on i k s at fr h e) ∙ go (after (i + 1) (framesAt (k - (i + 1)) s (fr .end)))
   where
     go : (o : Out (List Frame)) → andThen (andThen o (λ frs. done (fr ∷ frs))) (λ frs. done k) ≡ andThen o (λ frs. done k)
     go (refused r) = then-refused _ (then-refused _ refl) ∙ sym (then-refused _ refl)

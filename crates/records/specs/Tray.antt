@@ -3,7 +3,7 @@ use mathlib.Core.List.{List, [], _∷_}
 use Prim.Native.Nat.{ℕ, zero, suc}
 use lib.Dec.{ltb}
 use lib.ListN.{length}
-use Rattle.laws.specs.Out.{Out, refused, done, andThen, refuse}
+use Rattle.laws.specs.Out.{Out, about, after, andThen, done, refuse, refused}
 use Rattle.numbers.specs.Number.{readNumber, onNumber}
 use Rattle.records.specs.Record.{recordAt}
 use Rattle.image.specs.declared.format.Form.{Form}
@@ -11,10 +11,12 @@ use Rattle.records.specs.declared.record.Frame.{Frame}
 use Rattle.records.specs.declared.record.Plane.{Plane}
 use Rattle.records.specs.declared.record.TrayRead.{TrayRead}
 
--- so many records in turn from a place on, and 5 where bytes are left over after the last
+-- so many records in turn from a place on, and 5 where bytes are left over after the last; a record's own refusal has its index
 unfoldable pub framesAt : ℕ → List ℕ → ℕ → Out (List Frame)
 framesAt zero s at = refuse (ltb at (length s)) 5 (done [])
-framesAt (suc n) s at = andThen (recordAt s at) (λ fr. andThen (framesAt n s (fr .end)) (λ frs. done (fr ∷ frs)))
+framesAt (suc n) s at =
+    andThen (about 1 0 (recordAt s at)) (λ fr.
+    andThen (after 1 (framesAt n s (fr .end))) (λ frs. done (fr ∷ frs)))
 
 unfoldable pub trayOf : List ℕ → Out (List Frame)
 trayOf s = onNumber (readNumber s 0) (λ n a. framesAt n s a)

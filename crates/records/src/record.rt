@@ -255,22 +255,22 @@ pub fn parse_record(s: &[u8]) -> FrameRead
     }
 }
 
-// So many records in turn from a place on, and nothing after.
+// So many records in turn from a place on, and nothing after. A record's own refusal has its index.
 pub fn check_records(s: &[u8], at: usize, count: u32) -> TrayRead
     ensures { λ r. ⌜ trayOut r ≡ trayCount (framesAt count (now (s .entry)) at) ⌝ }
 {
     let mut next = at;
-    let mut left = count;
-    while left > 0 {
+    let mut i: u32 = 0;
+    while i < count {
         match read_record(s, next) {
             FrameRead::Refused(e) => {
-                return TrayRead::Refused(e);
+                return TrayRead::Refused(e.about(Refusal::RECORD, i as u64));
             }
             FrameRead::Read(f) => {
                 next = f.end;
             }
         }
-        left -= 1;
+        i += 1;
     }
     if next < s.len() {
         return TrayRead::Refused(Refusal::MALFORMED);

@@ -6,6 +6,7 @@ ghost use Rattle.laws.specs.Out.{answerOf};
 ghost use Rattle.scene_room.specs.Scene.{gridScene, overlayScene, outputOf, spareOf};
 use chains::finish_scene;
 use fill::Colour;
+use inputs::AlphaRead;
 use inputs::PlanRead;
 use laws::Answer;
 use laws::Refusal;
@@ -91,8 +92,13 @@ pub fn overlay_scene(
             PlanRead::Read(plan) => {
                 let form = plan.form;
                 let format = form.format;
-                if inputs::alpha_above(tray, first, count, format.top()) {
-                    return Answer::Refused(Refusal::OPACITY);
+                if let AlphaRead::Refused(e) = inputs::check_alpha(
+                    tray,
+                    first,
+                    count,
+                    format.top(),
+                ) {
+                    return Answer::Refused(e);
                 }
                 match plan_scene(chain, c, essential_only, form, output.len(), spare.len()) {
                     CurrentRead::Refused(e) => Answer::Refused(e),

@@ -9,10 +9,9 @@ use lib.Dec.{ltb}
 use lib.ListN.{length, replicate, take}
 use lib.Seq.{take-at}
 use borrow.Author.Tests.{le-ltb, ltb-false}
-use Rattle.laws.proofs.Out.{Same, alike, andThen-done, both, done-same, not-done, refuse-done, refuse-no, refused-back, same-left, then-done, then-refuse, then-refused}
+use Rattle.laws.proofs.Out.{Same, alike, andThen-done, both, done-same, item-then, not-done, refuse-done, refuse-no, refused-back, same-left, then-done, then-refused}
 use Rattle.laws.proofs.Puts.{length-puts, puts-start}
-use Rattle.laws.specs.Any.{any}
-use Rattle.laws.specs.Out.{Out, andThen, answerOf, done, reason, refuse, refused}
+use Rattle.laws.specs.Out.{Out, andThen, answerOf, done, reason, refuse, refuseItem, refused}
 use Rattle.laws.specs.Puts.{Bytes, puts}
 use Rattle.laws.specs.declared.Answer.{Answer}
 use Rattle.laws.specs.declared.Answer.the-variants.{Refused}
@@ -303,9 +302,9 @@ pub record OverlayKnown (body tray chain : List ℕ) (flag : Bool) (list : List 
   pub sound : PlanSound body tray list plan
   pub inRange : InRange (planPic body tray list colour plan)
   pub drawn : overlayDrawn body tray chain flag list colour
-      ≡ refuse (any (alphaAbove tray (topOf (plan .form .format))) (framesFrom n tray at)) 16 (chainDrawn (judged .entries) flag (planPic body tray list colour plan))
+      ≡ refuseItem 1 (alphaAbove tray (topOf (plan .form .format))) 16 (framesFrom n tray at) (chainDrawn (judged .entries) flag (planPic body tray list colour plan))
   pub is : (output spare : ℕ) → overlayScene body tray chain flag list colour output spare
-      ≡ refuse (any (alphaAbove tray (topOf (plan .form .format))) (framesFrom n tray at)) 16 (sceneOn (judged .entries) flag (planPic body tray list colour plan) output spare)
+      ≡ refuseItem 1 (alphaAbove tray (topOf (plan .form .format))) 16 (framesFrom n tray at) (sceneOn (judged .entries) flag (planPic body tray list colour plan) output spare)
 
 pub plan-form : (body tray list : List ℕ) (colour : Colour) (plan : Plan) → plan .form ≡ planPic body tray list colour plan .form
 unfolding overlayPic
@@ -323,7 +322,7 @@ module _ (body tray chain : List ℕ) (flag : Bool) (list : List ℕ) (colour : 
   module _ (n at : ℕ) (counted : readNumber tray 0 ≡ NumberRead.Number n at) where
     overlay-counted : overlayDrawn body tray chain flag list colour
         ≡ andThen (chainAt chain 0) (λ es. andThen (inputsAt body tray list n at) (λ q.
-        refuse (any (alphaAbove tray (topOf (firstFormat (q .frames)))) (q .frames)) 16 (chainDrawn es flag (composed body tray list colour q))))
+        refuseItem 1 (alphaAbove tray (topOf (firstFormat (q .frames)))) 16 (q .frames) (chainDrawn es flag (composed body tray list colour q))))
     unfolding overlayDrawn onNumber
     overlay-counted = rw counted
 
@@ -361,14 +360,14 @@ module _ (body tray chain : List ℕ) (flag : Bool) (list : List ℕ) (colour : 
           let k = took body tray list n at q i in
           let j = judged-chain chain 0 h e in
           let drawn : overlayDrawn body tray chain flag list colour
-          ≡ refuse (any (alphaAbove tray (topOf (planOf body tray list at q .form .format))) (framesFrom n tray at)) 16 (chainDrawn (j .0 .entries) flag (planPic body tray list colour (planOf body tray list at q))) =
+          ≡ refuseItem 1 (alphaAbove tray (topOf (planOf body tray list at q .form .format))) 16 (framesFrom n tray at) (chainDrawn (j .0 .entries) flag (planPic body tray list colour (planOf body tray list at q))) =
           overlay-counted ∙ then-done _ (j .1) ∙ then-done _ i ∙ rw (top-is q, pic-is q k, frames-from n tray at (q .frames) (k .frames)) in
           record {
             judged = j .0;
             sound = plan-sound body tray list n at q k;
             inRange = rw (← pic-is q k) (overlay-in-range body tray list colour n at q b counted i);
             drawn = drawn;
-            is = λ output spare. ap (λ z. andThen z (roomFor output spare)) drawn ∙ then-refuse _ 16 _ (roomFor output spare);
+            is = λ output spare. ap (λ z. andThen z (roomFor output spare)) drawn ∙ item-then 1 _ 16 _ _ (roomFor output spare);
           }
 
       pub overlay-read : Bytes body → (plan : Plan) → planAt body tray list n at ≡ done plan → OverlayKnown body tray chain flag list colour n at h plan

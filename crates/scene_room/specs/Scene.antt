@@ -4,7 +4,7 @@ use mathlib.Core.List.{List, _++_}
 use Prim.Native.Nat.{_-_, ℕ}
 use lib.Dec.{ltb}
 use lib.ListN.{length, replicate}
-use Rattle.laws.specs.Out.{Out, andThen, done, refuse, refused}
+use Rattle.laws.specs.Out.{Out, andThen, done, refuse, refuseItem, refused}
 use Rattle.numbers.specs.Number.{onNumber, readNumber}
 use Rattle.planes.specs.Bytes.{encode}
 use Rattle.image.specs.Format.{topOf}
@@ -12,7 +12,6 @@ use Rattle.fill.specs.declared.Colour.{Colour}
 use Rattle.props.specs.Chain.{chainAt}
 use Rattle.grid.specs.Run.{gridOn}
 use Rattle.tiles.specs.Tiles.{tilesAt}
-use Rattle.laws.specs.Any.{any}
 use Rattle.inputs.specs.Inputs.{alphaAbove, firstFormat, inputsAt}
 use Rattle.overlay.specs.Run.{composed}
 use Rattle.stages.specs.Chain.{Drawn, chainDrawn}
@@ -25,13 +24,13 @@ gridDrawn body tray chain essentialOnly =
     andThen (chainAt chain 0) (λ es.
     andThen (tilesAt body tray n at) (λ t. chainDrawn es essentialOnly (gridOn tray t))))
 
--- 16 any alpha sample above top, before the chain's entries
+-- 16 the first record with an alpha sample above top, before the chain's entries
 unfoldable pub overlayDrawn : List ℕ → List ℕ → List ℕ → Bool → List ℕ → Colour → Out Drawn
 overlayDrawn body tray chain essentialOnly premultiplied colour =
     onNumber (readNumber tray 0) (λ n at.
     andThen (chainAt chain 0) (λ es.
     andThen (inputsAt body tray premultiplied n at) (λ q.
-    refuse (any (alphaAbove tray (topOf (firstFormat (q .frames)))) (q .frames)) 16
+    refuseItem 1 (alphaAbove tray (topOf (firstFormat (q .frames)))) 16 (q .frames)
     (chainDrawn es essentialOnly (composed body tray premultiplied colour q)))))
 
 -- ---- 17 output or spare shorter than the longest of the composed and step records

@@ -9,6 +9,7 @@ ghost use Rattle.plans.specs.inner.ChainPlan.{chainPlanOf};
 ghost use Rattle.scene_room.specs.Scene.{gridDrawn, overlayDrawn};
 ghost use Rattle.scene_room.specs.Room.{longestOf, roomOut};
 use image::Form;
+use inputs::AlphaRead;
 use inputs::PlanRead;
 use laws::Refusal;
 use numbers::NumberRead;
@@ -78,8 +79,13 @@ pub fn overlay_room(
             PlanRead::Read(plan) => {
                 let form = plan.form;
                 let format = form.format;
-                if inputs::alpha_above(tray, first, count, format.top()) {
-                    return RoomRead::Refused(Refusal::OPACITY);
+                if let AlphaRead::Refused(e) = inputs::check_alpha(
+                    tray,
+                    first,
+                    count,
+                    format.top(),
+                ) {
+                    return RoomRead::Refused(e);
                 }
                 chain_room(chain, c, essential_only, form)
             }

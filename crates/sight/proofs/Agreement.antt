@@ -1,14 +1,13 @@
 -- A chain on a picture and the same chain on a sight: the same refusal, or a picture that is what the sight shows.
 use mathlib.Core.Bool.{Bool, false, true}
-use mathlib.Core.List.{List, [], _∷_}
+use mathlib.Core.List.{List}
 use mathlib.Core.Path.{_∙_, _≡_, ap, ap₂, refl, sym}
 use Prim.Native.Nat.{_*_, _<_, _≤_, ℕ}
 use native.Mathlib.Omega.{arith}
-use Rattle.laws.proofs.Order.{by-order, pick-false, pick-true}
-use Rattle.laws.proofs.Out.{Same, alike, both, then-both, then-refused}
-use Rattle.laws.specs.Out.{Out, andThen, done, reason, refused}
+use Rattle.laws.proofs.Order.{by-order}
+use Rattle.laws.proofs.Out.{Same, alike, both, then-both}
+use Rattle.laws.specs.Out.{Out, done, reason, refused}
 use Rattle.laws.specs.Pick.{pick}
-use Rattle.laws.specs.declared.Refusal.{Refusal}
 use Rattle.image.specs.Format.{columnsOf, cover, halfX, halfY, rowsOf, sideOf, odd, Covers}
 use Rattle.planes.specs.Picture.{Pic, pixel}
 use Rattle.planes.specs.inner.Even.{Even}
@@ -16,9 +15,8 @@ use Rattle.image.specs.declared.format.Form.{Form}
 use Rattle.image.specs.declared.format.Part.{Part}
 use Rattle.sizes.proofs.ApertureLaws.{resolve-holds}
 use Rattle.sizes.proofs.MarginLaws.{around-inside}
-use Rattle.props.proofs.ChainLaws.{Applied}
+use Rattle.props.proofs.ChainLaws.{Applied, fold-same}
 use Rattle.sizes.specs.Aperture.{resolveOf}
-use Rattle.props.specs.Chain.{applies, foldChain}
 use Rattle.sizes.specs.Margins.{Around}
 use Rattle.sizes.specs.Sound.{Inside}
 use Rattle.sizes.specs.declared.clap.Crop.{Crop}
@@ -31,7 +29,6 @@ use Rattle.motions.specs.inner.Shows.{Shows, uncrop, unmirror}
 use Rattle.motions.specs.Turn.{crop, mirror, quarterOf, turn}
 use Rattle.sight.proofs.Quarters.{mirror-below}
 use Rattle.sight.proofs.Steps.{place-across, place-down, place-in}
-use Rattle.sight.proofs.Stops.{sight-not-18}
 use Rattle.sight.proofs.Turns.{back-in, back-once, crop-back, crop-height, crop-inside, crop-width, mirror-back, mirror-height, mirror-width, turn-back, turn-height, turn-width, unmirror-in, unturn-in}
 use Rattle.motions.specs.Chain.{NotIscl, chainPic, picAfter}
 use Rattle.sight.specs.inner.Seen.{View, PlaceAgrees, Seen}
@@ -111,41 +108,17 @@ crop-view P Q s k v i =
 around-as : {w h w′ h′ : ℕ} (k : Crop) → w ≡ w′ → h ≡ h′ → Around k w h → Around k w′ h′
 around-as k p q i = rw (← p, ← q) i
 
--- an entry that the sight does not refuse 18
-pub after-same : (P : Pic) (scale : Iscl → Pic → Out Pic) (e : Property) (Q : Pic) (s : Sight) → View P Q s → (sightAfter e s ≡ refused (reason 18) → ⊥) → Same (View P) (picAfter scale e Q) (sightAfter e s)
-unfolding picAfter sightAfter
-after-same P scale Property.Other Q s v n = both v
-after-same P scale (Property.Clap c) Q s v n =
+-- an entry that is no iscl
+pub after-same : (P : Pic) (scale : Iscl → Pic → Out Pic) (e : Property) (Q : Pic) (s : Sight) → NotIscl e → View P Q s → Same (View P) (picAfter scale e Q) (sightAfter e s)
+unfolding picAfter sightAfter NotIscl
+after-same P scale Property.Other Q s n v = both v
+after-same P scale (Property.Clap c) Q s n v =
     rw (← (v .shows .width), ← (v .shows .height))
     (then-both (λ k. Around k (Q .form .width) (Q .form .height)) (View P) (resolveOf c (Q .form .width) (Q .form .height)) _ _ (resolve-holds c _ _)
     (λ k i. both (crop-view P Q s k v (around-as k (v .shows .width) (v .shows .height) i))))
-after-same P scale (Property.Irot k) Q s v n = both (turn-view P Q s (k .angle) v)
-after-same P scale (Property.Imir k) Q s v n = both (mirror-view P Q s (odd (k .axis)) v)
-after-same P scale (Property.Iscl k) Q s v n = absurd (n refl)
-
--- ---- two chains whose entries answer alike, but where the second stops
-
-same-as : {A B : Type 0} {R : A → B → Type 0} {o o′ : Out A} {u u′ : Out B} → o ≡ o′ → u ≡ u′ → Same R o u → Same R o′ u′
-same-as p q s = rw (← p, ← q) s
-
--- one step, and what follows it
-step-same : {A B C D : Type 0} (R : A → B → Type 0) {S : C → D → Type 0} (stop : Refusal) (o : Out A) (u : Out B) (f : A → Out C) (g : B → Out D) → Same R o u
-    → ((a : A) (b : B) → R a b → (g b ≡ refused stop → ⊥) → Same S (f a) (g b)) → (andThen u g ≡ refused stop → ⊥) → Same S (andThen o f) (andThen u g)
-unfolding andThen
-step-same R stop o u f g alike k n = alike
-step-same R stop o u f g (both {a = a} {b = b} r) k n = k a b r n
-
-fold-same-but : {A B : Type 0} (R : A → B → Type 0) (stop : Refusal) (f : Property → A → Out A) (g : Property → B → Out B)
-    → ((p : Property) (a : A) (b : B) → R a b → (g p b ≡ refused stop → ⊥) → Same R (f p a) (g p b))
-    → (flag : Bool) (es : List PropertyEntry) (a : A) (b : B) → R a b → (foldChain g flag es b ≡ refused stop → ⊥) → Same R (foldChain f flag es a) (foldChain g flag es b)
-unfolding foldChain
-fold-same-but R stop f g k flag [] a b r n = both r
-fold-same-but R stop f g k flag (e ∷ es) a b r n =
-    step-same R stop _ _ _ _ (on (applies flag e) (λ q. n (then-refused _ q))) (λ c d s h. fold-same-but R stop f g k flag es c d s h) n
-  where
-    on : (t : Bool) → (pick t (g (e .property) b) (done b) ≡ refused stop → ⊥) → Same R (pick t (f (e .property) a) (done a)) (pick t (g (e .property) b) (done b))
-    on true h = same-as (sym (pick-true true _ _ refl)) (sym (pick-true true _ _ refl)) (k (e .property) a b r (λ q. h (pick-true true _ _ refl ∙ q)))
-    on false h = same-as (sym (pick-false false _ _ refl)) (sym (pick-false false _ _ refl)) (both r)
+after-same P scale (Property.Irot k) Q s n v = both (turn-view P Q s (k .angle) v)
+after-same P scale (Property.Imir k) Q s n v = both (mirror-view P Q s (odd (k .axis)) v)
+after-same P scale (Property.Iscl k) Q s n v = absurd n
 
 -- ---- whole chains
 
@@ -182,19 +155,13 @@ same-map : {A B : Type 0} (R S : A → B → Type 0) (o : Out A) (u : Out B) →
 same-map R S o u f alike = alike
 same-map R S o u f (both {a = a} {b = b} r) = both (f a b r)
 
--- the chain on a picture whose halved sides are even, and on the sight of its size: where the sight is not refused 18, the same
--- refusal, or a picture that is what the sight shows
-pub chain-sight : (P : Pic) (scale : Iscl → Pic → Out Pic) (flag : Bool) (es : List PropertyEntry) → Even (P .form) → 1 ≤ P .form .width → 1 ≤ P .form .height
-    → (sightOf es flag (P .form .width) (P .form .height) ≡ refused (reason 18) → ⊥)
-    → Same (Seen P) (chainPic scale es flag P) (sightOf es flag (P .form .width) (P .form .height))
-unfolding chainPic sightOf
-chain-sight P scale flag es ev w h n =
-    same-map (View P) (Seen P) _ _ (view-seen P) (fold-same-but (View P) (reason 18) (picAfter scale) sightAfter (after-same P scale) flag es P _ (view-whole P ev w h) n)
-
--- so of every chain of which no applied entry is an iscl
+-- a chain of which no applied entry is an iscl, on a picture whose halved sides are even and on the sight of its size: the same refusal,
+-- or a picture that is what the sight shows
 pub chain-sight-plain : (P : Pic) (scale : Iscl → Pic → Out Pic) (flag : Bool) (es : List PropertyEntry) → Even (P .form) → 1 ≤ P .form .width → 1 ≤ P .form .height → Applied NotIscl flag es
     → Same (Seen P) (chainPic scale es flag P) (sightOf es flag (P .form .width) (P .form .height))
-chain-sight-plain P scale flag es ev w h n = chain-sight P scale flag es ev w h (sight-not-18 flag es _ _ n)
+unfolding chainPic sightOf
+chain-sight-plain P scale flag es ev w h n =
+    same-map (View P) (Seen P) _ _ (view-seen P) (fold-same (View P) NotIscl (picAfter scale) sightAfter (after-same P scale) flag es n P _ (view-whole P ev w h))
 
 -- ---- place by place
 

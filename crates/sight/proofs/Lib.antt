@@ -1,5 +1,4 @@
 pub mod Quarters
 pub mod Turns
 pub mod Steps
-pub mod Stops
 pub mod Agreement

@@ -310,7 +310,7 @@ impl Sight {
     }
 }
 
-// What the entries of a chain that was judged leave of a picture of that size. Refusals: the entries' in turn.
+// What the entries of a chain that was judged leave of a picture of that size. Refusals: the entries' in turn, with their index.
 pub fn reduce_judged(
     s: &[u8],
     chain: Chain,
@@ -321,24 +321,25 @@ pub fn reduce_judged(
     requires { ⌜ Judged (now s) chain ⌝ }
     ensures { λ r. ⌜ sightOut r ≡ andThen (entriesAt (chain .count) (now (s .entry)) (chain .first)) (λ es. sightOf es «essential_only» width height) ⌝ }
 {
+    let count = chain.count;
     let mut next = chain.first;
-    let mut left = chain.count;
+    let mut i: u32 = 0;
     let mut reached = Sight::new(width, height);
-    while left > 0 {
+    while i < count {
         let EntryRead::Read(e) = props::read_entry(s, next) else {
             return SightRead::Refused(Refusal::MALFORMED);
         };
         let entry = e.entry;
         match reached.after_entry(entry, essential_only) {
             SightRead::Refused(r) => {
-                return SightRead::Refused(r);
+                return SightRead::Refused(r.about(Refusal::ENTRY, i as u64));
             }
             SightRead::Sight(z) => {
                 reached = z;
             }
         }
         next = e.next;
-        left -= 1;
+        i += 1;
     }
     SightRead::Sight(reached)
 }

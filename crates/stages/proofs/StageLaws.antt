@@ -29,7 +29,6 @@ use Rattle.motions.specs.Turn.{quarterOf}
 use Rattle.motions.specs.inner.Moves.{cropMove, turnForm}
 use Rattle.sizes.specs.Aperture.{resolveOf}
 use Rattle.sight.proofs.Agreement.{after-same, view-whole}
-use Rattle.sight.proofs.Stops.{after-not-18}
 use Rattle.sight.specs.Sight.{finalHeight, finalWidth, sightAfter, whole}
 use Rattle.sight.specs.inner.Bounded.{Bounded}
 use Rattle.sight.specs.inner.Seen.{View}
@@ -223,7 +222,7 @@ stage-held p t bs b k e q =
     let P = stagePic t bs in
     let s = sightHere t in
     let x = next-of p Q b (v .inRange) (ap (recordAfter p) (sym (v .bytes)) ∙ q) in
-    let u = same-left (View P) _ _ (after-same P scaled p Q s (v .view) (after-not-18 p s n)) (x .pic) (x .run) in
+    let u = same-left (View P) _ _ (after-same P scaled p Q s n (v .view)) (x .pic) (x .run) in
     let w = v .view .shows in
     let z = u .2 .shows in
     let formed : formAfter p (t .form) ≡ done (x .pic .form) = ap (formAfter p) (sym (v .form)) ∙ x .form in

@@ -2,7 +2,7 @@
 use mathlib.Core.List.{[], _∷_}
 use mathlib.Core.Path.{_≡_, refl}
 use Rattle.laws.specs.Ascii.{ascii, characterBytes}
-use Rattle.laws.specs.Out.{andThen, refuse}
+use Rattle.laws.specs.Out.{about, after, andThen, refuse}
 use Rattle.laws.specs.Pick.{pick}
 use Rattle.numbers.specs.Decimal.{decimal, digitsOnto}
 use Rattle.numbers.specs.Number.{lastByte, onNumber, readFrom, readNumber}
@@ -14,5 +14,5 @@ use Rattle.steps_text.specs.Input.{stepsOf}
 use Rattle.steps_text.specs.Text.{fieldText, heading, lineText, lineThen, linesFrom, outText, textOf}
 
 pub example : textOf (6 ∷ 4 ∷ 2 ∷ 2 ∷ 1 ∷ 1 ∷ 3 ∷ 0 ∷ 1 ∷ []) ≡ ascii "step kind width height\n0 2 4 6\n1 3 4 6\n"
-unfolding ascii characterBytes heading textOf outText stepsOf judgedSize linesFrom lineThen lineText fieldText decimal digitsOnto chainAt countAt entriesAt entryAt propertyAt irotAt imirAt byteAt readNumber readFrom lastByte onNumber andThen refuse pick sizeAfter swapped odd kindOf
+unfolding about after ascii characterBytes heading textOf outText stepsOf judgedSize linesFrom lineThen lineText fieldText decimal digitsOnto chainAt countAt entriesAt entryAt propertyAt irotAt imirAt byteAt readNumber readFrom lastByte onNumber andThen refuse pick sizeAfter swapped odd kindOf
 example = refl

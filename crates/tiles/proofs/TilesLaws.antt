@@ -2,15 +2,15 @@
 use mathlib.Core.Bool.{Bool, false, not, true}
 use mathlib.Core.List.{List, [], _∷_}
 use mathlib.Core.Path.{_∙_, _≡_, ap, refl, sym}
-use Prim.Native.Nat.{_-_, _<_, _≤_, suc, zero, ℕ}
+use Prim.Native.Nat.{_+_, _-_, _<_, _≤_, suc, zero, ℕ}
 use native.Mathlib.Nat.{not-suc-le-zero}
 use native.Mathlib.Omega.{arith}
 use lib.Dec.{eqb}
 use lib.ListN.{length}
-use borrow.Author.Tests.{eq-eqb, le-ltb, lt-ltb, ne-eqb}
+use borrow.Author.Tests.{eq-eqb, ne-eqb}
 use Rattle.laws.proofs.Order.{by-equal, by-test, mul-below, pick-false, pick-true}
-use Rattle.laws.proofs.Out.{andThen-done, done-same, not-done, refuse-no, refuse-yes, then-done, then-refuse, then-refused}
-use Rattle.laws.specs.Out.{Out, andThen, done, reason, refuse, refused}
+use Rattle.laws.proofs.Out.{about-done, after-after, after-done, after-none, after-then, andThen-done, done-about, done-after, done-same, not-done, own-after, refuse-done, refuse-no, refuse-yes, refused-about, then-done, then-refused}
+use Rattle.laws.specs.Out.{Out, after, andThen, done, ownReason, reason, refuse, refused}
 use Rattle.laws.specs.Pick.{pick}
 use Rattle.laws.specs.declared.Refusal.{Refusal}
 use Rattle.numbers.specs.Number.{onNumber, readNumber}
@@ -20,9 +20,10 @@ use Rattle.records.specs.Record.{recordAt}
 use Rattle.records.specs.Tray.{framesAt}
 use Rattle.image.specs.declared.format.Form.{Form}
 use Rattle.records.specs.declared.record.Frame.{Frame}
+use Rattle.records.proofs.TrayLaws.{frames-begin, frames-end, frames-left-on, frames-on, frames-refused-on}
 use Rattle.derived.specs.Grid.{gridOf}
 use Rattle.derived.specs.declared.grid.GridDescriptor.{GridDescriptor}
-use Rattle.tiles.specs.Tiles.{alikeFrom, countOf, judgeOf, sameLayout, spansCanvas, tilesAt, tilesOf}
+use Rattle.tiles.specs.Tiles.{alikeFrom, countOf, heldTo, judgeOf, sameLayout, spansCanvas, tilesAt, tilesOf}
 use Rattle.tiles.specs.declared.judge.Tiles.{Tiles}
 use Rattle.tiles.specs.inner.Taken.{FramesTaken, unlikeOf}
 
@@ -41,7 +42,7 @@ frames-first (suc n) s at frs l e =
     let a = andThen-done _ _ frs e in
     let b = andThen-done _ _ frs (a .2) in
     let z : suc n - 1 ≡ n = omega arith in
-    record { frame = a .0; rest = b .0; here = a .1; after = rw z (b .1); same = sym (done-same _ frs (b .2)) }
+    record { frame = a .0; rest = b .0; here = about-done _ _ _ _ (a .1); after = rw z (after-done 1 _ _ (b .1)); same = sym (done-same _ frs (b .2)) }
 
 -- with the record that was read there
 pub first-read : (n : ℕ) (s : List ℕ) (at : ℕ) (frs : List Frame) (fr : Frame) → 0 < n → framesAt n s at ≡ done frs → recordAt s at ≡ done fr
@@ -68,53 +69,45 @@ unfolding andThen
 then-then (refused r) f k = refl
 then-then (done a) f k = refl
 
--- the first record of those that are left
-pub frames-next : {B : Type 0} (n : ℕ) (s : List ℕ) (at : ℕ) (fr : Frame) (k : List Frame → Out B) → 0 < n → recordAt s at ≡ done fr
-    → andThen (framesAt n s at) k ≡ andThen (framesAt (n - 1) s (fr .end)) (λ frs. k (fr ∷ frs))
-unfolding framesAt
-frames-next zero s at fr k l e = absurd (not-suc-le-zero l)
-frames-next (suc n) s at fr k l e =
-    let z : suc n - 1 ≡ n = omega arith in
-    rw z (ap (λ (o : Out (List Frame)). andThen o k) (then-done _ e) ∙ then-then (framesAt n s (fr .end)) (λ frs. fr ∷ frs) k)
+-- the first record of those that are left, i of k behind; or it is refused, with its index
+pub reading-next : {B : Type 0} (i k : ℕ) (s : List ℕ) (at : ℕ) (fr : Frame) (f : List Frame → Out B) → i < k → recordAt s at ≡ done fr
+    → andThen (after i (framesAt (k - i) s at)) f ≡ andThen (after (i + 1) (framesAt (k - (i + 1)) s (fr .end))) (λ frs. f (fr ∷ frs))
+reading-next i k s at fr f l e =
+    ap (λ (o : Out (List Frame)). andThen o f) (frames-on i k s at fr l e) ∙ then-then (after (i + 1) (framesAt (k - (i + 1)) s (fr .end))) (λ frs. fr ∷ frs) f
 
-pub frames-refused : {B : Type 0} (n : ℕ) (s : List ℕ) (at : ℕ) (r : Refusal) (k : List Frame → Out B) → 0 < n → recordAt s at ≡ refused r → andThen (framesAt n s at) k ≡ refused r
-unfolding framesAt
-frames-refused zero s at r k l e = absurd (not-suc-le-zero l)
-frames-refused (suc n) s at r k l e = then-refused k (then-refused _ e)
+pub reading-refused : {B : Type 0} (i n : ℕ) (s : List ℕ) (at : ℕ) (r : Refusal) (f : List Frame → Out B) → 0 < n → recordAt s at ≡ refused r
+    → andThen (after i (framesAt n s at)) f ≡ refused (ownReason (r .number) 1 i)
+reading-refused i n s at r f l e = then-refused f (frames-refused-on i n s at r l e)
 
 -- the end: no bytes are left over
-pub frames-over : {B : Type 0} (n : ℕ) (s : List ℕ) (at : ℕ) (k : List Frame → Out B) → n ≤ 0 → at < length s → andThen (framesAt n s at) k ≡ refused (reason 5)
-unfolding framesAt
-frames-over zero s at k z h = then-refused k (refuse-yes _ _ (lt-ltb at (length s) h))
-frames-over (suc n) s at k z h = absurd (not-suc-le-zero z)
+pub reading-over : {B : Type 0} (i n : ℕ) (s : List ℕ) (at : ℕ) (f : List Frame → Out B) → n ≤ 0 → at < length s → andThen (after i (framesAt n s at)) f ≡ refused (reason 5)
+reading-over i n s at f z h = then-refused f (frames-left-on i n s at z h)
 
-pub frames-end : {B : Type 0} (n : ℕ) (s : List ℕ) (at : ℕ) (k : List Frame → Out B) → n ≤ 0 → length s ≤ at → andThen (framesAt n s at) k ≡ k []
-unfolding framesAt
-frames-end zero s at k z h = then-done k (refuse-no _ _ (le-ltb at (length s) h))
-frames-end (suc n) s at k z h = absurd (not-suc-le-zero z)
+pub reading-out : {B : Type 0} (i n : ℕ) (s : List ℕ) (at : ℕ) (f : List Frame → Out B) → n ≤ 0 → length s ≤ at → andThen (after i (framesAt n s at)) f ≡ f []
+reading-out i n s at f z h = then-done f (done-after i _ _ (frames-end n s at z h))
 
--- a fault that was found before all records were read: 0 is none
-unfoldable pub faulted : ℕ → Out Tiles → Out Tiles
-faulted n o = refuse (not (eqb n 0)) n o
+-- a fault that was found before all records were read: of number 0 it is none
+unfoldable pub faulted : Refusal → Out Tiles → Out Tiles
+faulted r o = pick (eqb (r .number) 0) o (refused r)
 
-faulted-none : (n : ℕ) (o : Out Tiles) → n ≡ 0 → faulted n o ≡ o
+faulted-none : (r : Refusal) (o : Out Tiles) → r .number ≡ 0 → faulted r o ≡ o
 unfolding faulted
-faulted-none n o z = refuse-no _ _ (ap not (eq-eqb n 0 z))
+faulted-none r o z = pick-true _ _ _ (eq-eqb (r .number) 0 z)
 
-faulted-some : (n : ℕ) (o : Out Tiles) → (n ≡ 0 → ⊥) → faulted n o ≡ refused (reason n)
+faulted-some : (r : Refusal) (o : Out Tiles) → (r .number ≡ 0 → ⊥) → faulted r o ≡ refused r
 unfolding faulted
-faulted-some n o d = refuse-yes _ _ (ap not (ne-eqb n 0 d))
+faulted-some r o d = pick-false _ _ _ (ne-eqb (r .number) 0 d)
 
 -- the tiles, with that alpha number
 abbrev pub taken : GridDescriptor → ℕ → Form → ℕ → Out Tiles
 taken g at t a = done (record { desc = g; tile = t; alpha = a; first = at })
 
--- what is left of the judgement: tiles that are like the first, unless one before was not
-unfoldable pub judged : GridDescriptor → ℕ → Form → ℕ → ℕ → List Frame → Out Tiles
-judged g at t fault a frs = faulted fault (andThen (alikeFrom t a frs) (taken g at t))
+-- what is left of the judgement behind i tiles: tiles that are like the first, unless one before was not
+unfoldable pub judged : GridDescriptor → ℕ → Form → Refusal → ℕ → ℕ → List Frame → Out Tiles
+judged g at t fault a i frs = faulted fault (after i (andThen (alikeFrom t a frs) (taken g at t)))
 
 pub judge-start : (g : GridDescriptor) (s : List ℕ) (at count : ℕ) (fr : Frame) → 0 < count → recordAt s at ≡ done fr
-    → andThen (framesAt count s at) (judgeOf g at) ≡ andThen (framesAt count s at) (judged g at (fr .form) (pick (spansCanvas g (fr .form)) 0 12) 0)
+    → andThen (framesAt count s at) (judgeOf g at) ≡ andThen (after 0 (framesAt (count - 0) s at)) (judged g at (fr .form) (reason (pick (spansCanvas g (fr .form)) 0 12)) 0 0)
 unfolding judgeOf judged
 judge-start g s at count fr l here =
     then-agree (framesAt count s at) _ _ (λ frs e.
@@ -122,47 +115,83 @@ judge-start g s at count fr l here =
     let rest = andThen (alikeFrom (fr .form) 0 frs) (taken g at (fr .form)) in
     ap (judgeOf g at) (k .2)
     ∙ by-test (spansCanvas g (fr .form))
-    (λ q. refuse-no _ _ (ap not q) ∙ ap (λ (m : List Frame). andThen (alikeFrom (fr .form) 0 m) (taken g at (fr .form))) (sym (k .2)) ∙ sym (faulted-none _ rest (pick-true _ _ _ q)))
-    (λ q. refuse-yes _ _ (ap not q) ∙ sym (ap (λ (n : ℕ). faulted n rest) (pick-false _ _ _ q) ∙ faulted-some 12 rest (λ z. omega arith))))
+    (λ q.
+    refuse-no _ _ (ap not q) ∙ ap (λ (m : List Frame). andThen (alikeFrom (fr .form) 0 m) (taken g at (fr .form))) (sym (k .2)) ∙ sym (after-none rest)
+    ∙ sym (faulted-none _ (after 0 rest) (pick-true _ _ _ q)))
+    (λ q. refuse-yes _ _ (ap not q) ∙ sym (ap (λ (n : ℕ). faulted (reason n) (after 0 rest)) (pick-false _ _ _ q) ∙ faulted-some (reason 12) (after 0 rest) (λ z. omega arith))))
+    ∙ ap (λ (o : Out (List Frame)). andThen o (judged g at (fr .form) (reason (pick (spansCanvas g (fr .form)) 0 12)) 0 0)) (frames-begin count s at)
+
+-- a tile held to the first, by what is wrong with it
+held-is : (t : Form) (a : ℕ) (m : Form) → heldTo t a m ≡ pick (eqb (unlikeOf t m) 0) (done (pick (hasAlpha (m .format)) 1 a)) (refused (reason (unlikeOf t m)))
+unfolding heldTo unlikeOf pick refuse
+held-is t a m = faults (not (hasSize m (t .width) (t .height))) (not (sameLayout t m)) _
+  where
+    faults : (x y : Bool) (o : Out ℕ) → refuse x 13 (refuse y 14 o) ≡ pick (eqb (pick x 13 (pick y 14 0)) 0) o (refused (reason (pick x 13 (pick y 14 0))))
+    faults true y o = refl
+    faults false true o = refl
+    faults false false o = refl
+
+-- what follows is the rest's, where a tile is held
+pub alike-next : (t : Form) (a : ℕ) (fr : Frame) (frs : List Frame) → unlikeOf t (fr .form) ≡ 0 → alikeFrom t a (fr ∷ frs) ≡ after 1 (alikeFrom t (pick (hasAlpha (fr .form .format)) 1 a) frs)
+unfolding alikeFrom
+alike-next t a fr frs z = then-done _ (done-about 1 0 _ _ (held-is t a (fr .form) ∙ pick-true _ _ _ (eq-eqb _ 0 z)))
+
+alike-not : (t : Form) (a : ℕ) (fr : Frame) (frs : List Frame) → (unlikeOf t (fr .form) ≡ 0 → ⊥) → alikeFrom t a (fr ∷ frs) ≡ refused (ownReason (unlikeOf t (fr .form)) 1 0)
+unfolding alikeFrom
+alike-not t a fr frs d = then-refused _ (refused-about 1 0 _ _ (held-is t a (fr .form) ∙ pick-false _ _ _ (ne-eqb _ 0 d)))
+
+-- tiles that were held: the first of them, and the others
+pub alike-first : (t : Form) (a b : ℕ) (fr : Frame) (frs : List Frame) → alikeFrom t a (fr ∷ frs) ≡ done b
+    → (not (hasSize (fr .form) (t .width) (t .height)) ≡ false) × (not (sameLayout t (fr .form)) ≡ false) × (alikeFrom t (pick (hasAlpha (fr .form .format)) 1 a) frs ≡ done b)
+unfolding alikeFrom heldTo
+alike-first t a b fr frs e =
+    let k = andThen-done _ _ b e in
+    let u = refuse-done _ 13 _ (k .0) (about-done 1 0 _ _ (k .1)) in
+    let v = refuse-done _ 14 _ (k .0) (u .1) in
+    (u .0, v .0, ap (λ (n : ℕ). alikeFrom t n frs) (done-same _ (k .0) (v .1)) ∙ after-done 1 _ _ (k .2))
 
 -- one tile more
-unlike-next : (t : Form) (a : ℕ) (fr : Frame) (frs : List Frame) (k : ℕ → Out Tiles)
-    → andThen (alikeFrom t a (fr ∷ frs)) k ≡ faulted (unlikeOf t (fr .form)) (andThen (alikeFrom t (pick (hasAlpha (fr .form .format)) 1 a) frs) k)
-unfolding alikeFrom unlikeOf pick faulted
-unlike-next t a fr frs k =
-    then-refuse _ 13 _ k ∙ ap (refuse (not (hasSize (fr .form) (t .width) (t .height))) 13) (then-refuse _ 14 _ k)
-    ∙ faults (not (hasSize (fr .form) (t .width) (t .height))) (not (sameLayout t (fr .form))) _
-  where
-    faults : (a b : Bool) (o : Out Tiles) → refuse a 13 (refuse b 14 o) ≡ refuse (not (eqb (pick a 13 (pick b 14 0)) 0)) (pick a 13 (pick b 14 0)) o
-    faults true b o = refuse-yes _ _ refl ∙ sym (refuse-yes _ _ refl)
-    faults false true o = refuse-no _ _ refl ∙ refuse-yes _ _ refl ∙ sym (refuse-yes _ _ refl)
-    faults false false o = refuse-no _ _ refl ∙ refuse-no _ _ refl ∙ sym (refuse-no _ _ refl)
-
-fault-next : (t : Form) (fault a : ℕ) (fr : Frame) (frs : List Frame) (k : ℕ → Out Tiles)
-    → faulted fault (andThen (alikeFrom t a (fr ∷ frs)) k)
-    ≡ faulted (pick (eqb fault 0) (unlikeOf t (fr .form)) fault) (andThen (alikeFrom t (pick (hasAlpha (fr .form .format)) 1 a) frs) k)
-fault-next t fault a fr frs k =
-    let rest = andThen (alikeFrom t (pick (hasAlpha (fr .form .format)) 1 a) frs) k in
-    by-equal fault 0
-    (λ z. faulted-none _ _ z ∙ unlike-next t a fr frs k ∙ ap (λ (n : ℕ). faulted n rest) (sym (pick-true _ _ _ (eq-eqb fault 0 z))))
-    (λ d. faulted-some _ _ d ∙ sym (faulted-some _ rest d) ∙ ap (λ (n : ℕ). faulted n rest) (sym (pick-false _ _ _ (ne-eqb fault 0 d))))
-
-pub judge-next : (g : GridDescriptor) (s : List ℕ) (at : ℕ) (t : Form) (fault a left next : ℕ) (fr : Frame) → 0 < left → recordAt s next ≡ done fr
-    → andThen (framesAt left s next) (judged g at t fault a)
-    ≡ andThen (framesAt (left - 1) s (fr .end)) (judged g at t (pick (eqb fault 0) (unlikeOf t (fr .form)) fault) (pick (hasAlpha (fr .form .format)) 1 a))
+fault-next : (g : GridDescriptor) (at : ℕ) (t : Form) (fault : Refusal) (a i : ℕ) (fr : Frame) (frs : List Frame)
+    → judged g at t fault a i (fr ∷ frs) ≡ judged g at t (pick (eqb (fault .number) 0) (ownReason (unlikeOf t (fr .form)) 1 i) fault) (pick (hasAlpha (fr .form .format)) 1 a) (i + 1) frs
 unfolding judged
-judge-next g s at t fault a left next fr l here =
-    frames-next left s next fr _ l here
-    ∙ then-agree (framesAt (left - 1) s (fr .end)) _ _ (λ frs e. fault-next t fault a fr frs _)
+fault-next g at t fault a i fr frs =
+    by-equal (fault .number) 0
+    (λ z.
+    faulted-none _ _ z ∙ by-equal u 0 (held z) (unheld z))
+    (λ d. faulted-some _ _ d ∙ sym (faulted-some _ rest d) ∙ ap (λ (r : Refusal). faulted r rest) (sym (pick-false _ _ _ (ne-eqb _ 0 d))))
+  where
+    u : ℕ
+    u = unlikeOf t (fr .form)
+
+    rest : Out Tiles
+    rest = after (i + 1) (andThen (alikeFrom t (pick (hasAlpha (fr .form .format)) 1 a) frs) (taken g at t))
+
+    own : fault .number ≡ 0 → faulted (ownReason u 1 i) rest ≡ faulted (pick (eqb (fault .number) 0) (ownReason u 1 i) fault) rest
+    own z = ap (λ (r : Refusal). faulted r rest) (sym (pick-true _ _ _ (eq-eqb _ 0 z)))
+
+    held : fault .number ≡ 0 → u ≡ 0 → after i (andThen (alikeFrom t a (fr ∷ frs)) (taken g at t)) ≡ faulted (pick (eqb (fault .number) 0) (ownReason u 1 i) fault) rest
+    held z w =
+        ap (λ (o : Out ℕ). after i (andThen o (taken g at t))) (alike-next t a fr frs w) ∙ ap (after i) (sym (after-then 1 _ _)) ∙ after-after i 1 _
+        ∙ sym (faulted-none (ownReason u 1 i) rest w) ∙ own z
+
+    unheld : fault .number ≡ 0 → (u ≡ 0 → ⊥) → after i (andThen (alikeFrom t a (fr ∷ frs)) (taken g at t)) ≡ faulted (pick (eqb (fault .number) 0) (ownReason u 1 i) fault) rest
+    unheld z d = own-after i u 1 _ refl (then-refused _ (alike-not t a fr frs d)) ∙ sym (faulted-some (ownReason u 1 i) rest d) ∙ own z
+
+pub judge-next : (g : GridDescriptor) (s : List ℕ) (at : ℕ) (t : Form) (fault : Refusal) (a i count next : ℕ) (fr : Frame) → i < count → recordAt s next ≡ done fr
+    → andThen (after i (framesAt (count - i) s next)) (judged g at t fault a i)
+    ≡ andThen (after (i + 1) (framesAt (count - (i + 1)) s (fr .end))) (judged g at t (pick (eqb (fault .number) 0) (ownReason (unlikeOf t (fr .form)) 1 i) fault) (pick (hasAlpha (fr .form .format)) 1 a) (i + 1))
+judge-next g s at t fault a i count next fr l here =
+    reading-next i count s next fr _ l here
+    ∙ then-agree (after (i + 1) (framesAt (count - (i + 1)) s (fr .end))) _ _ (λ frs e. fault-next g at t fault a i fr frs)
 
 -- all were read
-pub judge-taken : (g : GridDescriptor) (at : ℕ) (t : Form) (fault a : ℕ) → fault ≡ 0 → judged g at t fault a [] ≡ done (record { desc = g; tile = t; alpha = a; first = at })
+pub judge-taken : (g : GridDescriptor) (at : ℕ) (t : Form) (fault : Refusal) (a i : ℕ) → fault .number ≡ 0 → judged g at t fault a i [] ≡ taken g at t a
 unfolding judged alikeFrom
-judge-taken g at t fault a z = faulted-none _ _ z ∙ then-done _ refl
+judge-taken g at t fault a i z = faulted-none _ _ z ∙ done-after i _ _ (then-done _ refl)
 
-pub judge-fault : (g : GridDescriptor) (at : ℕ) (t : Form) (fault a : ℕ) → (fault ≡ 0 → ⊥) → judged g at t fault a [] ≡ refused (reason fault)
+pub judge-fault : (g : GridDescriptor) (at : ℕ) (t : Form) (fault : Refusal) (a i : ℕ) → (fault .number ≡ 0 → ⊥) → judged g at t fault a i [] ≡ refused fault
 unfolding judged
-judge-fault g at t fault a d = faulted-some _ _ d
+judge-fault g at t fault a i d = faulted-some _ _ d
 
 -- ---- from the body and the tray
 

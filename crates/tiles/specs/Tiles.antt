@@ -3,7 +3,7 @@ use mathlib.Core.Bool.{Bool, _&&_, _||_, not}
 use mathlib.Core.List.{List, [], _∷_}
 use Prim.Native.Nat.{_*_, ℕ}
 use lib.Dec.{eqb, leb}
-use Rattle.laws.specs.Out.{Out, andThen, done, reason, refuse, refused}
+use Rattle.laws.specs.Out.{Out, about, after, andThen, done, reason, refuse, refused}
 use Rattle.laws.specs.Pick.{pick}
 use Rattle.numbers.specs.Number.{onNumber, readNumber}
 use Rattle.image.specs.Format.{hasAlpha, hasSize, needs444, odd, sized, withAlpha}
@@ -32,16 +32,19 @@ canvasForm g t a = withAlpha (tileForm (promotesOf g t) (sized t (g .«output_wi
 unfoldable pub spansCanvas : GridDescriptor → Form → Bool
 spansCanvas g t = leb (g .«output_width») (t .width * g .columns) && leb (g .«output_height») (t .height * g .rows)
 
--- ---- tile by tile: 13 another size, 14 another chroma or depth; whether one of them has alpha
+-- ---- tile by tile, with its index: 13 another size, 14 another chroma or depth; whether one of them has alpha
 
 unfoldable pub sameLayout : Form → Form → Bool
 sameLayout t m = eqb (m .format .chroma) (t .format .chroma) && eqb (m .format .depth) (t .format .depth)
 
+unfoldable pub heldTo : Form → ℕ → Form → Out ℕ
+heldTo t a m =
+    refuse (not (hasSize m (t .width) (t .height))) 13
+    (refuse (not (sameLayout t m)) 14 (done (pick (hasAlpha (m .format)) 1 a)))
+
 unfoldable pub alikeFrom : Form → ℕ → List Frame → Out ℕ
 alikeFrom t a [] = done a
-alikeFrom t a (fr ∷ frs) =
-    refuse (not (hasSize (fr .form) (t .width) (t .height))) 13
-    (refuse (not (sameLayout t (fr .form))) 14 (alikeFrom t (pick (hasAlpha (fr .form .format)) 1 a) frs))
+alikeFrom t a (fr ∷ frs) = andThen (about 1 0 (heldTo t a (fr .form))) (λ b. after 1 (alikeFrom t b frs))
 
 unfoldable pub judgeOf : GridDescriptor → ℕ → List Frame → Out Tiles
 judgeOf g at [] = refused (reason 11)

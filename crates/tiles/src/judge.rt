@@ -1,7 +1,7 @@
 // The tiles of a grid's tray: read in turn, held to the first, with every refusal in document 01's order.
 ghost use mathlib.Core.Path.{_≡_};
 ghost use Prim.Native.Nat.{_<_};
-ghost use Rattle.laws.specs.Out.{andThen};
+ghost use Rattle.laws.specs.Out.{andThen, ownReason};
 ghost use Rattle.laws.specs.Pick.{pick};
 ghost use Rattle.image.specs.Format.{hasAlpha};
 ghost use Rattle.records.specs.Tray.{framesAt};
@@ -90,12 +90,16 @@ fn uncovered(g: GridDescriptor, t: Form) -> u8
     12
 }
 
-// The first of two faults that is one.
-fn first_fault(before: u8, here: u8) -> u8
-    ensures { λ r. ⌜ r ≡ pick (eqb before 0) here before ⌝ }
+// The first fault: one that was found before, or what is wrong with tile i. A number of 0 is none.
+fn first_fault(before: Refusal, here: u8, i: u32) -> Refusal
+    ensures { λ r. ⌜ r ≡ pick (eqb (before .number) 0) (ownReason here 1 i) before ⌝ }
 {
-    if before == 0 {
-        return here;
+    if before.number == 0 {
+        return Refusal {
+            number: here,
+            sort: Refusal::RECORD,
+            index: i as u64,
+        };
     }
     before
 }
@@ -119,31 +123,35 @@ fn judge_tiles(tray: &[u8], g: GridDescriptor, at: usize, count: u32) -> TilesRe
     ensures { λ r. ⌜ tilesOut r ≡ andThen (framesAt count (now (tray .entry)) at) (judgeOf g at) ⌝ }
 {
     match records::read_record(tray, at) {
-        FrameRead::Refused(e) => TilesRead::Refused(e),
+        FrameRead::Refused(e) => TilesRead::Refused(e.about(Refusal::RECORD, 0)),
         FrameRead::Read(first) => {
             let tile = first.form;
-            let mut fault: u8 = uncovered(g, tile);
+            let mut fault = Refusal {
+                number: uncovered(g, tile),
+                sort: 0,
+                index: 0,
+            };
             let mut alpha: u32 = 0;
             let mut next = at;
-            let mut left = count;
-            while left > 0 {
+            let mut i: u32 = 0;
+            while i < count {
                 match records::read_record(tray, next) {
                     FrameRead::Refused(e) => {
-                        return TilesRead::Refused(e);
+                        return TilesRead::Refused(e.about(Refusal::RECORD, i as u64));
                     }
                     FrameRead::Read(f) => {
                         let m = f.form;
-                        fault = first_fault(fault, unlike(tile, m));
+                        fault = first_fault(fault, unlike(tile, m), i);
                         alpha = with_tile(alpha, m);
                         next = f.end;
                     }
                 }
-                left -= 1;
+                i += 1;
             }
             if next < tray.len() {
                 return TilesRead::Refused(Refusal::MALFORMED);
             }
-            if fault == 0 {
+            if fault.number == 0 {
                 return TilesRead::Read(Tiles {
                     desc: g,
                     tile,
@@ -151,16 +159,13 @@ fn judge_tiles(tray: &[u8], g: GridDescriptor, at: usize, count: u32) -> TilesRe
                     first: at,
                 });
             }
-            TilesRead::Refused(Refusal {
-                number: fault,
-                sort: 0,
-                index: 0,
-            })
+            TilesRead::Refused(fault)
         }
     }
 }
 
-// The tiles of a body and a tray. Refusals: 5 tray count unreadable; the body's; 11; the records'; 12; 13 and 14.
+// The tiles of a body and a tray. Refusals: 5 tray count unreadable; the body's; 11; the records'; 12; 13 and 14. A record's own refusal
+// has its index, and so have 13 and 14.
 pub fn read_tiles(body: &[u8], tray: &[u8]) -> TilesRead
     ensures { λ r. ⌜ tilesOut r ≡ tilesOf (now (body .entry)) (now (tray .entry)) ⌝ }
 {

@@ -3,7 +3,7 @@ use mathlib.Core.Bool.{_&&_, _||_, false, not}
 use mathlib.Core.List.{List, [], _∷_}
 use Prim.Native.Nat.{_+_, ℕ}
 use lib.Dec.{eqb, leb, ltb}
-use Rattle.laws.specs.Out.{Out, andThen, done, refuse, refused}
+use Rattle.laws.specs.Out.{Out, andThen, done, refuseItem, refused}
 use Rattle.laws.specs.Pick.{pick}
 use Rattle.image.specs.Format.{bytesOf, hasAlpha, isMono, needs444, odd, topOf}
 use Rattle.records.specs.Tray.{framesAt}
@@ -19,6 +19,8 @@ use Rattle.inputs.specs.declared.alpha_check.AlphaPlane.{AlphaPlane}
 use Rattle.inputs.specs.declared.read.InputSummary.{InputSummary}
 use Rattle.inputs.specs.declared.read.Plan.{Plan}
 use Rattle.inputs.specs.declared.read.PlanRead.{PlanRead}
+use Rattle.inputs.specs.Inputs.{otherDepth}
+use Rattle.inputs.specs.declared.alpha_check.AlphaRead.{AlphaRead}
 
 unfoldable pub summarised : InputSummary → PixelFormat → Form → Placement → InputSummary
 summarised n f m o = record {
@@ -52,12 +54,17 @@ abbrev pub planOut : PlanRead → Out Plan
 planOut (PlanRead.Read q) = done q
 planOut (PlanRead.Refused e) = refused e
 
-unfoldable pub summaryPlan : OverlayDescriptor → ℕ → PixelFormat → InputSummary → Out Plan
-summaryPlan d first f n = refuse (n .«other_depth») 14 (done (record { descriptor = d; first = first; form = summaryForm d f n; alpha = n .alpha }))
+unfoldable pub summaryPlan : OverlayDescriptor → ℕ → PixelFormat → List Frame → InputSummary → Out Plan
+summaryPlan d first f frs n = refuseItem 1 (otherDepth f) 14 frs (done (record { descriptor = d; first = first; form = summaryForm d f n; alpha = n .alpha }))
 
 -- the records of a body that was taken
 unfoldable pub framesPlan : List ℕ → List ℕ → OverlayDescriptor → ℕ → PixelFormat → Out Plan
-framesPlan body tray d first f = andThen (framesAt (d .count) tray first) (λ frs. summaryPlan d first f (summaryOf body d f (emptySummary d) 0 frs))
+framesPlan body tray d first f = andThen (framesAt (d .count) tray first) (λ frs. summaryPlan d first f frs (summaryOf body d f (emptySummary d) 0 frs))
+
+-- what holding alpha samples to top answers
+abbrev pub alphaOut : AlphaRead → Out Unit
+alphaOut AlphaRead.Within = done tt
+alphaOut (AlphaRead.Refused e) = refused e
 
 -- a record's alpha plane: no rows where it has none, or cannot be read
 unfoldable pub noAlpha : ℕ → AlphaPlane

@@ -1,13 +1,12 @@
-use mathlib.Core.List.{List}
-use mathlib.Core.Path.{_∙_, _≡_, ap, sym}
+use mathlib.Core.Path.{_∙_, ap, sym}
 use native.Mathlib.Omega.{arith}
 use borrow.Author.Needs.{needs}
+use Prim.Native.Nat.{_-_}
 use Rattle.laws.proofs.Out.{then-done}
-use Rattle.laws.specs.Out.{andThen, done}
-use Rattle.props.proofs.ChainLaws.{along-end, along-refused, along-step, entries-read}
-use Rattle.props.specs.Chain.{entriesAt, foldChain}
+use Rattle.laws.specs.Out.{andThen, refused}
+use Rattle.props.proofs.ChainLaws.{Along, along-begins, along-ends, along-next, along-refused, along-stands}
+use Rattle.props.specs.Chain.{entriesAt}
 use Rattle.props.specs.Entry.{entryOut}
-use Rattle.props.specs.declared.entry.PropertyEntry.{PropertyEntry}
 use Rattle.sight.proofs.Steps.{entry-bounded, sight-start, start-bounded}
 use Rattle.sight.proofs.reduce_judged.Statement.{statement}
 use Rattle.sight.specs.Sight.{sightAfter, sightOf, sightOut}
@@ -15,18 +14,18 @@ use Rattle.sight.specs.inner.Bounded.{Bounded}
 use Rattle.sight.proofs.reduce_judged.Tie as tie
 use Rattle.sight.proofs.reduce_judged.Reads as reads
 use Rattle.sight.proofs.reduce_judged.Lts as lts
+use Rattle.laws.proofs.Refusal.about.Reads as about-reads
 use Rattle.props.proofs.read_entry.Reads as read-entry-reads
 use Rattle.sight.proofs.Sight.after_entry.Reads as after-entry-reads
 use Rattle.sight.proofs.Sight.new.Reads as new-reads
 
 abbrev Inv-loop : tie.InvT-loop
-Inv-loop s essential-only width height next₀ left₀ reached₀ next left reached =
-    (rest : List PropertyEntry) × (entriesAt left s next ≡ done rest)
-    × (andThen (entriesAt left₀ s next₀) (λ es. sightOf es essential-only width height) ≡ foldChain sightAfter essential-only rest reached)
+Inv-loop s essential-only width height count next₀ i₀ reached₀ next i reached =
+    Along sightAfter essential-only count s (andThen (entriesAt count s next₀) (λ es. sightOf es essential-only width height)) i next reached
     × Bounded (reached .area)
 
 abbrev μ-loop : tie.MeasureT-loop
-μ-loop s essential-only width height next₀ left₀ reached₀ next left reached = left
+μ-loop s essential-only width height count next₀ i₀ reached₀ next i reached = count - i
 
 new-requires : tie.Need-new-requires Inv-loop μ-loop
 new-requires c κs = search needs
@@ -34,9 +33,7 @@ new-requires c κs = search needs
 loop-holds : tie.Need-loop-holds Inv-loop μ-loop
 loop-holds c =
     let start = c .before .before in (
-      start .pre .entries,
-      start .pre .read,
-      then-done _ (start .pre .read) ∙ sight-start (start .pre .entries) _ _ _ _ (c .new .ensures),
+      along-begins _ _ _ _ _ _ _ _ (start .pre .read) (then-done _ (start .pre .read) ∙ sight-start (start .pre .entries) _ _ _ _ (c .new .ensures)),
       start-bounded _ _ _ (c .new .ensures) (omega (arith, start .fits .width)) (omega (arith, start .fits .height)),
     )
 
@@ -50,30 +47,42 @@ enum-told : tie.Need-enum-told Inv-loop μ-loop
 enum-told c = search needs
 
 returns : tie.Need-returns Inv-loop μ-loop
-returns c = entries-read _ _ _ _ _ (c .before .before .before .loop-test .taken) (c .before .before .before .before .loop .inv .1) (sym (c .before .before .read-entry .ensures) ∙ ap entryOut (c .enum-told .given .1))
+returns c =
+    let loop = c .before .before .before .before .loop in
+    let loop-test = c .before .before .before .loop-test in
+    along-stands _ _ _ _ _ _ _ _ (loop .inv .0) (loop-test .taken) _ (sym (c .before .before .read-entry .ensures) ∙ ap entryOut (c .enum-told .given .1))
 
 after-entry-requires : tie.Need-after-entry-requires Inv-loop μ-loop
-after-entry-requires c κs = c .before .before .before .before .before .before .loop .inv .3
+after-entry-requires c κs =
+    let loop = c .before .before .before .before .before .before .loop in
+    loop .inv .1
 
 enum-known-r : tie.Need-enum-known-r Inv-loop μ-loop
 enum-known-r c = search needs
 
+cast-about : tie.Need-cast-about Inv-loop μ-loop
+cast-about c = search needs
+
+about-requires : tie.Need-about-requires Inv-loop μ-loop
+about-requires c κs = search needs
+
 returns-2 : tie.Need-returns-2 Inv-loop μ-loop
 returns-2 c =
-    let e = c .before .before .before .before .before .before .e in
-    let read-entry = c .before .before .before .before .before .before .before .before .read-entry in
-    let in-loop = c .before .before .before .before .before .before .before .before .before in
-    let loop-test = in-loop .loop-test in
-    let loop = in-loop .before .loop in
-    sym (loop .inv .2
-    ∙ along-refused _ _ _ _ _ _ _ (loop .inv .1) _ _ (loop-test .taken) (sym (read-entry .ensures) ∙ ap entryOut (e .given .1))
-    (sym (c .before .before .before .after-entry .ensures) ∙ ap sightOut (c .before .r .given .1)))
+    let after-entry = c .before .before .before .before .after-entry in
+    let e = c .before .before .before .before .before .before .before .e in
+    let after-read-entry = c .before .before .before .before .before .before .before .before .before in
+    let read-entry = after-read-entry .read-entry in
+    let loop-test = after-read-entry .before .loop-test in
+    let loop = after-read-entry .before .before .loop in
+    ap (λ r. refused r) (c .about .ensures)
+    ∙ sym (along-refused _ _ _ _ _ _ _ _ (loop .inv .0) (loop-test .taken) _ _ (sym (read-entry .ensures) ∙ ap entryOut (e .given .1))
+    (sym (after-entry .ensures) ∙ ap sightOut (c .before .before .r .given .1)))
 
 enum-known-z : tie.Need-enum-known-z Inv-loop μ-loop
 enum-known-z c = search needs
 
-sub-left : tie.Need-sub-left Inv-loop μ-loop
-sub-left c = search needs
+add-i : tie.Need-add-i Inv-loop μ-loop
+add-i c = search needs
 
 loop-less : tie.Need-loop-less Inv-loop μ-loop
 loop-less c = search needs
@@ -85,12 +94,13 @@ loop-again c =
     let in-loop = c .before .before .before .before .before .before .before .before .before in
     let loop-test = in-loop .loop-test in
     let loop = in-loop .before .loop in
-    let q = sym (c .before .before .before .after-entry .ensures) ∙ ap sightOut (c .before .z .given .1) in
-    let k = along-step _ _ _ _ _ _ _ (loop .inv .1) _ _ (loop-test .taken) (sym (read-entry .ensures) ∙ ap entryOut (e .given .1)) q in
-    (k .0, k .1, loop .inv .2 ∙ k .2, entry-bounded _ _ _ _ (loop .inv .3) q)
+    let q = sym (c .before .before .before .after-entry .ensures) ∙ ap sightOut (c .before .z .given .1) in (
+      along-next _ _ _ _ _ _ _ _ (loop .inv .0) (loop-test .taken) _ _ (sym (read-entry .ensures) ∙ ap entryOut (e .given .1)) q,
+      entry-bounded _ _ _ _ (loop .inv .1) q,
+    )
 
 returns-3 : tie.Need-returns-3 Inv-loop μ-loop
-returns-3 c = sym (c .before .loop .inv .2 ∙ along-end _ _ _ _ _ _ _ (c .before .loop .inv .1) (c .loop-test .left))
+returns-3 c = sym (along-ends _ _ _ _ _ _ _ _ (c .before .loop .inv .0) (c .loop-test .left))
 
 pub reduce-judged-spec : {M : Type 1} → statement M
 reduce-judged-spec =
@@ -106,9 +116,11 @@ reduce-judged-spec =
     returns
     after-entry-requires
     enum-known-r
+    cast-about
+    about-requires
     returns-2
     enum-known-z
-    sub-left
+    add-i
     loop-less
     loop-again
     returns-3)

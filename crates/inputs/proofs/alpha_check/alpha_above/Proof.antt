@@ -1,12 +1,10 @@
-use mathlib.Core.Bool.{false}
 use mathlib.Core.Path.{_∙_, _≡_, ap, refl, sym}
-use Prim.Native.Nat.{_-_, _<_, _≤_, ℕ}
+use Prim.Native.Nat.{_+_, _-_, _<_, _≤_, ℕ}
 use native.Mathlib.Nat.{lt-of-lt-of-le, sub-zero}
 use native.Mathlib.Omega.{arith}
 use denote.Ref.{now}
 use borrow.Author.Count.{below-more, below-none}
 use borrow.Author.Needs.{needs}
-use Rattle.laws.specs.Any.{any}
 use Rattle.laws.specs.Puts.{Bytes}
 use Rattle.records.specs.inner.Frames.{framesFrom}
 use Rattle.planes.proofs.ByteLaws.{data-bytes}
@@ -15,6 +13,7 @@ use Rattle.inputs.proofs.BlendLaws.{less-one}
 use Rattle.inputs.proofs.FrameLaws.{searched-all, searched-few, seen-clear, seen-found, seen-inside, seen-shown, some-none}
 use Rattle.inputs.proofs.alpha_check.alpha_above.Statement.{statement}
 use Rattle.inputs.specs.Inputs.{alphaAbove}
+use Rattle.inputs.specs.inner.Sought.{foundAt}
 use Rattle.inputs.proofs.alpha_check.alpha_above.Tie as tie
 use Rattle.inputs.proofs.alpha_check.alpha_above.Reads as reads
 use Rattle.inputs.proofs.alpha_check.alpha_above.Lts as lts
@@ -24,19 +23,22 @@ use Rattle.inputs.proofs.alpha_check.alpha_at.Reads as alpha-at-reads
 use Rattle.inputs.proofs.alpha_check.searched_rows.Reads as searched-rows-reads
 
 abbrev Inv-loop2 : tie.InvT-loop2
-Inv-loop2 tray first count top found₀ at i q bytes stride plane rows columns y x₀ found x = (x ≤ columns) × (found ≡ false) × ((k : ℕ) → k < x → sampleIn plane bytes stride k y ≤ top)
+Inv-loop2 tray first count top found₀ at i q bytes stride plane rows columns y x₀ found x = (x ≤ columns) × (found ≡ count) × ((k : ℕ) → k < x → sampleIn plane bytes stride k y ≤ top)
 
 abbrev μ-loop2 : tie.MeasureT-loop2
 μ-loop2 tray first count top found₀ at i q bytes stride plane rows columns y x₀ found x = columns - x
 
 abbrev Inv-loop : tie.InvT-loop
-Inv-loop tray first count top found₀ at i q bytes stride plane rows columns y₀ found y = (y ≤ rows) × (found ≡ false) × ((k : ℕ) → k < y → (x : ℕ) → x < columns → sampleIn plane bytes stride x k ≤ top)
+Inv-loop tray first count top found₀ at i q bytes stride plane rows columns y₀ found y =
+    (y ≤ rows) × (found ≡ count) × ((k : ℕ) → k < y → (x : ℕ) → x < columns → sampleIn plane bytes stride x k ≤ top)
 
 abbrev μ-loop : tie.MeasureT-loop
 μ-loop tray first count top found₀ at i q bytes stride plane rows columns y₀ found y = rows - y
 
 abbrev Inv-search : tie.InvT-search
-Inv-search tray first count top found₀ at₀ i₀ found at i = (i ≤ count) × (found ≡ false) × (any (alphaAbove tray top) (framesFrom count tray first) ≡ any (alphaAbove tray top) (framesFrom (count - i) tray at))
+Inv-search tray first count top found₀ at₀ i₀ found at i =
+    (i ≤ count) × (found ≡ count)
+    × (foundAt 0 (alphaAbove tray top) (framesFrom count tray first) count ≡ foundAt i (alphaAbove tray top) (framesFrom (count - i) tray at) count)
 
 abbrev μ-search : tie.MeasureT-search
 μ-search tray first count top found₀ at₀ i₀ found at i = count - i
@@ -55,7 +57,10 @@ alpha-at-requires : tie.Need-alpha-at-requires Inv-loop2 μ-loop2 Inv-loop μ-lo
 alpha-at-requires c κs = search needs
 
 plane-data-requires : tie.Need-plane-data-requires Inv-loop2 μ-loop2 Inv-loop μ-loop Inv-search μ-search
-plane-data-requires c κs = seen-inside (now (c .before .before .before .before .before .args .tray)) (c .before .before .before .search .at) (c .before .before .before .before .before .args .top) (c .before .alpha-at .result) _ (c .before .alpha-at .ensures) refl
+plane-data-requires c κs =
+    let start = c .before .before .before .before .before in
+    seen-inside (now (start .args .tray)) (c .before .before .before .search .at) (start .args .top) (c .before .alpha-at .result) _
+    (c .before .alpha-at .ensures) refl
 
 searched-rows-requires : tie.Need-searched-rows-requires Inv-loop2 μ-loop2 Inv-loop μ-loop Inv-search μ-search
 searched-rows-requires c κs = search needs
@@ -117,7 +122,6 @@ cleared c y g x h =
 
 search-again : tie.Need-search-again Inv-loop2 μ-loop2 Inv-loop μ-loop Inv-search μ-search
 search-again c =
-    let plane-data = c .before .before .before .plane-data in
     let alpha-at = c .before .before .before .before .before .alpha-at in
     let search-test = c .before .before .before .before .before .before .search-test in
     let search′ = c .before .before .before .before .before .before .before .search in
@@ -126,15 +130,14 @@ search-again c =
       c .before .loop .inv .1,
       search′ .inv .2
           ∙ seen-clear (now (start .args .tray)) (search′ .at) (start .args .top) (alpha-at .result) _ (alpha-at .ensures)
-          (plane-data .ensures) _ (omega (arith, search-test .taken))
-          (cleared c)
-          ∙ ap
-          (λ (k : ℕ). any (alphaAbove (now (start .args .tray)) (start .args .top)) (framesFrom k (now (start .args .tray)) (alpha-at .result .end)))
+          (c .before .before .before .plane-data .ensures) _ _ _ (omega (arith, search-test .taken)) (cleared c)
+          ∙ ap (λ (k : ℕ). foundAt (search′ .i + 1) (alphaAbove (now (start .args .tray)) (start .args .top))
+          (framesFrom k (now (start .args .tray)) (alpha-at .result .end)) (start .args .count))
           (less-one _ _),
     )
 
 returns : tie.Need-returns Inv-loop2 μ-loop2 Inv-loop μ-loop Inv-search μ-search
-returns c = c .before .search .inv .1 ∙ sym (c .before .search .inv .2 ∙ some-none _ _ _ _ (omega (arith, c .search-test .left)))
+returns c = c .before .search .inv .1 ∙ sym (c .before .search .inv .2 ∙ some-none _ _ _ _ _ _ (omega (arith, c .search-test .left)))
 
 returns-2 : tie.Need-returns-2 Inv-loop2 μ-loop2 Inv-loop μ-loop Inv-search μ-search
 returns-2 c =
@@ -146,7 +149,7 @@ returns-2 c =
     let search′ = in-search .before .search in
     let start = in-search .before .before .before in
     sym (search′ .inv .2
-    ∙ seen-found (now (start .args .tray)) (search′ .at) (start .args .top) (alpha-at .result) _ (alpha-at .ensures) (plane-data .ensures) _
+    ∙ seen-found (now (start .args .tray)) (search′ .at) (start .args .top) (alpha-at .result) _ (alpha-at .ensures) (plane-data .ensures) _ _ _
     (c .before .before .before .loop2 .x) (loop .y) (omega (arith, search-test .taken)) (c .before .before .loop2-test .taken) (in-rows (c .before .before .before .before))
     (rw (c .before .sample .ensures) at (c .if1 .taken)))
 
