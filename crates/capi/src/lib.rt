@@ -11,4 +11,5 @@ mod read;
 mod rooms;
 mod scaling;
 mod scenes;
+mod sentences;
 mod spots;

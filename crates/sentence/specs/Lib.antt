@@ -1,0 +1,4 @@
+pub mod Table
+pub mod Sentence
+pub mod Told
+pub mod inner
