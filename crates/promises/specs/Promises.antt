@@ -4,13 +4,16 @@ use mathlib.Core.Bool.{Bool, false, true}
 use mathlib.Core.List.{List, [], _++_, _∷_}
 use mathlib.Core.Path.{_≡_}
 use Prim.Native.Nat.{_*_, _+_, _-_, _<_, _^_, _≤_, ℕ}
-use lib.Dec.{ltb}
+use lib.Dec.{eqb, ltb}
 use lib.IntN.{subℕ, ℤ}
 use lib.ListN.{drop, getD, length, take}
+use mathlib.Core.Logic.{_⊎_}
 use Rattle.laws.specs.Any.{any}
 use Rattle.laws.specs.Ascii.{ascii}
-use Rattle.laws.specs.Out.{Out, andThen, done, fitted, reason, refused}
+use Rattle.laws.specs.Out.{Out, andThen, done, fitted, isDone, reason, refuseItem, refused}
 use Rattle.laws.specs.Puts.{Bytes}
+use Rattle.laws.specs.declared.Refusal.{Refusal}
+use Rattle.laws.specs.Pick.{pick}
 use Rattle.numbers.specs.Field.{offsetOf}
 use Rattle.numbers.specs.Number.{numberBytes, readNumber}
 use Rattle.numbers.specs.declared.NumberRead.the-variants.{Number}
@@ -22,6 +25,7 @@ use Rattle.image.specs.declared.format.Part.{Part}
 use Rattle.image.specs.declared.format.Part.the-variants.{Alpha}
 use Rattle.records.specs.declared.record.Frame.{Frame}
 use Rattle.image.specs.declared.size.Size.{Size}
+use Rattle.records.specs.Tray.{framesAt}
 use Rattle.planes.specs.Bytes.{decode, encode, pictureIn, sizeOf}
 use Rattle.planes.specs.Picture.{Agree, Pic, pixel}
 use Rattle.figures.specs.Figure.{AllWithin, figuresOf}
@@ -33,7 +37,7 @@ use Rattle.derived.specs.declared.grid.GridDescriptor.{GridDescriptor}
 use Rattle.sizes.specs.Aperture.{ExactRect, resolveOf}
 use Rattle.sizes.specs.Margins.{Around, between}
 use Rattle.sizes.specs.Sound.{Inside}
-use Rattle.props.specs.Chain.{foldChain}
+use Rattle.props.specs.Chain.{applies, entriesAt, foldChain}
 use Rattle.sizes.specs.Scale.{scaledSide}
 use Rattle.props.specs.Size.{sizeAfter}
 use Rattle.sizes.specs.declared.clap.Clap.{Clap}
@@ -51,18 +55,22 @@ use Rattle.sampling.specs.Depth.{levelOf, rescaled}
 use Rattle.sampling.specs.Nearest.{nearest}
 use Rattle.grid.specs.Mosaic.{among}
 use Rattle.grid.specs.Run.{framesIn, gridRun}
-use Rattle.tiles.specs.Tiles.{countOf, tilesOf}
+use Rattle.tiles.specs.Tiles.{alikeFrom, countOf, heldTo, tilesOf}
 use Rattle.tiles.specs.declared.judge.Tiles.{Tiles}
 use Rattle.inputs.specs.Inputs.{Inputs, firstFormat, inputsAt}
 use Rattle.inputs.specs.Layers.{layersOf}
+use Rattle.sentence.specs.Sentence.{sentenceRun}
+use Rattle.sentence.specs.Told.{readBack, told}
 use Rattle.overlay.specs.Covered.{AllCut, endsAs, hides, topmost}
 use Rattle.blend.specs.Overlay.{coversAt}
+use Rattle.items.specs.Items.{FirstItem, LeftOver, OwnItem, OwnStep, pastEntry, pastRecord}
 use Rattle.overlay.specs.Run.{composed, fillFor}
 use Rattle.sequence.specs.Sequence.{Call, MadeBy, alphaNumber, blank, callsRun, cellAt, cellIn, drawnAt, drawnPic, firstTile, leftAt, leftBytes, pictureOf, place, sessionRun}
 use Rattle.session.specs.Session.{CanvasAfter, blankAt, reservedForm}
 use Rattle.session.specs.State.{stateOk}
 use Rattle.session.specs.declared.state.Canvas.{Canvas}
-use Rattle.stages.specs.Chain.{Drawn}
+use Rattle.sight.specs.Sight.{sightAfter, sightOf, whole}
+use Rattle.stages.specs.Chain.{Drawn, chainDrawn, drawnAfter, firstDrawn}
 use Rattle.scene_room.specs.Scene.{gridDrawn, gridScene, overlayDrawn, overlayScene}
 use Rattle.agreement.specs.Agreement.{Agreement, CarriedFrom, CarriedTo, NoAlpha, NoScaling, Room, canvasHeight, canvasWidth, chainCarries, chainSight, noChain}
 use Rattle.point.specs.Read.{InTray, gridReads, overlayReads}
@@ -157,6 +165,34 @@ pub record Promises : Type 0 where
   pub isclLeast : (side num den m : ℕ) → 0 < den → side * num ≤ m * den → scaledSide side num den ≤ m
   -- "Limit L is 2^30 pixels": no chain makes a picture above it, or one without columns or rows
   pub chainWithin : (essentialOnly : Bool) (es : List PropertyEntry) (z y : Size) → SizeSound z → foldChain sizeAfter essentialOnly es z ≡ done y → SizeSound y
+  -- ---- document 02, A2: which item a refusal names, and its sentence
+
+  -- "a tray record's own refusal … carry the record's … index, counted from 0 … Bytes left over … carry none": the record that is named is
+  -- the one that is refused, and those before it are taken
+  pub trayNames : (n : ℕ) (tray : List ℕ) (at : ℕ) (r : Refusal) → framesAt n tray at ≡ refused r → OwnItem (pastRecord tray) 1 n at r ⊎ LeftOver (pastRecord tray) n at (length tray) r
+  -- "13, 14": the tile that is named is not as the first, and those before it are
+  pub tileNames : (t : Form) (a : ℕ) (tiles : List Frame) (r : Refusal) → alikeFrom t a tiles ≡ refused r → OwnStep (λ l b. alikeFrom t b l) (λ fr b. heldTo t b (fr .form)) 1 tiles a r
+  -- "14, 16, an input's 18": the input that is named is the first with another depth, with an alpha sample above top, with alpha
+  pub inputNames : (test : Frame → Bool) (n : ℕ) (inputs : List Frame) (r : Refusal) → refuseItem 1 test n inputs (done inputs) ≡ refused r → FirstItem test 1 n inputs r
+  -- "a chain entry's refusal, its form included": of the form, and when it is applied, by a picture run and by a point run; skipped entries
+  -- count
+  pub chainNames : (n : ℕ) (chain : List ℕ) (at : ℕ) (r : Refusal) → entriesAt n chain at ≡ refused r → OwnItem (pastEntry chain) 2 n at r ⊎ LeftOver (pastEntry chain) n at (length chain) r
+  pub drawnNames : (es : List PropertyEntry) (essentialOnly : Bool) (P : Pic) (r : Refusal) → chainDrawn es essentialOnly P ≡ refused r
+      → OwnStep (foldChain drawnAfter essentialOnly) (λ e d. pick (applies essentialOnly e) (drawnAfter (e .property) d) (done d)) 2 es (firstDrawn P) r
+  pub sightNames : (es : List PropertyEntry) (essentialOnly : Bool) (width height : ℕ) (r : Refusal) → sightOf es essentialOnly width height ≡ refused r
+      → OwnStep (foldChain sightAfter essentialOnly) (λ e s. pick (applies essentialOnly e) (sightAfter (e .property) s) (done s)) 2 es (whole width height) r
+  -- "Compose a sentence from the number and, where there is one, the index and its sort, in German (0) or English (1)"
+  pub sentenceExamples : (sentenceRun 17 0 9 0 192 ≡ done (ascii "17: Ein bereitgestellter Puffer ist zu kurz."))
+      × (sentenceRun 13 1 4 0 192 ≡ done (ascii "13: Eine Kachel ist nicht so groß wie die erste (Bild 4)."))
+      × (sentenceRun 13 1 4 1 192 ≡ done (ascii "13: A tile is not the same size as the first one (record 4)."))
+      × (sentenceRun 10 2 255 1 192 ≡ done (ascii "10: A side would be too long after scaling (entry 255)."))
+  -- "Both languages have a sentence for every refusal number", with every sort; 192 bytes are room enough
+  pub sentenceThere : (number sort index language room : ℕ) → 1 ≤ number → number ≤ 18 → sort ≤ 2 → language ≤ 1 → 192 ≤ room → isDone (sentenceRun number sort index language room) ≡ true
+  -- "It refuses 5 for a number or language that has no sentence": nothing else has one
+  pub sentenceKnown : (number sort index language room : ℕ) (bs : List ℕ) → sentenceRun number sort index language room ≡ done bs → (1 ≤ number) × (number ≤ 18) × (sort ≤ 2) × (language ≤ 1)
+  -- "From a sentence alone, language, number, index and sort can be read back", for every index of 64 bits; sort 0 has none
+  pub sentenceReadBack : (number sort index language room : ℕ) (bs : List ℕ) → index < 2 ^ 64 → sentenceRun number sort index language room ≡ done bs
+      → readBack bs ≡ told language number sort (pick (eqb sort 0) 0 index)
   -- ---- "Steps program"
 
   -- "Input 6 4 2 2 1 1 3 0 1 (decimal bytes) gives, whole"
