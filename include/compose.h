@@ -19,17 +19,20 @@ extern "C" {
 
 /* The version of these calls: major * 10000 + minor * 100 + patch, as the crate's in rust/Cargo.toml is. It grows when a
  * call is added or changed. */
-#define COMPOSE_API_VERSION 400
+#define COMPOSE_API_VERSION 500
 
 /* Every call answers a number of 64 bits. Below 2^63 it is a length, a count, or 0 where there is none; from there on
- * it is 2^63 + the number of a refusal, and then nothing was written. */
+ * it is a refusal, and then nothing was written: 2^63, and in bits 0 to 7 its number, in bits 8 to 15 the sort of the item
+ * whose own refusal it is, in bits 16 to 55 the item's index, from 0 (one above 2^40 - 1 as that number). */
 #define COMPOSE_REFUSED UINT64_C(0x8000000000000000)
 
 /* Whether an answer is a refusal. */
 #define COMPOSE_IS_REFUSAL(answer) ((answer) >= COMPOSE_REFUSED)
 
-/* The number of a refusal. */
+/* The number of a refusal, the sort of its item, and the item's index. compose_sentence takes all three. */
 #define COMPOSE_REFUSAL(answer) ((int)((answer) & 0xff))
+#define COMPOSE_SORT(answer) ((int)((answer) >> 8 & 0xff))
+#define COMPOSE_INDEX(answer) ((uint64_t)(answer) >> 16 & UINT64_C(0xffffffffff))
 
 /* The refusals (document 01, "Refusals in order"). */
 enum compose_refusal {
@@ -52,6 +55,31 @@ enum compose_refusal {
     COMPOSE_ROOM = 17,      /* a lent buffer that is too short */
     COMPOSE_POINT = 18      /* no point answer */
 };
+
+/* The sorts of items. A call on a tray (compose_tray; grids, overlays, their scenes, room and points) says which record it
+ * refuses: by the record's own refusal, where the tray lacks it, too; by 13, 14 or 16; by 18 as an input with alpha. A call
+ * on a chain (compose_chain, compose_transforms; scenes, room and points) says which entry: by its form, where the chain
+ * lacks it, too, and when it is applied. Every entry counts, also one that is skipped. All else is of no item: counts, bytes
+ * left over, bodies, 11, 12, 15, 17, 18 for a place, the one record of compose_transforms, and the refusals of other calls. */
+enum compose_sort {
+    COMPOSE_NO_ITEM = 0,
+    COMPOSE_RECORD = 1,     /* a record of the tray */
+    COMPOSE_ENTRY = 2       /* an entry of the chain */
+};
+
+/* The languages of sentences. */
+enum compose_language {
+    COMPOSE_GERMAN = 0,
+    COMPOSE_ENGLISH = 1
+};
+
+/* No sentence has more bytes. */
+#define COMPOSE_SENTENCE 192
+
+/* The sentence of a refusal, in UTF-8 with no 0 behind it, at the start of `out`; what is past it stays. It is the number,
+ * the reason, and the item with its index; with COMPOSE_NO_ITEM the index is not looked at. Answers its length. Refusals: 5
+ * a number, a sort or a language that there is not; 17 an `out` that is shorter. */
+uint64_t compose_sentence(uint32_t number, uint8_t sort, uint64_t index, uint8_t language, uint8_t *out, size_t out_len);
 
 /* What a record says, in 17 words: width, height, chroma, depth, alpha; then of luma, Cb, Cr and alpha each where its
  * bytes start, how many they are, and its stride. Answers 0. Refusals: the record's; 17 an answer below 17 words. */

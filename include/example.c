@@ -1,4 +1,5 @@
-/* Joins two tiles, turns the picture, prints it, and asks what its top left place shows; then asks for a place outside.
+/* Joins two tiles, turns the picture, prints it, and asks what its top left place shows; then asks for a place outside,
+ * and how many records a tray has that is cut short, and says why both are refused.
  *
  *     cc -I include include/example.c target/staticlib/libcapi.a -o target/example && target/example
  */
@@ -15,11 +16,15 @@ static const uint8_t tray[] = {2, 2, 2, 0, 8, 0, 2, 4, 1, 2, 3, 4, 2, 2, 0, 8, 0
 /* One property: an irot, essential, a quarter turn. */
 static const uint8_t chain[] = {1, 2, 1, 1};
 
+/* Whether a call refused; then the sentence says why. */
 static int refused(uint64_t answer)
 {
+    uint8_t sentence[COMPOSE_SENTENCE];
     if (!COMPOSE_IS_REFUSAL(answer))
         return 0;
-    printf("refused %d\n", COMPOSE_REFUSAL(answer));
+    uint64_t length = compose_sentence(COMPOSE_REFUSAL(answer), COMPOSE_SORT(answer), COMPOSE_INDEX(answer),
+                                       COMPOSE_ENGLISH, sentence, sizeof sentence);
+    printf("%.*s\n", (int)length, (const char *)sentence);
     return 1;
 }
 
@@ -63,6 +68,8 @@ int main(void)
     print(output, (size_t)length);
     ask(0, 0);
     ask(2, 0);
+    printf("cut short: ");
+    refused(compose_tray(tray, sizeof tray - 1));
     free(output);
     free(spare);
     return 0;

@@ -90,7 +90,7 @@ impl GridCanvas {
         let state = self.state.as_mut().map_err(|refusal| *refusal)?;
         let index = cell(index);
         match sys::compose_canvas_place(state, index, tile, &mut self.buffer) {
-            Err(Refusal::ROOM) => {}
+            Err(refusal) if refusal.is(Refusal::ROOM) => {}
             answer => return answer.map(drop),
         }
         // Only the first tile that is accepted finds too little room: the canvas's record has an

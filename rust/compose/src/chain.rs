@@ -15,6 +15,7 @@
 //!
 //! let refusal = chain::entries(&bytes[..6]).unwrap_err();
 //! assert_eq!((refusal.number(), refusal.name()), (5, "malformed"));
+//! assert_eq!(refusal.index(), Some(1));
 //! # Ok::<(), compose::Refusal>(())
 //! ```
 

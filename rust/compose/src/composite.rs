@@ -19,7 +19,7 @@ use crate::plan::{self, Asked};
 use crate::props::Colr;
 use crate::record::{LONGEST_NUMBER, push_number};
 use crate::sys::Fresh;
-use crate::{Refusal, Result, stock};
+use crate::{About, Refusal, Result, stock};
 
 /// One input of an overlay.
 #[derive(Clone, Debug)]
@@ -57,7 +57,8 @@ pub(crate) trait Recorded {
 fn tray_of<'a, F: Recorded + 'a>(frames: impl Iterator<Item = &'a F> + Clone) -> Result<Vec<u8>> {
     let (mut size, mut count) = (LONGEST_NUMBER, 0u32);
     for frame in frames.clone() {
-        frame.judge()?;
+        let own = |refusal: Refusal| refusal.of_item(About::Record, count.into());
+        frame.judge().map_err(own)?;
         size += frame.record_size();
         count = count.checked_add(1).ok_or(Refusal::MALFORMED)?;
     }
@@ -137,8 +138,8 @@ pub fn composite_overlay(
 #[cfg(test)]
 mod tests {
     use super::overlay;
-    use crate::OverlayDescriptor;
     use crate::record::push_number;
+    use crate::{OverlayDescriptor, Refusal};
 
     /// As many inputs as there may be, each one pixel, laid over a canvas of 256 × 256; and one more.
     #[test]
@@ -159,6 +160,6 @@ mod tests {
         let samples = &made[made.len() - 65_536..];
         assert!((0..65_536).all(|at| samples[at] == (at % 251) as u8));
         let refusal = overlay(&body(65_537), &tray(65_537), &[0; 65_537], None).unwrap_err();
-        assert_eq!(refusal.number(), 4);
+        assert_eq!(refusal, Refusal::LIMIT);
     }
 }

@@ -186,7 +186,7 @@ impl OverlayDescriptor {
         let body = self.to_bytes();
         match sys::compose_overlay_descriptor(&body, inputs(count), &mut [0; 6]) {
             // The fields are all there: it is the offsets that are fewer.
-            Err(Refusal::SHORT) => return Err(Refusal::COUNT),
+            Err(refusal) if refusal.is(Refusal::SHORT) => return Err(Refusal::COUNT),
             judged => judged?,
         };
         if count == 0 {

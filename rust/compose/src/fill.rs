@@ -47,5 +47,5 @@ pub fn samples(fill: [u16; 3], depth: u32, colr: Option<&Colr>) -> Result<[u16; 
 #[inline]
 pub fn fill_to_ycbcr(fill: [u16; 3], depth: u8, colr: Option<&Colr>) -> [u16; 3] {
     samples(fill, u32::from(depth), colr)
-        .unwrap_or_else(|refusal| panic!("{refusal}: a fill at depth {depth}"))
+        .unwrap_or_else(|refusal| panic!("a fill at depth {depth}: {refusal}"))
 }

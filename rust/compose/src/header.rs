@@ -1,8 +1,9 @@
 //! `include/compose.h`, held to the source of the library: names, parameters and their types, and
 //! the refusals.
 
-use crate::Refusal;
 use crate::declared::{Function, functions, in_repository};
+use crate::refusal::LONGEST_SENTENCE;
+use crate::{About, Language, Refusal};
 use std::fs;
 use std::process::Command;
 
@@ -81,26 +82,44 @@ fn the_header_has_the_calls_of_the_library() {
     assert_eq!(ours, theirs);
 }
 
-#[test]
-fn the_header_has_the_refusals() {
+/// An enum of the header has these constants.
+fn hold_enum(name: &str, ours: impl IntoIterator<Item = (String, u8)>) {
     let header = header();
-    let (_, rest) = header.split_once("enum compose_refusal {").expect("them");
+    let (_, rest) = header
+        .split_once(&format!("enum compose_{name} {{"))
+        .expect("it");
     let (list, _) = rest.split_once('}').expect("an end");
     let theirs: Vec<String> = list.split(',').map(|one| one.trim().to_string()).collect();
-    let constant = |refusal: &Refusal| {
-        let name = refusal.name().to_uppercase();
-        format!("COMPOSE_{name} = {}", refusal.number())
-    };
-    let ours: Vec<String> = Refusal::ALL.iter().map(constant).collect();
+    let constant = |(name, number): (String, u8)| format!("COMPOSE_{name} = {number}");
+    let ours: Vec<String> = ours.into_iter().map(constant).collect();
     assert_eq!(theirs, ours);
+}
+
+#[test]
+fn the_header_has_the_refusals() {
+    let constant = |refusal: &Refusal| (refusal.name().to_uppercase(), refusal.number());
+    hold_enum("refusal", Refusal::ALL.iter().map(constant));
+}
+
+#[test]
+fn the_header_has_sorts_and_languages() {
+    let sorts = About::ALL.map(|about| (format!("{about:?}").to_uppercase(), about as u8));
+    hold_enum("sort", [("NO_ITEM".into(), 0)].into_iter().chain(sorts));
+    let name = |language: Language| format!("{language:?}").to_uppercase();
+    hold_enum(
+        "language",
+        Language::ALL.map(|language| (name(language), language as u8)),
+    );
+    let longest = format!("#define COMPOSE_SENTENCE {LONGEST_SENTENCE}\n");
+    assert!(header().contains(&longest), "{longest}");
 }
 
 /// The header's comments say what the refusals mean in the words that the crate has.
 #[test]
 fn the_header_says_what_refusals_mean() {
     let header = fs::read_to_string(in_repository("include/compose.h")).expect("the header");
-    for refusal in Refusal::ALL {
-        let (number, meaning) = (refusal.number(), refusal.meaning());
+    for (refusal, meaning) in Refusal::ALL.iter().zip(Refusal::MEANINGS) {
+        let number = refusal.number();
         let line = header.lines().find(|line| {
             let line = line.replace([',', ' '], "");
             line.contains(&format!("={number}/*"))
@@ -171,6 +190,10 @@ fn the_example_runs() {
     assert!(ran.status.success());
     assert_eq!(
         String::from_utf8_lossy(&ran.stdout),
-        " 6 8\n 5 7\n 2 4\n 1 3\n(0, 0): tile 1 at (1, 0)\n(2, 0): refused 18\n"
+        format!(
+            " 6 8\n 5 7\n 2 4\n 1 3\n(0, 0): tile 1 at (1, 0)\n(2, 0): {}\ncut short: {}\n",
+            Refusal::POINT,
+            Refusal::MALFORMED.of_item(About::Record, 1)
+        )
     );
 }

@@ -17,7 +17,7 @@ pub(crate) fn written(
         Ok(()) => call(asked.bytes),
         Err(above) => Err(call(0)
             .err()
-            .filter(|refusal| *refusal != Refusal::ROOM)
+            .filter(|refusal| !refusal.is(Refusal::ROOM))
             .unwrap_or(above)),
     }
 }
@@ -113,7 +113,7 @@ mod tests {
             };
             let above = limits.within(|| lend(None)).unwrap_err();
             assert!(above.to_string().contains(text), "{above}");
-            assert_eq!(above.number(), 4);
+            assert_eq!((above.number(), above.about()), (4, None));
             // What document 01 refuses comes first.
             assert_eq!(
                 limits.within(|| lend(Some(Refusal::OPACITY))),

@@ -76,6 +76,33 @@
 //! # Ok::<(), compose::Refusal>(())
 //! ```
 //!
+//! # Why a call refused
+//!
+//! Where one of several frames or properties is refused, the refusal says which, as the caller's list
+//! counts. It has a sentence in German and in English, from which all of it can be read back.
+//!
+//! ```
+//! use compose::image::{Chroma, HeifFrame, HeifPixelFormat};
+//! use compose::props::{Clap, Irot, Property, PropertyEntry};
+//! use compose::{About, Language, Refusal, apply_transforms};
+//!
+//! let frame = HeifFrame::zeroed(64, 48, HeifPixelFormat::new(Chroma::Yuv420, 8, false)?)?;
+//! let chain = [
+//!     PropertyEntry::new(1, false, Property::Other),
+//!     PropertyEntry::new(2, true, Property::Irot(Irot::new(1))),
+//!     PropertyEntry::new(3, true, Property::Clap(Clap::integer(64, 48, 0, 0))),
+//! ];
+//! let refusal = apply_transforms(&frame, &chain, true).unwrap_err();
+//! assert_eq!((refusal.number(), refusal.name()), (9, "outside"));
+//! assert_eq!((refusal.about(), refusal.index()), (Some(About::Entry), Some(2)));
+//!
+//! let said = refusal.german();
+//! assert!(said.starts_with("9: Der Ausschnitt ist leer") && said.ends_with(" (Eintrag 2)."));
+//! assert_eq!(Refusal::from_sentence(&said), Some((refusal, Language::German)));
+//! assert!(refusal.to_string().ends_with(" (entry 2)."));
+//! # Ok::<(), compose::Refusal>(())
+//! ```
+//!
 //! # Ceilings
 //!
 //! A few bytes can ask for a picture of 2^30 pixels. [`Limits`] sets what a call may make; what asks
@@ -88,8 +115,8 @@
 //! [`Crop`](props::Crop), whose `rect` is oxideav-heif's answer. Where a call is there and answers
 //! otherwise, docs/DIFFERENCES.md says so.
 //!
-//! - Of `error`, what an error holds: a [`Refusal`] is a number, with no variants and no text of its
-//!   own. `HeifError::invalid`, `HeifError::unsupported`, `HeifError::exhausted`, `HeifError::limit`,
+//! - Of `error`, what an error holds: a [`Refusal`] has a number in place of variants, and its sentence
+//!   in place of a text. `HeifError::invalid`, `HeifError::unsupported`, `HeifError::exhausted`, `HeifError::limit`,
 //!   `HeifError::io`, `HeifError::layered_hevc`, `HeifError::layered_hevc_info`,
 //!   `HeifError::external_tile_unresolved`, `HeifError::external_tile_info`.
 //! - Of `compose`, colour format enhancement: `CfenPlan`, `CfenRegion`, `CfenRegionPlan`,
@@ -167,7 +194,7 @@ pub use fill::fill_to_ycbcr;
 pub use image::{Chroma, HeifFrame, HeifPixelFormat, Plane};
 pub use limits::Limits;
 pub use recorded::RecordFrame;
-pub use refusal::Refusal;
+pub use refusal::{About, Language, Refusal};
 pub use scene::{Point, Scene, Shows, point, scene};
 pub use transform::{
     apply_clap, apply_imir, apply_irot, apply_iscl, apply_transforms, apply_transforms_owned,

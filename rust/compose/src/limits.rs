@@ -13,13 +13,14 @@
 //! assert_eq!((refusal.number(), refusal.name()), (4, "limit"));
 //! assert_eq!(
 //!     refusal.to_string(),
-//!     "refused 4 (limit): a picture of 1073741824 pixels, and at most 16777216 are allowed"
+//!     "4: The picture is too large, or there are too many records or entries. \
+//!      It would have 1073741824 pixels, and at most 16777216 are allowed."
 //! );
 //! ```
 
 use crate::image::MAX_FRAME_PIXELS;
 use crate::plan::Asked;
-use crate::{Refusal, Result};
+use crate::{Language, Refusal, Result};
 use std::cell::Cell;
 use std::fmt;
 
@@ -118,6 +119,11 @@ pub enum Ceiling {
     Bytes,
 }
 
+impl Ceiling {
+    /// Every ceiling.
+    pub const ALL: [Self; 2] = [Self::Pixels, Self::Bytes];
+}
+
 /// What was asked for above a ceiling of the caller's.
 #[derive(Clone, Copy, Debug, PartialEq, Eq, Hash)]
 pub struct Excess {
@@ -135,15 +141,26 @@ impl From<Excess> for Refusal {
     }
 }
 
+impl Excess {
+    /// What was asked for and what is allowed, as a refusal says it behind its own sentence.
+    pub fn sentence(&self, language: Language) -> String {
+        let Self { what, asked, most } = self;
+        let has = match (language, what) {
+            (Language::German, Ceiling::Pixels) => format!("Es hätte {asked} Pixel"),
+            (Language::German, Ceiling::Bytes) => format!("Es bräuchte {asked} Byte Speicher"),
+            (Language::English, Ceiling::Pixels) => format!("It would have {asked} pixels"),
+            (Language::English, Ceiling::Bytes) => format!("It would take {asked} bytes of memory"),
+        };
+        match language {
+            Language::German => format!("{has}, und höchstens {most} sind erlaubt."),
+            Language::English => format!("{has}, and at most {most} are allowed."),
+        }
+    }
+}
+
+/// The English sentence.
 impl fmt::Display for Excess {
     fn fmt(&self, f: &mut fmt::Formatter<'_>) -> fmt::Result {
-        let Self { what, asked, most } = self;
-        match what {
-            Ceiling::Pixels => write!(
-                f,
-                "a picture of {asked} pixels, and at most {most} are allowed"
-            ),
-            Ceiling::Bytes => write!(f, "{asked} bytes of memory, and at most {most} are allowed"),
-        }
+        f.write_str(&self.sentence(Language::English))
     }
 }

@@ -254,9 +254,9 @@ pub fn apply_transforms<'a>(
     chain: impl IntoIterator<Item = &'a PropertyEntry>,
     essential_only: bool,
 ) -> Made {
-    match applied(chain, essential_only)?.as_slice() {
-        [] => Ok(f.clone().into_owned()),
-        properties => RecordFrame::from_record(all_after(&f.record, properties)?),
+    match applied(chain, essential_only)? {
+        None => Ok(f.clone().into_owned()),
+        Some(properties) => RecordFrame::from_record(all_after(&f.record, &properties)?),
     }
 }
 
@@ -267,9 +267,9 @@ pub fn apply_transforms_owned<'a, 'f>(
     chain: impl IntoIterator<Item = &'a PropertyEntry>,
     essential_only: bool,
 ) -> Result<RecordFrame<'f>> {
-    match applied(chain, essential_only)?.as_slice() {
-        [] => Ok(f),
-        properties => RecordFrame::from_record(all_after(&f.record, properties)?),
+    match applied(chain, essential_only)? {
+        None => Ok(f),
+        Some(properties) => RecordFrame::from_record(all_after(&f.record, &properties)?),
     }
 }
 

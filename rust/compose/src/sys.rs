@@ -7,13 +7,13 @@
 use crate::{Refusal, Result, stock};
 
 /// What a function's word says: below 2^63 a count, a length, or 0 where there is none; from there
-/// on 2^63 + a refusal's number.
+/// on a refusal.
 #[inline]
 fn answer(word: u64) -> Result<u64> {
-    let Some(number) = word.checked_sub(1 << 63) else {
+    if word < 1 << 63 {
         return Ok(word);
-    };
-    let refusal = Refusal::from_number(number);
+    }
+    let refusal = Refusal::from_answer(word);
     Err(refusal.unwrap_or_else(|| panic!("the library answered {word:#x}")))
 }
 
@@ -185,6 +185,10 @@ library! {
 
     /// The text that the steps program prints for an input; answers its length.
     fn compose_steps(input: &[u8], out: &mut [u8]);
+
+    /// The sentence of a refusal of a record (sort 1), of an entry (2) or of no item (0), where the index
+    /// is not looked at, in German (language 0) or English (1); answers its length.
+    fn compose_sentence(number: u32, sort: u8, index: u64, language: u8, out: &mut [u8]);
 
     /// A fill's samples of red, green and blue, in 3 words. Colour 0 is no description; a full
     /// range of 0 is the studio range.
@@ -361,14 +365,35 @@ library! {
 #[cfg(test)]
 mod tests {
     use super::{DECLARED, answer};
-    use crate::Refusal;
     use crate::declared::{Function, functions};
+    use crate::{About, Refusal};
 
     #[test]
     fn words_are_answers_or_refusals() {
         assert_eq!(answer(0), Ok(0));
         assert_eq!(answer((1 << 63) - 1), Ok((1 << 63) - 1));
         assert_eq!(answer((1 << 63) + 17), Err(Refusal::ROOM));
+        for (sort, about) in (1..).zip(About::ALL) {
+            for index in [0, 1, 255, 256, 1 << 32, (1 << 40) - 1] {
+                let word = (1 << 63) + 13 + (sort << 8) + (index << 16);
+                assert_eq!(answer(word), Err(Refusal::TILE.of_item(about, index)));
+            }
+        }
+    }
+
+    /// No number, a sort or an index of no item, an index above its bits.
+    #[test]
+    fn words_that_no_call_answers() {
+        for code in [
+            0,
+            19,
+            255,
+            13 + (3 << 8),
+            13 + (1 << 16),
+            13 + (1 << 8) + (1 << 56),
+        ] {
+            assert_eq!(Refusal::from_answer((1 << 63) + code), None, "{code:#x}");
+        }
     }
 
     #[test]

@@ -27,7 +27,8 @@ use crate::bands::Bands;
 use crate::composite::Recorded;
 use crate::image::{Chroma, HeifFrame};
 use crate::props::{Clap, Crop, CropRect, Imir, Irot, Iscl, Property, PropertyEntry};
-use crate::{Refusal, Result, chain, operation, stock};
+use crate::{About, Refusal, Result, chain, operation, stock};
+use std::borrow::Cow;
 
 /// Whether an odd column or an odd row asks for a chroma sample that a picture of this chroma has
 /// not, so that it is promoted to 4:4:4 first.
@@ -216,19 +217,38 @@ fn after(record: &[u8], property: &Property) -> Result<Vec<u8>> {
     }
 }
 
-/// The properties of a chain that are applied. Refusal 4: above 256 entries, applied or not.
+/// The properties of a chain, one for each of its entries: one that is not applied stands as
+/// [`Property::Other`]. None where none is applied. Refusal 4: above 256 entries, applied or not.
 pub(crate) fn applied<'a>(
     chain: impl IntoIterator<Item = &'a PropertyEntry>,
     essential_only: bool,
-) -> Result<Vec<Property>> {
+) -> Result<Option<Vec<Property>>> {
     let entries: Vec<PropertyEntry> = chain.into_iter().copied().collect();
     chain::join(&entries)?;
-    let applied = entries
-        .iter()
-        .filter(|entry| entry.essential || !essential_only)
-        .map(|entry| entry.property)
-        .filter(Property::is_transformative);
-    Ok(applied.collect())
+    let property = |entry: &PropertyEntry| match entry.essential || !essential_only {
+        true => entry.property,
+        false => Property::Other,
+    };
+    let properties: Vec<Property> = entries.iter().map(property).collect();
+    let some = properties.iter().any(Property::is_transformative);
+    Ok(some.then_some(properties))
+}
+
+/// The properties that are applied, each with its entry's index.
+fn moving(properties: &[Property]) -> Vec<(u64, Property)> {
+    let entries = (0..).zip(properties.iter().copied());
+    entries
+        .filter(|(_, property)| property.is_transformative())
+        .collect()
+}
+
+/// What an entry's operation made, or the entry's own refusal. A ceiling of the caller's is judged
+/// for the whole chain, and is no entry's.
+fn by_entry<T>(made: Result<T>, index: u64) -> Result<T> {
+    made.map_err(|refusal| match refusal.excess() {
+        Some(_) => refusal,
+        None => refusal.of_item(About::Entry, index),
+    })
 }
 
 /// Whether a property writes a record of its own, whatever the picture: a turn by none and an
@@ -241,21 +261,19 @@ fn redraws(property: &Property) -> bool {
     }
 }
 
-/// The record after several, one at least.
+/// The record after a chain of which a property is applied.
 pub(crate) fn all_after(record: &[u8], properties: &[Property]) -> Result<Vec<u8>> {
-    let (first, rest) = properties.split_first().expect("a property");
-    if rest.is_empty() || !properties.iter().any(redraws) {
-        let mut record = after(record, first)?;
-        for property in rest {
-            record = after(&record, property)?;
-        }
-        return Ok(record);
+    let moving = moving(properties);
+    if moving.len() > 1 && properties.iter().any(redraws) {
+        let entry = |property: &Property| PropertyEntry::new(0, true, *property);
+        let entries: Vec<PropertyEntry> = properties.iter().map(entry).collect();
+        return operation::transforms(record, &chain::join(&entries)?, false);
     }
-    let entries: Vec<PropertyEntry> = (1..)
-        .zip(properties)
-        .map(|(index, property)| PropertyEntry::new(index, true, *property))
-        .collect();
-    operation::transforms(record, &chain::join(&entries)?, false)
+    let mut made = Cow::from(record);
+    for (index, property) in moving {
+        made = by_entry(after(&made, &property), index)?.into();
+    }
+    Ok(made.into_owned())
 }
 
 /// The properties of `chain` in turn, under `essential_only` the essential ones alone; without one
@@ -283,22 +301,26 @@ pub fn apply_transforms<'a>(
     chain: impl IntoIterator<Item = &'a PropertyEntry>,
     essential_only: bool,
 ) -> Result<HeifFrame> {
-    let properties = applied(chain, essential_only)?;
-    changed(f, &properties).unwrap_or_else(|| Ok(f.clone()))
+    match applied(chain, essential_only)? {
+        Some(properties) => changed(f, properties),
+        None => Ok(f.clone()),
+    }
 }
 
-/// The frame after properties, if there are any.
-fn changed(f: &HeifFrame, properties: &[Property]) -> Option<Result<HeifFrame>> {
-    let changed = match properties {
-        [] => return None,
-        [Property::Clap(clap)] => apply_clap(f, clap),
-        [Property::Imir(imir)] => apply_imir(f, imir),
-        [Property::Clap(clap), rest @ ..] => {
-            apply_clap(f, clap).and_then(|f| on_frame(&f, |record| all_after(record, rest)))
+/// The frame after a chain of which a property is applied. A clap that comes first goes by bands, and so
+/// does a mirror by itself.
+fn changed(f: &HeifFrame, mut properties: Vec<Property>) -> Result<HeifFrame> {
+    f.validate()?;
+    match moving(&properties)[..] {
+        [(index, Property::Clap(clap))] => by_entry(apply_clap(f, &clap), index),
+        [(index, Property::Imir(imir))] => by_entry(apply_imir(f, &imir), index),
+        [(index, Property::Clap(clap)), ..] => {
+            let part = by_entry(apply_clap(f, &clap), index)?;
+            properties[index as usize] = Property::Other;
+            on_frame(&part, |record| all_after(record, &properties))
         }
-        all => on_frame(f, |record| all_after(record, all)),
-    };
-    Some(changed)
+        _ => on_frame(f, |record| all_after(record, &properties)),
+    }
 }
 
 /// [`apply_transforms`] on a frame that is handed over: it comes back without a copy where no
@@ -308,6 +330,8 @@ pub fn apply_transforms_owned<'a>(
     chain: impl IntoIterator<Item = &'a PropertyEntry>,
     essential_only: bool,
 ) -> Result<HeifFrame> {
-    let properties = applied(chain, essential_only)?;
-    changed(&f, &properties).unwrap_or(Ok(f))
+    match applied(chain, essential_only)? {
+        Some(properties) => changed(&f, properties),
+        None => Ok(f),
+    }
 }

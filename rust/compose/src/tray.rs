@@ -12,11 +12,17 @@ use crate::form::Form;
 use crate::image::{Chroma, HeifPixelFormat};
 use crate::outline::Outline;
 use crate::record::{push_number, read_number};
-use crate::{Refusal, Result, sys};
+use crate::{About, Refusal, Result, sys};
 use std::io::{self, Read, Seek};
 
 /// How many records `tray` has. Refusals: 5 a count that is unreadable, then *Record*'s of each in
 /// turn, 5 bytes left over.
+///
+/// ```
+/// let tray = [2, 1, 1, 0, 8, 0, 1, 1, 7, 1, 1, 0, 9, 0, 1, 1, 7];
+/// let refusal = compose::tray::count(&tray).unwrap_err();
+/// assert_eq!((refusal.number(), refusal.index()), (5, Some(1)));
+/// ```
 pub fn count(tray: &[u8]) -> Result<u32> {
     let count = sys::compose_tray(tray)?;
     Ok(u32::try_from(count).expect("a tray's count is a house number"))
@@ -39,23 +45,6 @@ pub fn records(tray: &[u8]) -> Result<Vec<&[u8]>> {
     read_number(&mut rest);
     let record = |_| first_record(&mut rest).expect("a record that the call took");
     Ok((0..count).map(record).collect())
-}
-
-/// Which record of `tray` is the first that is refused, counted from 0. None where none is, or where
-/// it is the count or what follows the last record.
-///
-/// ```
-/// let tray = [2, 1, 1, 0, 8, 0, 1, 1, 7, 1, 1, 0, 9, 0, 1, 1, 7];
-/// assert_eq!(compose::tray::count(&tray).unwrap_err().number(), 5);
-/// assert_eq!(compose::tray::refused_at(&tray), Some(1));
-/// ```
-pub fn refused_at(tray: &[u8]) -> Option<u32> {
-    let mut rest = tray;
-    let count = read_number(&mut rest)?;
-    (0..count).find(|_| {
-        let record = first_record(&mut rest);
-        record.is_none_or(|record| crate::record::inspect(record).is_err())
-    })
 }
 
 /// The tray that `file` holds, with 0 for its samples, which are not read. [`count`], [`records`] and
@@ -109,6 +98,12 @@ pub(crate) fn forms(tray: &[u8]) -> Option<impl Iterator<Item = Option<Form>>> {
 }
 
 /// The tray of `records`. Refusals: *Record*'s of each in turn.
+///
+/// ```
+/// let (one, cut) = (&[1, 1, 0, 8, 0, 1, 1, 7], &[1, 1, 0, 8, 0, 1, 1]);
+/// let refusal = compose::tray::join(&[&one[..], cut]).unwrap_err();
+/// assert_eq!((refusal.number(), refusal.index()), (5, Some(1)));
+/// ```
 pub fn join(records: &[impl AsRef<[u8]>]) -> Result<Vec<u8>> {
     let mut tray = Vec::new();
     let count = u32::try_from(records.len()).map_err(|_| Refusal::MALFORMED)?;
@@ -117,8 +112,9 @@ pub fn join(records: &[impl AsRef<[u8]>]) -> Result<Vec<u8>> {
         tray.extend_from_slice(record.as_ref());
     }
     // Bytes that are left over by one record could be taken for the next.
-    for record in records {
-        crate::record::inspect(record.as_ref())?;
+    for (index, record) in (0..).zip(records) {
+        let own = |refusal: Refusal| refusal.of_item(About::Record, index);
+        crate::record::inspect(record.as_ref()).map_err(own)?;
     }
     Ok(tray)
 }

@@ -81,7 +81,8 @@ static int try_all(const struct call *calls, size_t count)
         struct run whole = {&calls[at], 0};
         size_t stack = stack_of(&whole) - thread;
         if (COMPOSE_IS_REFUSAL(whole.answer)) {
-            printf("%s: refused %d\n", calls[at].name, COMPOSE_REFUSAL(whole.answer));
+            printf("%s: refused %d, item %d %lu\n", calls[at].name, COMPOSE_REFUSAL(whole.answer),
+                   COMPOSE_SORT(whole.answer), (unsigned long)COMPOSE_INDEX(whole.answer));
             return 1;
         }
         for (int part = ALL; part < calls[at].slices; part++)

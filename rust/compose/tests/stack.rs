@@ -111,6 +111,11 @@ fn add_reading(calls: &mut Calls) {
     calls.add("compose_steps", move || {
         sys::compose_steps(&input, &mut out)
     });
+    for language in [0, 1] {
+        calls.add("compose_sentence", move || {
+            sys::compose_sentence(18, 2, u64::MAX, language, &mut [0; 192])
+        });
+    }
     calls.add("compose_clap_resolve", || {
         sys::compose_clap_resolve(63, 1, 48, 1, 1, 2, 0, 1, 64, 48, &mut [0; 8])
     });

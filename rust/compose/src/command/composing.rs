@@ -150,12 +150,7 @@ impl Read {
             essential_only: words.flag(ESSENTIAL.name),
             list: given.unwrap_or_default(),
             colr,
-            files: Files {
-                body,
-                tray,
-                chain,
-                point: false,
-            },
+            files: Files { body, tray, chain },
         };
         Ok((read.with_list(words), more))
     }
@@ -178,7 +173,7 @@ impl Read {
         scene.with_essential_only(self.essential_only)
     }
 
-    /// What a call answered, or the part that it refused.
+    /// What a call answered, or the file that it refused.
     fn answer<T>(&self, words: &Words, answer: Answer<T>) -> Result<T, Failure> {
         answer.map_err(|refusal| {
             let part = self.files.refused(&self.scene(), refusal);
@@ -230,11 +225,10 @@ fn run_scene(words: &mut Words) -> Result<(), Failure> {
 }
 
 fn run_point(words: &mut Words) -> Result<(), Failure> {
-    let (mut read, place) = Read::take(words, None, |words| {
+    let (read, place) = Read::take(words, None, |words| {
         let place: [u32; 2] = words.numbers(["X", "Y"])?;
         words.end().map(|()| place)
     })?;
-    read.files.point = true;
     let answer = point(&read.scene(), place[0], place[1]);
     say(&about(&read.answer(words, answer)?))
 }

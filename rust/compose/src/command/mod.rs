@@ -4,8 +4,10 @@ mod colour;
 mod composing;
 mod demo;
 mod descriptor;
+mod explain;
 mod files;
 mod fill;
+mod language;
 mod operation;
 mod options;
 mod pages;
@@ -18,8 +20,8 @@ mod terminal;
 mod view;
 mod words;
 
-use compose::Refusal;
 use compose::limits::Ceiling;
+use compose::{Language, Refusal};
 use options::Opt;
 use std::fmt;
 use words::Words;
@@ -29,6 +31,7 @@ struct Command {
     name: &'static str,
     /// The words after the name, as a usage line has them; options are named apart.
     takes: &'static str,
+    /// Those that not every command takes.
     options: &'static [Opt],
     /// One line.
     about: &'static str,
@@ -54,6 +57,7 @@ const FAMILIES: &[Family] = &[
             records::TRAY,
             descriptor::DESCRIPTOR,
             properties::CHAIN,
+            explain::EXPLAIN,
         ],
     },
     Family {
@@ -104,9 +108,10 @@ pub enum Failure {
     /// The composer refused.
     Refused {
         command: &'static str,
-        /// The file that is refused, and its part; none where it is the words, or several files.
+        /// The file or the option that is refused; none where it is other words, or several files.
         part: Option<String>,
         refusal: Refusal,
+        language: Language,
     },
     /// The words are not what the command takes.
     Usage { complaint: String, usage: String },
@@ -121,16 +126,19 @@ impl fmt::Display for Failure {
                 command,
                 part,
                 refusal,
+                language,
             } => {
                 let part = part.iter().map(|part| format!("{part}: "));
                 let part: String = part.collect();
-                let raise = refusal.excess().map(|excess| match excess.what {
-                    Ceiling::Pixels => options::MAX_PIXELS.usage(),
-                    Ceiling::Bytes => options::MAX_BYTES.usage(),
-                });
-                let raise = raise.iter().map(|option| format!("; {option} sets it"));
-                let raise: String = raise.collect();
-                write!(f, "compose {command}: {part}{refusal}{raise}")
+                let mut sentence = refusal.sentence(*language);
+                if let Some(excess) = refusal.excess() {
+                    let raise = match excess.what {
+                        Ceiling::Pixels => options::MAX_PIXELS.usage(),
+                        Ceiling::Bytes => options::MAX_BYTES.usage(),
+                    };
+                    sentence = format!("{} ({raise}).", sentence.trim_end_matches('.'));
+                }
+                write!(f, "compose {command}: {part}{sentence}")
             }
             Self::Usage { complaint, usage } => write!(f, "compose: {complaint}\n{usage}"),
             Self::File { complaint } => write!(f, "compose: {complaint}"),
@@ -153,12 +161,12 @@ impl Command {
     }
 
     fn usage(&self) -> String {
-        let others = self
-            .options
-            .iter()
-            .any(|one| one.value != options::OUT.value);
-        let others = if others { " [OPTION..]" } else { "" };
-        format!("compose {}{others}", self.takes())
+        format!("compose {} [OPTION..]", self.takes())
+    }
+
+    /// All that it takes.
+    fn options(&self) -> impl Iterator<Item = &'static Opt> {
+        self.options.iter().chain(options::EVERY)
     }
 }
 
@@ -171,7 +179,7 @@ fn help(of: Option<&str>) -> Result<String, Failure> {
     let columns = pages::width();
     match of {
         None => Ok(pages::all(columns)),
-        Some("refusals") => Ok(pages::refusals()),
+        Some("refusals") => Ok(pages::refusals(columns)),
         Some(name) => Ok(pages::of(find(name)?, columns)),
     }
 }
@@ -185,22 +193,36 @@ fn find(name: &str) -> Result<&'static Command, Failure> {
         })
 }
 
-/// Runs what the words ask for. Without a word it is the demonstration.
+/// Runs what the words ask for. Without a word it is the demonstration. What every command takes may
+/// stand before its name, too.
 pub fn run(words: &[String]) -> Result<(), Failure> {
     let asks = |word: &String| ["--help", "-h"].contains(&word.as_str());
+    let german = |word: &&String| *word == options::GERMAN.name;
+    let (before, words) = words.split_at(words.iter().take_while(german).count());
+    let language = match before {
+        [] => language::usual(),
+        _ => Language::German,
+    };
     let Some((first, rest)) = words.split_first() else {
-        return run_command(&demo::DEMO, &[]);
+        return run_command(&demo::DEMO, &[], language);
     };
     match first.as_str() {
-        "help" | "--help" | "-h" => files::say(&help(rest.first().map(String::as_str))?),
+        "help" | "--help" | "-h" => {
+            let of = rest.iter().find(|word| !german(word));
+            files::say(&help(of.map(String::as_str))?)
+        }
         "--version" | "-V" => files::say(concat!("compose ", env!("CARGO_PKG_VERSION"), "\n")),
         name if rest.iter().any(asks) => files::say(&help(Some(name))?),
-        name => run_command(find(name)?, rest),
+        name => run_command(find(name)?, rest, language),
     }
 }
 
-fn run_command(command: &'static Command, words: &[String]) -> Result<(), Failure> {
-    let mut words = Words::new(command, words)?;
+fn run_command(
+    command: &'static Command,
+    words: &[String],
+    language: Language,
+) -> Result<(), Failure> {
+    let mut words = Words::new(command, words, language)?;
     let limits = words.limits()?;
     progress::start(command.name);
     let ended = limits.within(|| (command.run)(&mut words));

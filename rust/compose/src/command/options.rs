@@ -21,6 +21,16 @@ impl Opt {
     }
 }
 
+pub const GERMAN: Opt = Opt {
+    name: "--german",
+    value: "",
+    about: "says in German why something is refused, as it does where LC_ALL, else LC_MESSAGES, else LANG \
+            is a German locale",
+};
+
+/// The options of every command.
+pub const EVERY: &[Opt] = &[GERMAN];
+
 pub const OUT: Opt = Opt {
     name: "-o",
     value: "OUT",

@@ -2,10 +2,10 @@
 //! completions for shells.
 
 use super::files::say;
-use super::options::Opt;
+use super::options::{EVERY, Opt};
 use super::words::Words;
 use super::{Command, FAMILIES, Failure, commands, terminal};
-use compose::Refusal;
+use compose::{About, Language, Refusal};
 
 pub const MAN: Command = Command {
     name: "man",
@@ -52,13 +52,14 @@ what its ending or --format says. Several records in one file are a tray. Try:
 /// And its end.
 const ENDS: &str = "\
 A file called - is standard input, or standard output. A file that is read is never written to, and
-one that is there is replaced by --force alone. What the composer does not take it refuses by a number
-and a name, and then nothing is written. A few bytes can ask for a picture of gigabytes: what is above
+one that is there is replaced by --force alone. What the composer does not take it refuses, and then
+nothing is written: a sentence says why, its number first, in German with --german, which every command
+takes, or where the locale is German. A few bytes can ask for a picture of gigabytes: what is above
 --max-pixels or --max-bytes is refused before it takes memory. Exit status: 0 done, 1 wrong words or a
 file that cannot be read or written, 2 refused.
 
-compose help NAME says more of one command, compose help refusals what the numbers mean, compose
---version which version this is.
+compose help NAME says more of one command, compose help refusals is the card of all refusals, compose
+--version says which version this is.
 ";
 
 /// How wide the help is where there is no terminal.
@@ -117,25 +118,26 @@ fn flowed(text: &str, columns: usize) -> String {
 }
 
 /// Lines of what something is called and what it is, side by side where both have room, else one
-/// below the other.
-fn listed(called: &str, column: usize, about: &str, columns: usize) -> String {
+/// below the other. Each part of what it is begins a line.
+fn listed(called: &str, column: usize, about: &[&str], columns: usize) -> String {
+    let lines = |columns: usize| about.iter().flat_map(move |part| wrapped(part, columns));
     if columns < column + 30 {
-        let below = wrapped(about, columns.saturating_sub(6));
-        let below: String = below.iter().map(|line| format!("      {line}\n")).collect();
+        let below = lines(columns.saturating_sub(6));
+        let below: String = below.map(|line| format!("      {line}\n")).collect();
         return format!("{called}\n{below}");
     }
     let mut called = called;
     let mut text = String::new();
-    for line in wrapped(about, columns - column - 1) {
+    for line in lines(columns - column - 1) {
         text += &format!("{called:<column$} {line}\n");
         called = "";
     }
     text
 }
 
-fn option_lines(options: &[Opt], columns: usize) -> String {
-    let line = |option: &Opt| listed(&option.usage(), 22, option.about, columns);
-    options.iter().map(line).collect()
+fn option_lines<'a>(options: impl Iterator<Item = &'a Opt>, columns: usize) -> String {
+    let line = |option: &Opt| listed(&option.usage(), 22, &[option.about], columns);
+    options.map(line).collect()
 }
 
 /// The help of all commands.
@@ -145,7 +147,7 @@ pub fn all(columns: usize) -> String {
         text += &format!("{}:\n", family.title);
         for command in family.commands {
             let called = format!("  {}", command.takes());
-            text += &listed(&called, 45, command.about, columns);
+            text += &listed(&called, 45, &[command.about], columns);
         }
         text += "\n";
     }
@@ -156,24 +158,70 @@ pub fn all(columns: usize) -> String {
 pub fn of(command: &Command, columns: usize) -> String {
     let (usage, about) = (command.usage(), command.about);
     let more = flowed(command.more, columns);
-    let options = option_lines(command.options, columns);
-    let between = if options.is_empty() { "" } else { "\n" };
-    format!("usage: {usage}\n\n{about}\n\n{more}{between}{options}")
+    let options = option_lines(command.options(), columns);
+    format!("usage: {usage}\n\n{about}\n\n{more}\n{options}")
 }
 
-/// The refusals by number.
-pub fn refusals() -> String {
-    let line = |refusal: &Refusal| {
-        let (number, name) = (refusal.number(), refusal.name());
-        format!("{number:>3}  {name:<10} {}\n", refusal.meaning())
+/// The sentences of a refusal, in English and in German.
+fn sentences(refusal: Refusal) -> [String; 2] {
+    [Language::English, Language::German].map(|language| refusal.sentence(language))
+}
+
+/// The same without their number.
+fn reasons(refusal: Refusal) -> [String; 2] {
+    let number = format!("{}: ", refusal.number());
+    sentences(refusal).map(|sentence| sentence.trim_start_matches(&number).into())
+}
+
+/// How a sentence names an item.
+const ITEMS: &str = "\
+Where it is one record of a tray or one entry of a chain that is refused, the sentence names it, counted
+from 0:
+";
+
+/// The same with examples.
+fn of_items() -> String {
+    let mut text = ITEMS.to_string();
+    for (refusal, about) in [
+        (Refusal::TILE, About::Record),
+        (Refusal::ZERO, About::Entry),
+    ] {
+        for sentence in sentences(refusal.of_item(about, 4)) {
+            text += &format!("  {sentence}\n");
+        }
+    }
+    text
+}
+
+/// How wide the card of refusals is at most.
+const CARD: usize = 80;
+
+/// The card of refusals, by number.
+pub fn refusals(columns: usize) -> String {
+    let columns = columns.min(CARD);
+    let lines = |refusal: &Refusal| {
+        let called = format!("{:>3}  {}", refusal.number(), refusal.name());
+        let reasons = reasons(*refusal);
+        listed(
+            &called,
+            15,
+            &reasons.each_ref().map(String::as_str),
+            columns,
+        )
     };
-    Refusal::ALL.iter().map(line).collect()
+    let card: String = Refusal::ALL.iter().map(lines).collect();
+    format!("{card}\n{}", flowed(&of_items(), columns))
 }
 
-/// A text as man takes it: a backslash, a minus and a leading dot stand for themselves.
+/// A text as man takes it: a backslash, a minus and a leading dot stand for themselves, and other
+/// letters than ASCII's have their numbers.
 fn in_man(text: &str) -> String {
     let text = text.replace('\\', "\\e").replace('-', "\\-");
-    let text = text.replace('×', "\\(mu");
+    let letter = |c: char| match c.is_ascii() {
+        true => c.to_string(),
+        false => format!("\\[u{:04X}]", u32::from(c)),
+    };
+    let text: String = text.chars().map(letter).collect();
     match text.starts_with(['.', '\'']) {
         true => format!("\\&{text}"),
         false => text,
@@ -193,6 +241,12 @@ fn page_part(text: &str) -> String {
     page
 }
 
+/// An option as man takes it.
+fn page_option(option: &Opt) -> String {
+    let (usage, about) = (in_man(&option.usage()), in_man(option.about));
+    format!(".TP\n.B {usage}\n{about}\n")
+}
+
 /// The page for man.
 fn manual() -> String {
     let version = env!("CARGO_PKG_VERSION");
@@ -202,25 +256,25 @@ fn manual() -> String {
     page += &format!(".SH NAME\n{name} \\- {}\n", in_man(title));
     page += ".SH SYNOPSIS\n.B compose\nCOMMAND [WORD..] [OPTION..]\n";
     page += &format!(".SH DESCRIPTION\n{}", page_part(about.trim_end()));
+    page += ".SH OPTIONS\nEvery command takes:\n";
+    page.extend(EVERY.iter().map(page_option));
     for family in FAMILIES {
         page += &format!(".SH {}\n", family.title.to_uppercase());
         for command in family.commands {
             let usage = command.usage();
             page += &format!(".SS {}\n{}.\n.PP\n", in_man(&usage), in_man(command.about));
             page += &page_part(command.more);
-            for option in command.options {
-                let (usage, about) = (in_man(&option.usage()), in_man(option.about));
-                page += &format!(".TP\n.B {usage}\n{about}\n");
-            }
+            page.extend(command.options.iter().map(page_option));
         }
     }
     page += &format!(".SH NOTES\n{}", page_part(ENDS));
     page += ".SH REFUSALS\n";
     for refusal in Refusal::ALL {
         let (number, name) = (refusal.number(), refusal.name());
-        page += &format!(".TP\n{number} ({name})\n{}\n", in_man(refusal.meaning()));
+        let [english, german] = reasons(*refusal).map(|reason| in_man(&reason));
+        page += &format!(".TP\n{number} ({name})\n{english}\n.br\n{german}\n");
     }
-    page
+    page + ".PP\n" + &page_part(&of_items())
 }
 
 fn run_man(words: &mut Words) -> Result<(), Failure> {
@@ -234,18 +288,16 @@ fn first_words() -> Vec<&'static str> {
     names.chain(["help", "--help", "--version"]).collect()
 }
 
-/// The words that a command's first word is one of, as `grid|overlay`.
+/// The words of which a command takes one, as `grid|overlay`.
 fn choices(command: &Command) -> Vec<&'static str> {
-    let first = command.takes.split(' ').next().unwrap_or_default();
-    match first.contains('|') {
-        true => first.split('|').collect(),
-        false => Vec::new(),
-    }
+    let mut words = command.takes.split([' ', '[', ']']);
+    let choice = words.find(|word| word.contains('|'));
+    choice.map_or(Vec::new(), |words| words.split('|').collect())
 }
 
 /// What may follow a command's name: its choices and its options.
 fn followers(command: &Command) -> Vec<&'static str> {
-    let options = command.options.iter().map(|option| option.name);
+    let options = command.options().map(|option| option.name);
     choices(command).into_iter().chain(options).collect()
 }
 
@@ -290,7 +342,7 @@ fn for_fish() -> String {
         for choice in choices(command) {
             text += &format!("complete -c compose -n {seen} -a {choice}\n");
         }
-        for option in command.options {
+        for option in command.options() {
             let name = match option.name.strip_prefix("--") {
                 Some(long) => format!("-l {long}"),
                 None => format!("-s {}", option.name.trim_start_matches('-')),

@@ -6,7 +6,7 @@ use super::parts::{self, Size};
 use super::words::Words;
 use super::{Command, Failure};
 use compose::props::{Clap, Crop, Imir, Irot, Iscl, Margins, Property, PropertyEntry};
-use compose::{Refusal, Result as Answer, chain, steps};
+use compose::{About, Refusal, Result as Answer, chain, steps};
 
 pub const CHAIN: Command = Command {
     name: "chain",
@@ -187,8 +187,9 @@ fn run_chain(words: &mut Words) -> Result<(), Failure> {
                     size = Some(after);
                 }
                 Err(refusal) => {
-                    say(&format!("{text}: {refusal}\n"))?;
-                    return Err(words.refused_in(&parts::entry_of(&file, index), refusal));
+                    say(&format!("{text}: {}\n", words.sentence(refusal)))?;
+                    let own = refusal.of_item(About::Entry, index as u64);
+                    return Err(words.refused_in(&file, own));
                 }
             },
         }

@@ -3,7 +3,6 @@
 use super::colour::Description;
 use super::files::{about_info, counted, numbers, say};
 use super::options::{FORCE, FORMAT, OUT, RGB_MATRIX, STUDIO};
-use super::parts::of_tray;
 use super::pictures::{Format, Pictures, Target};
 use super::words::Words;
 use super::{Command, Failure, demo};
@@ -80,7 +79,7 @@ fn run_tray(words: &mut Words) -> Result<(), Failure> {
     let file = words.file("TRAY")?;
     words.end()?;
     let bytes = numbers(&file, tray::outline)?;
-    let refused = |refusal| words.refused_in(&of_tray(&file, &bytes), refusal);
+    let refused = |refusal| words.refused_in(&file, refusal);
     let records = tray::records(&bytes).map_err(refused)?;
     let mut text = format!("{}\n", counted(records.len(), "record"));
     for (index, bytes) in records.iter().enumerate() {

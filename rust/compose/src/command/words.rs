@@ -3,7 +3,7 @@
 use super::files::Output;
 use super::{Command, Failure, options};
 use compose::props::Clap;
-use compose::{Limits, Refusal};
+use compose::{Language, Limits, Refusal};
 use std::collections::VecDeque;
 use std::fmt::Display;
 use std::str::FromStr;
@@ -39,15 +39,23 @@ pub struct Words {
     options: Vec<(&'static str, String)>,
     /// The files that were taken as words, to be read.
     handed_in: Vec<String>,
+    /// The language of refusals.
+    language: Language,
 }
 
 impl Words {
-    pub fn new(command: &'static Command, given: &[String]) -> Result<Self, Failure> {
+    /// Refusals are in `language` where the words do not ask for German.
+    pub fn new(
+        command: &'static Command,
+        given: &[String],
+        language: Language,
+    ) -> Result<Self, Failure> {
         let mut words = Self {
             command,
             rest: VecDeque::new(),
             options: Vec::new(),
             handed_in: Vec::new(),
+            language,
         };
         let mut given = given.iter().cloned();
         while let Some(word) = given.next() {
@@ -59,6 +67,9 @@ impl Words {
                 true => words.take_option(&word, &mut given)?,
                 false => words.rest.push_back(word),
             }
+        }
+        if words.flag(options::GERMAN.name) {
+            words.language = Language::German;
         }
         Ok(words)
     }
@@ -73,7 +84,7 @@ impl Words {
             Some((name, value)) if name.starts_with("--") => (name, Some(value.to_string())),
             _ => (word, None),
         };
-        let Some(option) = self.command.options.iter().find(|one| one.name == name) else {
+        let Some(option) = self.command.options().find(|one| one.name == name) else {
             let command = self.command.name;
             return Err(self.wrong(format!("{name} is no option of {command}")));
         };
@@ -104,18 +115,24 @@ impl Words {
         self.refused_part(None, refusal)
     }
 
-    /// The same of a file, or a part of one.
-    pub fn refused_in(&self, part: &str, refusal: Refusal) -> Failure {
-        self.refused_part(Some(part.into()), refusal)
+    /// The same of a file.
+    pub fn refused_in(&self, file: &str, refusal: Refusal) -> Failure {
+        self.refused_part(Some(file), refusal)
     }
 
-    /// The same, of a part where one is known.
-    pub fn refused_part(&self, part: Option<String>, refusal: Refusal) -> Failure {
+    /// The same, of a file or an option where one is known.
+    pub fn refused_part(&self, part: Option<&str>, refusal: Refusal) -> Failure {
         Failure::Refused {
             command: self.command.name,
-            part,
+            part: part.map(String::from),
             refusal,
+            language: self.language,
         }
+    }
+
+    /// What a refusal says.
+    pub fn sentence(&self, refusal: Refusal) -> String {
+        refusal.sentence(self.language)
     }
 
     /// The next word, which is `what`.

@@ -1,10 +1,19 @@
 //! A folder of a test's own, and the command run in it.
 
-use compose::{Chroma, HeifFrame, HeifPixelFormat};
+use compose::{Chroma, HeifFrame, HeifPixelFormat, Refusal};
 use std::fs;
 use std::io::Write;
 use std::path::PathBuf;
 use std::process::{Command, Output, Stdio};
+
+/// A program, whatever the test's own terminal and language are.
+pub fn program(name: &str) -> Command {
+    let mut program = Command::new(name);
+    for variable in ["COLUMNS", "LC_ALL", "LC_MESSAGES", "LANG"] {
+        program.env_remove(variable);
+    }
+    program
+}
 
 /// A folder of a test's own, empty; it goes when the test has passed.
 pub struct Folder(pub PathBuf);
@@ -49,12 +58,17 @@ impl Folder {
         self.0.join(file).exists()
     }
 
-    /// Runs the command in the folder, the words parted by blanks, and hands it `input`.
+    /// The command in the folder, the words parted by blanks.
+    pub fn command(&self, words: &str) -> Command {
+        let mut command = program(env!("CARGO_BIN_EXE_compose"));
+        command.args(words.split_whitespace()).current_dir(&self.0);
+        command
+    }
+
+    /// Runs it, and hands it `input`.
     pub fn run_with(&self, words: &str, input: &[u8]) -> Output {
-        let mut child = Command::new(env!("CARGO_BIN_EXE_compose"))
-            .args(words.split_whitespace())
-            .current_dir(&self.0)
-            .env_remove("COLUMNS")
+        let mut child = self
+            .command(words)
             .stdin(Stdio::piped())
             .stdout(Stdio::piped())
             .stderr(Stdio::piped())
@@ -86,6 +100,12 @@ impl Folder {
         let complaint = complaint(&output);
         assert!(complaint.starts_with(beginning), "{words}: {complaint}");
         assert_eq!(output.stdout, b"", "{words}");
+    }
+
+    /// The command is refused, and says it of a part, if one is named.
+    pub fn refuses(&self, words: &str, part: &str, refusal: Refusal) {
+        let command = words.split(' ').next().expect("a word");
+        self.fails(words, 2, &format!("compose {command}: {part}{refusal}\n"));
     }
 }
 

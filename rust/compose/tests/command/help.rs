@@ -1,19 +1,20 @@
 //! What the command says of itself.
 
-use crate::folder::Folder;
-use compose::Refusal;
+use crate::folder::{Folder, program};
+use compose::{About, Language, Refusal};
 use std::fs;
 use std::os::unix::fs::{PermissionsExt, symlink};
 use std::path::PathBuf;
 use std::process::Command;
 
-const COMMANDS: [&str; 28] = [
+const COMMANDS: [&str; 29] = [
     "demo",
     "view",
     "record",
     "tray",
     "descriptor",
     "chain",
+    "explain",
     "example",
     "pack",
     "body",
@@ -49,6 +50,8 @@ fn the_help_has_every_command() {
         let own = folder.done(&format!("help {command}"));
         let usage = format!("usage: compose {command}");
         assert!(own.starts_with(&usage), "{own}");
+        // What every command takes.
+        assert!(own.contains("\n--german   "), "{own}");
         assert_eq!(own, folder.done(&format!("{command} --help")));
         assert_eq!(own, folder.done(&format!("--help {command}")));
     }
@@ -56,14 +59,50 @@ fn the_help_has_every_command() {
     assert_eq!(lines.count(), 0);
 }
 
+/// The card has a part a refusal, in its order: number and name, then both sentences, in lines of at
+/// most 80 characters.
 #[test]
 fn the_help_has_every_refusal() {
-    let help = Folder::new("refusals").done("help refusals");
-    for (line, refusal) in help.lines().zip(Refusal::ALL) {
-        assert!(line.contains(&refusal.number().to_string()), "{line}");
-        assert!(line.contains(refusal.name()), "{line}");
+    let folder = Folder::new("refusals");
+    let card = folder.done("help refusals");
+    assert!(widest(&card) <= 80, "{card}");
+    for words in ["help --german refusals", "--german help refusals"] {
+        assert_eq!(folder.done(words), card);
     }
-    assert_eq!(help.lines().count(), Refusal::ALL.len());
+    let (parts, items) = card.split_once("\n\n").expect("two parts");
+    let mut words = parts.split_whitespace();
+    let mut is = |text: &str| {
+        for word in text.split_whitespace() {
+            assert_eq!(words.next(), Some(word), "{text}");
+        }
+    };
+    for refusal in Refusal::ALL {
+        let number = refusal.number().to_string();
+        is(&format!("{number} {}", refusal.name()));
+        for language in [Language::English, Language::German] {
+            let sentence = refusal.sentence(language);
+            is(sentence.strip_prefix(&format!("{number}: ")).expect("it"));
+        }
+    }
+    assert_eq!(words.next(), None);
+    for (refusal, about) in [
+        (Refusal::TILE, About::Record),
+        (Refusal::ZERO, About::Entry),
+    ] {
+        for language in Language::ALL {
+            let sentence = refusal.of_item(about, 4).sentence(language);
+            assert!(items.contains(&format!("\n  {sentence}\n")), "{sentence}");
+        }
+    }
+    let narrow = folder
+        .command("help refusals")
+        .env("COLUMNS", "60")
+        .output();
+    let narrow = String::from_utf8(narrow.expect("the command").stdout).expect("text");
+    assert!(
+        narrow.contains(" 13  tile ") && narrow.contains(" oder "),
+        "{narrow}"
+    );
 }
 
 /// The lines of the help's first steps are commands that work.
@@ -96,10 +135,9 @@ fn the_version_is_the_crates() {
 fn on_a_terminal(folder: &Folder, words: &str, columns: u32, set: &str) -> Option<String> {
     let compose = env!("CARGO_BIN_EXE_compose");
     let run = format!("stty cols {columns} rows 24; {set} {compose} {words}");
-    let terminal = Command::new("script")
+    let terminal = program("script")
         .args(["-qec", &run, "/dev/null"])
         .current_dir(&folder.0)
-        .env_remove("COLUMNS")
         .env_remove("NO_COLOR")
         .env_remove("COLORTERM")
         .env("TERM", "xterm-256color")
@@ -164,7 +202,14 @@ fn the_help_fits_a_narrow_terminal() {
 fn the_manual_page_has_all_of_the_help() {
     let folder = Folder::new("man");
     let page = folder.done("man");
-    let plain = page.replace("\\-", "-").replace("\\(mu", "×");
+    assert!(page.is_ascii());
+    let mut plain = page.replace("\\-", "-");
+    for letter in "×äöüßÄÖÜ".chars() {
+        plain = plain.replace(
+            &format!("\\[u{:04X}]", u32::from(letter)),
+            &letter.to_string(),
+        );
+    }
     for command in COMMANDS {
         let help = folder.done(&format!("help {command}"));
         let (usage, rest) = help.split_once('\n').expect("a line");
@@ -173,6 +218,18 @@ fn the_manual_page_has_all_of_the_help() {
         let options = rest.lines().filter(|line| line.starts_with('-'));
         for option in options.filter_map(|line| line.split("  ").next()) {
             assert!(plain.contains(&format!("\n.B {option}\n")), "{option}");
+        }
+    }
+    // Once, since every command takes it.
+    assert_eq!(plain.matches("\n.B --german\n").count(), 1);
+    for refusal in Refusal::ALL {
+        let (number, name) = (refusal.number(), refusal.name());
+        assert!(plain.contains(&format!("\n{number} ({name})\n")), "{name}");
+        for language in Language::ALL {
+            let sentence = refusal.sentence(language);
+            let reason = sentence.strip_prefix(&format!("{number}: "));
+            let reason = reason.expect("the number first");
+            assert!(plain.contains(&format!("\n{reason}\n")), "{reason}");
         }
     }
     folder.put("compose.1", page.as_bytes());
@@ -199,7 +256,7 @@ fn offered(folder: &Folder, words: &str) -> Option<Vec<String>> {
             .map(|word| format!("'{word}' "))
             .collect::<String>(),
     );
-    let bash = Command::new("bash")
+    let bash = program("bash")
         .args(["--norc", "-c", &script])
         .current_dir(&folder.0)
         .output();
@@ -234,8 +291,14 @@ fn shells_complete_commands_options_and_files() {
     assert_eq!(offered(&folder, "compose ov"), Some(vec!["overlay".into()]));
     let options = offered(&folder, "compose view --co");
     assert_eq!(options, Some(vec!["--columns".into(), "--colour".into()]));
+    for command in COMMANDS {
+        let german = offered(&folder, &format!("compose {command} --ger"));
+        assert_eq!(german, Some(vec!["--german".into()]), "{command}");
+    }
     let sorts = offered(&folder, "compose scene gr");
     assert_eq!(sorts, Some(vec!["grid".into()]));
+    let items = offered(&folder, "compose explain 13 re");
+    assert_eq!(items, Some(vec!["record".into()]));
     assert_eq!(
         offered(&folder, "compose irot a"),
         Some(vec!["a.rec".into()])
@@ -307,7 +370,7 @@ fn long_work_says_how_far_it_is() {
     let folder = Folder::with_picture("progress");
     let compose = env!("CARGO_BIN_EXE_compose");
     let run = format!("(sleep 4; cat a.rec) | {compose} irot - 1 -o b.rec");
-    let terminal = Command::new("script")
+    let terminal = program("script")
         .args(["-qec", &run, "/dev/null"])
         .current_dir(&folder.0)
         .output();

@@ -2,6 +2,7 @@
 
 mod folder;
 mod help;
+mod languages;
 mod outputs;
 mod pictures;
 mod refusals;

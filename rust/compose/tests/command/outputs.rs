@@ -1,6 +1,7 @@
 //! What is written, and what is not.
 
 use crate::folder::Folder;
+use compose::Refusal;
 use compose::operation::irot;
 use std::fs;
 
@@ -97,10 +98,10 @@ fn what_is_there_stays() {
     // The file that it was is as it was: nothing was written into it.
     assert_eq!(folder.get("kept.rec"), b"as it was");
     // Refused, nothing is left beside.
-    folder.fails(
+    folder.refuses(
         "crop a.rec 9 9 9 9 -o old.rec --force",
-        2,
-        "compose crop: refused 9 ",
+        "",
+        Refusal::OUTSIDE,
     );
     assert_eq!(folder.get("old.rec"), turned);
     assert_eq!(files(&folder), ["a.rec", "kept.rec", "link.rec", "old.rec"]);

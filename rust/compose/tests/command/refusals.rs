@@ -1,9 +1,9 @@
 //! How the command fails: nothing is written, and it is said what is wrong.
 
-use crate::folder::{Folder, complaint};
-use compose::{Chroma, HeifFrame, HeifPixelFormat};
+use crate::folder::{Folder, complaint, program};
+use compose::limits::{Ceiling, Excess};
+use compose::{About, Chroma, HeifFrame, HeifPixelFormat, Refusal};
 use std::fs;
-use std::process::Command;
 
 #[test]
 fn what_is_refused_writes_nothing() {
@@ -14,98 +14,76 @@ fn what_is_refused_writes_nothing() {
     folder.done("body overlay 4 4 0 0 0 0 0 0 -o one.body");
     folder.done("pack a.rec -o one.tray");
     folder.done("pack -o none.tray");
-    for (words, beginning) in [
+    for (words, part, refusal) in [
+        ("record cut.rec", "cut.rec: ", Refusal::MALFORMED),
+        ("view cut.rec", "cut.rec: ", Refusal::MALFORMED),
         (
-            "record cut.rec",
-            "compose record: cut.rec: refused 5 (malformed): ",
+            "tray a.rec",
+            "a.rec: ",
+            Refusal::MALFORMED.of_item(About::Record, 0),
         ),
-        (
-            "view cut.rec",
-            "compose view: cut.rec: refused 5 (malformed): ",
-        ),
-        ("tray a.rec", "compose tray: a.rec, record 0: refused 5 "),
         (
             "pack a.rec cut.rec -o new.rec",
-            "compose pack: cut.rec: refused 5 ",
+            "cut.rec: ",
+            Refusal::MALFORMED,
         ),
         (
             "pack a.rec cut.rec -o old.rec --force",
-            "compose pack: cut.rec: refused 5 ",
+            "cut.rec: ",
+            Refusal::MALFORMED,
         ),
-        (
-            "crop a.rec 0 0 7 1 -o new.rec",
-            "compose crop: refused 9 (outside): ",
-        ),
+        ("crop a.rec 0 0 7 1 -o new.rec", "", Refusal::OUTSIDE),
         (
             "crop a.rec 0 0 7 1 -o old.rec --force",
-            "compose crop: refused 9 ",
+            "",
+            Refusal::OUTSIDE,
         ),
         (
             "crop cut.rec 0 0 7 1 -o new.rec",
-            "compose crop: cut.rec: refused 5 ",
+            "cut.rec: ",
+            Refusal::MALFORMED,
         ),
         (
             "clap a.rec 5 1 4 1 0 1 0 1 -o new.rec",
-            "compose clap: refused 8 (fraction): ",
+            "",
+            Refusal::FRACTION,
         ),
-        (
-            "clap a.rec 5 0 4 1 0 1 0 1 -o new.rec",
-            "compose clap: refused 7 (zero): ",
-        ),
-        (
-            "irot cut.rec 1 -o new.rec",
-            "compose irot: cut.rec: refused 5 ",
-        ),
-        (
-            "iscl a.rec 0 1 1 1 -o new.rec",
-            "compose iscl: refused 7 (zero): ",
-        ),
-        (
-            "nearest a.rec 0 1 -o new.rec",
-            "compose nearest: refused 3 (empty): ",
-        ),
-        (
-            "depth a.rec 17 -o old.rec --force",
-            "compose depth: refused 6 (depth): ",
-        ),
+        ("clap a.rec 5 0 4 1 0 1 0 1 -o new.rec", "", Refusal::ZERO),
+        ("irot cut.rec 1 -o new.rec", "cut.rec: ", Refusal::MALFORMED),
+        ("iscl a.rec 0 1 1 1 -o new.rec", "", Refusal::ZERO),
+        ("nearest a.rec 0 1 -o new.rec", "", Refusal::EMPTY),
+        ("depth a.rec 17 -o old.rec --force", "", Refusal::DEPTH),
         (
             "attach a.rec cut.rec -o new.rec",
-            "compose attach: cut.rec: refused 5 ",
+            "cut.rec: ",
+            Refusal::MALFORMED,
         ),
-        (
-            "body grid 1 1 0 4 -o new.rec",
-            "compose body: refused 3 (empty): ",
-        ),
+        ("body grid 1 1 0 4 -o new.rec", "", Refusal::EMPTY),
         (
             "body overlay 65536 65536 0 0 0 0 1 2 -o new.rec",
-            "compose body: refused 4 (limit): ",
+            "",
+            Refusal::LIMIT,
         ),
-        (
-            "grid a.rec a.rec -o new.rec",
-            "compose grid: a.rec: refused 2 (version): ",
-        ),
-        (
-            "body grid 0 1 4 4 -o new.rec",
-            "compose body: refused 3 (empty): ",
-        ),
-        (
-            "body grid 257 1 4 4 -o new.rec",
-            "compose body: refused 4 (limit): ",
-        ),
+        ("grid a.rec a.rec -o new.rec", "a.rec: ", Refusal::VERSION),
+        ("body grid 0 1 4 4 -o new.rec", "", Refusal::EMPTY),
+        ("body grid 257 1 4 4 -o new.rec", "", Refusal::LIMIT),
         (
             "overlay one.body none.tray -o new.rec",
-            "compose overlay: none.tray: refused 15 (missing): ",
+            "none.tray: ",
+            Refusal::MISSING,
         ),
         (
             "overlay one.body one.tray -o new.rec --premultiplied 0,0",
-            "compose overlay: --premultiplied: refused 11 (count): ",
+            "--premultiplied: ",
+            Refusal::COUNT,
         ),
         (
             "imir cut.rec 1 -o old.rec --force",
-            "compose imir: cut.rec: refused 5 ",
+            "cut.rec: ",
+            Refusal::MALFORMED,
         ),
     ] {
-        folder.fails(words, 2, beginning);
+        folder.refuses(words, part, refusal);
         assert!(!folder.has("new.rec"), "{words}");
         assert_eq!(folder.get("old.rec"), b"as it was", "{words}");
     }
@@ -296,64 +274,107 @@ fn refusals_name_the_file_and_its_part() {
     folder.done("entries irot! 1 other clap 5 1 4 1 0 1 0 1 -o clap.chain");
     folder.done("entries imir! 0 iscl 1 2 1 0 -o iscl.chain");
     folder.done("entries -o no.chain");
-    for (words, part) in [
-        ("grid empty.body tiles.tray", "empty.body: refused 3"),
-        ("grid empty.body count.tray", "count.tray: refused 5"),
-        ("grid grid.body three.tray", "three.tray: refused 11"),
-        ("grid grid.body cut.tray", "cut.tray, record 1: refused 5"),
-        ("grid grid.body over.tray", "over.tray: refused 5"),
-        ("grid wide.body tiles.tray", "tiles.tray: refused 12"),
+    for (words, part, refusal) in [
+        ("grid empty.body tiles.tray", "empty.body: ", Refusal::EMPTY),
+        (
+            "grid empty.body count.tray",
+            "count.tray: ",
+            Refusal::MALFORMED,
+        ),
+        ("grid grid.body three.tray", "three.tray: ", Refusal::COUNT),
+        (
+            "grid grid.body cut.tray",
+            "cut.tray: ",
+            Refusal::MALFORMED.of_item(About::Record, 1),
+        ),
+        (
+            "grid grid.body over.tray",
+            "over.tray: ",
+            Refusal::MALFORMED,
+        ),
+        ("grid wide.body tiles.tray", "tiles.tray: ", Refusal::COVER),
         (
             "grid grid.body small.tray",
-            "small.tray, record 1: refused 13",
+            "small.tray: ",
+            Refusal::TILE.of_item(About::Record, 1),
         ),
         (
             "grid grid.body deep.tray",
-            "deep.tray, record 1: refused 14",
+            "deep.tray: ",
+            Refusal::LAYOUT.of_item(About::Record, 1),
         ),
-        ("overlay overlay.body three.tray", "overlay.body: refused 1"),
-        ("overlay grid.body none.tray", "grid.body: refused 1"),
-        ("overlay overlay.body none.tray", "none.tray: refused 15"),
+        (
+            "overlay overlay.body three.tray",
+            "overlay.body: ",
+            Refusal::SHORT,
+        ),
+        ("overlay grid.body none.tray", "grid.body: ", Refusal::SHORT),
+        (
+            "overlay overlay.body none.tray",
+            "none.tray: ",
+            Refusal::MISSING,
+        ),
         (
             "overlay overlay.body cut.tray",
-            "cut.tray, record 1: refused 5",
+            "cut.tray: ",
+            Refusal::MALFORMED.of_item(About::Record, 1),
         ),
         (
             "overlay overlay.body deep.tray",
-            "deep.tray, record 1: refused 14",
+            "deep.tray: ",
+            Refusal::LAYOUT.of_item(About::Record, 1),
         ),
         (
             "overlay overlay.body shining.tray",
-            "shining.tray, record 1: refused 16",
+            "shining.tray: ",
+            Refusal::OPACITY.of_item(About::Record, 1),
         ),
         (
             "scene grid empty.body cut.tray cut.chain",
-            "cut.chain: refused 5",
+            "cut.chain: ",
+            Refusal::MALFORMED.of_item(About::Entry, 0),
         ),
         (
             "scene grid grid.body tiles.tray clap.chain",
-            "clap.chain, entry 2: refused 9",
+            "clap.chain: ",
+            Refusal::OUTSIDE.of_item(About::Entry, 2),
         ),
         (
             "scene grid grid.body tiles.tray iscl.chain",
-            "iscl.chain, entry 1: refused 7",
+            "iscl.chain: ",
+            Refusal::ZERO.of_item(About::Entry, 1),
         ),
         (
             "scene overlay overlay.body cut.tray clap.chain",
-            "cut.tray, record 1: refused 5",
+            "cut.tray: ",
+            Refusal::MALFORMED.of_item(About::Record, 1),
         ),
         (
             "point grid grid.body tiles.tray iscl.chain 0 0",
-            "iscl.chain, entry 1: refused 18",
+            "iscl.chain: ",
+            Refusal::POINT.of_item(About::Entry, 1),
         ),
         (
             "point overlay overlay.body shining.tray no.chain 0 0",
-            "shining.tray, record 1: refused 18",
+            "shining.tray: ",
+            Refusal::POINT.of_item(About::Record, 1),
         ),
-        ("point grid grid.body tiles.tray no.chain 9 9", "refused 18"),
-        ("pack tiles.tray", "tiles.tray: refused 5"),
-        ("tray cut.tray", "cut.tray, record 1: refused 5"),
-        ("attach tiles.tray cut.tray", "tiles.tray: refused "),
+        (
+            "point grid grid.body tiles.tray no.chain 9 9",
+            "",
+            Refusal::POINT,
+        ),
+        ("pack tiles.tray", "tiles.tray: ", Refusal::MALFORMED),
+        (
+            "tray cut.tray",
+            "cut.tray: ",
+            Refusal::MALFORMED.of_item(About::Record, 1),
+        ),
+        (
+            "attach tiles.tray cut.tray",
+            "tiles.tray: ",
+            Refusal::MALFORMED,
+        ),
     ] {
         let command = words.split(' ').next().expect("a word");
         let out = if ["point", "tray"].contains(&command) {
@@ -361,8 +382,7 @@ fn refusals_name_the_file_and_its_part() {
         } else {
             " -o new.rec"
         };
-        let beginning = format!("compose {command}: {part}");
-        folder.fails(&format!("{words}{out}"), 2, &beginning);
+        folder.refuses(&format!("{words}{out}"), part, refusal);
         assert!(!folder.has("new.rec"), "{words}");
     }
     // Under the flag the entry that would be refused is passed over.
@@ -384,24 +404,41 @@ fn small_and_large(name: &str) -> Folder {
 fn what_is_above_a_ceiling_takes_no_memory() {
     let folder = small_and_large("ceilings");
     let scene = "scene grid one.body one.tray large.chain -o new.rec";
-    let usual = "compose scene: refused 4 (limit): a picture of 1073741824 pixels, and at most \
-                 268435456 are allowed; --max-pixels N sets it\n";
+    let usual = "compose scene: 4: The picture is too large, or there are too many records or entries. \
+                 It would have 1073741824 pixels, and at most 268435456 are allowed (--max-pixels N).\n";
     folder.fails(scene, 2, usual);
     let beyond = format!("{scene} --max-pixels 1073741824");
-    let bytes = "compose scene: refused 4 (limit): 2147483682 bytes of memory, and at most 1073741824 \
-                 are allowed; --max-bytes N sets it\n";
+    let bytes = "compose scene: 4: The picture is too large, or there are too many records or entries. \
+                 It would take 2147483682 bytes of memory, and at most 1073741824 are allowed \
+                 (--max-bytes N).\n";
     folder.fails(&beyond, 2, bytes);
+    let german = "compose scene: 4: Das Bild ist zu groß, oder es sind zu viele Bilder oder Einträge. Es \
+                  bräuchte 2147483682 Byte Speicher, und höchstens 1073741824 sind erlaubt \
+                  (--max-bytes N).\n";
+    folder.fails(&format!("{beyond} --german"), 2, german);
 
     // A process that may have 256 MiB in all ends so, too.
     let compose = env!("CARGO_BIN_EXE_compose");
     let run = format!("ulimit -v 262144; {compose} {beyond}");
-    let small = Command::new("sh")
+    let small = program("sh")
         .args(["-c", &run])
         .current_dir(&folder.0)
         .output()
         .expect("a shell");
     assert_eq!(complaint(&small), bytes);
     assert!(!folder.has("new.rec"));
+}
+
+/// What a command says where it is asked for one more than is allowed.
+fn above(command: &str, what: Ceiling, asked: u64) -> String {
+    let most = asked - 1;
+    let option = match what {
+        Ceiling::Pixels => "--max-pixels",
+        Ceiling::Bytes => "--max-bytes",
+    };
+    let refusal = Refusal::from(Excess { what, asked, most }).to_string();
+    let sentence = refusal.trim_end_matches('.');
+    format!("compose {command}: {sentence} ({option} N).\n")
 }
 
 #[test]
@@ -427,13 +464,10 @@ fn ceilings_are_set_by_options() {
         ("scene overlay over.body one.tray turn.chain", 94),
     ] {
         let command = words.split(' ').next().unwrap_or_default();
-        let refused =
-            |most: &str| format!("compose {command}: refused 4 (limit): {most} are allowed;");
         let few = format!("{words} --max-pixels 23 -o new.rec");
-        folder.fails(&few, 2, &refused("a picture of 24 pixels, and at most 23"));
+        folder.fails(&few, 2, &above(command, Ceiling::Pixels, 24));
         let few = format!("{words} --max-bytes {} -o new.rec", bytes - 1);
-        let most = format!("{bytes} bytes of memory, and at most {}", bytes - 1);
-        folder.fails(&few, 2, &refused(&most));
+        folder.fails(&few, 2, &above(command, Ceiling::Bytes, bytes));
         assert!(!folder.has("new.rec"), "{words}");
         folder.done(&format!(
             "{words} --max-pixels=24 --max-bytes={bytes} -o new.rec"
@@ -444,9 +478,8 @@ fn ceilings_are_set_by_options() {
     }
     // The record, its planes and the file.
     let to_ppm = "convert a.rec --matrix 6 -o new.ppm";
-    let above =
-        "compose convert: refused 4 (limit): 166 bytes of memory, and at most 165 are allowed;";
-    folder.fails(&format!("{to_ppm} --max-bytes 165"), 2, above);
+    let refused = above("convert", Ceiling::Bytes, 166);
+    folder.fails(&format!("{to_ppm} --max-bytes 165"), 2, &refused);
     folder.done(&format!("{to_ppm} --max-bytes 166"));
     folder.fails(
         "crop a.rec 0 0 6 4 -o new.rec --max-pixels all",

@@ -3,7 +3,7 @@
 use crate::folder::{Folder, complaint, status};
 use compose::operation::{attach_alpha, crop, imir, irot, iscl, rescale_depth, resize_nearest};
 use compose::props::{Clap, Imir, Irot, Iscl, Property, PropertyEntry};
-use compose::{OverlayDescriptor, Refusal, chain, record, steps, tray};
+use compose::{About, OverlayDescriptor, Refusal, chain, record, steps, tray};
 use std::fs;
 
 #[test]
@@ -199,10 +199,10 @@ fn scenes_are_composed_and_asked() {
         folder.done("point grid grid.body tiles.tray turn.chain 0 0"),
         "input 1 at 1 1\nfrom 0 0, 4 × 2, left and right exchanged, 3 quarter turns\n"
     );
-    folder.fails(
+    folder.refuses(
         "point grid grid.body tiles.tray turn.chain 2 0",
-        2,
-        "compose point: refused 18 (point): ",
+        "",
+        Refusal::POINT,
     );
 
     folder.done("body overlay 3 2 65535 65535 65535 65535 0 0 -1 1 -o overlay.body");
@@ -215,20 +215,20 @@ fn scenes_are_composed_and_asked() {
         "fill\nfrom 0 0, 3 × 2, 0 quarter turns\n"
     );
     folder.done("entries iscl 1 2 1 2 -o scale.chain");
-    folder.fails(
+    folder.refuses(
         "point overlay overlay.body tiles.tray scale.chain 0 0",
-        2,
-        "compose point: scale.chain, entry 0: refused 18 (point): ",
+        "scale.chain: ",
+        Refusal::POINT.of_item(About::Entry, 0),
     );
-    folder.fails(
+    folder.refuses(
         "scene overlay overlay.body tiles.tray none.chain -o new.rec --premultiplied 1",
-        2,
-        "compose scene: --premultiplied: refused 11 (count): ",
+        "--premultiplied: ",
+        Refusal::COUNT,
     );
-    folder.fails(
+    folder.refuses(
         "scene grid overlay.body tiles.tray overlay.body -o new.rec",
-        2,
-        "compose scene: overlay.body: refused 5 (malformed): ",
+        "overlay.body: ",
+        Refusal::MALFORMED,
     );
     assert!(!folder.has("new.rec"));
     folder.fails(
@@ -298,7 +298,7 @@ fn fills_are_printed() {
     );
     for depth in [7, 17, 264] {
         let words = format!("fill 1 2 3 --depth {depth}");
-        folder.fails(&words, 2, "compose fill: refused 6 (depth): ");
+        folder.refuses(&words, "", Refusal::DEPTH);
     }
 }
 
@@ -316,13 +316,12 @@ fn descriptors_are_shown() {
         folder.done("descriptor overlay overlay 2"),
         "70000 × 2, fill 65535 0 1, alpha 2, 2 inputs\n    0  -1 0\n    1  7 -70000\n"
     );
-    for (words, beginning) in [
-        ("overlay overlay 3", "overlay: refused 1 (short): "),
-        ("overlay overlay 65537", "overlay: refused 4 (limit): "),
-        ("overlay grid 0", "grid: refused 1 (short): "),
+    for (words, part, refusal) in [
+        ("overlay overlay 3", "overlay: ", Refusal::SHORT),
+        ("overlay overlay 65537", "overlay: ", Refusal::LIMIT),
+        ("overlay grid 0", "grid: ", Refusal::SHORT),
     ] {
-        let beginning = format!("compose descriptor: {beginning}");
-        folder.fails(&format!("descriptor {words}"), 2, &beginning);
+        folder.refuses(&format!("descriptor {words}"), part, refusal);
     }
 }
 
@@ -345,13 +344,10 @@ fn chains_are_shown() {
          2  irot 255\n    3  imir 1\n    4  iscl 1 2 65535 3\n"
     );
     folder.put("long", &[0x81, 2]);
-    folder.fails("chain long", 2, "compose chain: long: refused 4 (limit): ");
+    folder.refuses("chain long", "long: ", Refusal::LIMIT);
     folder.put("cut", &[1, 2, 0]);
-    folder.fails(
-        "chain cut",
-        2,
-        "compose chain: cut: refused 5 (malformed): ",
-    );
+    let first = Refusal::MALFORMED.of_item(About::Entry, 0);
+    folder.refuses("chain cut", "cut: ", first);
 }
 
 /// With a size, a line says what its entry makes of what is left of it.
@@ -405,19 +401,15 @@ fn a_chain_says_where_it_is_refused() {
              1  clap 24 1 16 1 0 1 0 1: {refusal}\n"
         )
     );
-    let complained = format!("compose chain: c, entry 1: {refusal}\n");
-    assert_eq!(complaint(&output), complained);
+    let own = refusal.of_item(About::Entry, 1);
+    assert_eq!(complaint(&output), format!("compose chain: c: {own}\n"));
     assert!(
         folder
             .done("chain c 24 16 --essential")
             .ends_with("imir 1: skipped\n")
     );
-    for (size, beginning) in [
-        ("0 4", "refused 3 (empty): "),
-        ("65536 16385", "refused 4 (limit): "),
-    ] {
-        let beginning = format!("compose chain: {beginning}");
-        folder.fails(&format!("chain c {size}"), 2, &beginning);
+    for (size, refusal) in [("0 4", Refusal::EMPTY), ("65536 16385", Refusal::LIMIT)] {
+        folder.refuses(&format!("chain c {size}"), "", refusal);
     }
 }
 
@@ -481,15 +473,14 @@ fn sizes_are_worked_out() {
     ] {
         assert_eq!(folder.done(&format!("resolve {words}")), numbers);
     }
-    for (words, beginning) in [
-        ("clap 64 48 63 1 48 1 0 1 0 1", "refused 8 (fraction): "),
-        ("clap 64 48 64 1 48 1 1 1 0 1", "refused 9 (outside): "),
-        ("iscl 5 5 1 2 0 3", "refused 7 (zero): "),
-        ("iscl 65536 1 65535 1 65535 1", "refused 4 (limit): "),
-        ("iscl 4294967295 1 2 1 1 1", "refused 10 (scale): "),
+    for (words, refusal) in [
+        ("clap 64 48 63 1 48 1 0 1 0 1", Refusal::FRACTION),
+        ("clap 64 48 64 1 48 1 1 1 0 1", Refusal::OUTSIDE),
+        ("iscl 5 5 1 2 0 3", Refusal::ZERO),
+        ("iscl 65536 1 65535 1 65535 1", Refusal::LIMIT),
+        ("iscl 4294967295 1 2 1 1 1", Refusal::SCALE),
     ] {
-        let beginning = format!("compose resolve: {beginning}");
-        folder.fails(&format!("resolve {words}"), 2, &beginning);
+        folder.refuses(&format!("resolve {words}"), "", refusal);
     }
 }
 
@@ -571,7 +562,7 @@ fn a_large_record_is_shown() {
 #[test]
 fn steps_are_printed() {
     let folder = Folder::new("steps");
-    for (input, text, beginning) in [
+    for (input, text, refusal) in [
         (
             &[6, 4, 2, 2, 1, 1, 3, 0, 1][..],
             "step kind width height\n0 2 4 6\n1 3 4 6\n",
@@ -581,21 +572,17 @@ fn steps_are_printed() {
         (
             &[6, 4, 1, 4, 0, 0, 1, 1, 1],
             "step kind width height\n0 4 refused 7\n",
-            Some("compose steps: refused 7 (zero): "),
+            Some(Refusal::ZERO),
         ),
-        (
-            &[0, 4, 0],
-            "refused 3\n",
-            Some("compose steps: refused 3 (empty): "),
-        ),
+        (&[0, 4, 0], "refused 3\n", Some(Refusal::EMPTY)),
     ] {
         let output = folder.run_with("steps -", input);
         assert_eq!(String::from_utf8_lossy(&output.stdout), text);
-        match beginning {
+        match refusal {
             None => assert_eq!((status(&output), complaint(&output)), (0, String::new())),
-            Some(beginning) => {
+            Some(refusal) => {
                 assert_eq!(status(&output), 2);
-                assert!(complaint(&output).starts_with(beginning));
+                assert_eq!(complaint(&output), format!("compose steps: {refusal}\n"));
             }
         }
     }
