@@ -41,5 +41,5 @@ pub struct Table {
 /// An answer that must come.
 pub fn answered<T>(answer: Option<Answer<T>>) -> T {
     let answer = answer.expect("the composer has the call");
-    answer.unwrap_or_else(|number| panic!("refused {number}"))
+    answer.unwrap_or_else(|refusal| panic!("refused {}", refusal.number))
 }

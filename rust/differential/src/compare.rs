@@ -80,7 +80,7 @@ impl fmt::Display for Input {
 pub enum Verdict {
     /// All sides accepted it alike.
     Accepted,
-    /// All sides refused it with this number.
+    /// All sides refused it with this number and this item.
     Refused(Refusal),
     /// Not worked here: too large, or nothing to compare.
     PassedOver,
@@ -141,7 +141,9 @@ pub struct Report {
     pub cases: u64,
     pub accepted: u64,
     /// How many were refused, by number.
-    pub refused: BTreeMap<Refusal, u64>,
+    pub refused: BTreeMap<u8, u64>,
+    /// How many of them were an item's own refusal.
+    pub of_items: u64,
     pub passed_over: u64,
     pub differences: Vec<Difference>,
 }
@@ -159,6 +161,9 @@ impl fmt::Display for Report {
             let counts = self.refused.iter();
             let counts = counts.map(|(number, count)| format!("{number}: {count}"));
             write!(f, " ({})", counts.collect::<Vec<_>>().join(", "))?;
+        }
+        if self.of_items > 0 {
+            write!(f, ", {} of them an item's own", self.of_items)?;
         }
         if self.passed_over > 0 {
             write!(f, ", {} passed over", self.passed_over)?;
@@ -265,7 +270,10 @@ impl Comparison {
             report.cases += 1;
             match (self.judge)(sides, &input) {
                 Verdict::Accepted => report.accepted += 1,
-                Verdict::Refused(number) => *report.refused.entry(number).or_default() += 1,
+                Verdict::Refused(Refusal { number, item }) => {
+                    *report.refused.entry(number).or_default() += 1;
+                    report.of_items += u64::from(item.is_some());
+                }
                 Verdict::PassedOver => report.passed_over += 1,
                 Verdict::Different(shows) => {
                     let (input, shows) = self.shrink(sides, input, shows);

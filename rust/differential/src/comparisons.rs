@@ -8,10 +8,10 @@ use crate::ours::{self, Answer};
 use crate::rng::Rng;
 use crate::rooms;
 use model::{
-    Clap, Colour, Crop, Entry, Frame, Grid, Iscl, Marks, Named, Operation, Oracle, Outcome,
-    Overlay, OverlayInput, Point, Property, Reader, Scene, SceneParts, Sighted, Size, chain_bytes,
-    fill_samples, number_bytes, parse_chain, parse_grid, parse_overlay, parse_record, parse_steps,
-    parse_tray, steps_text, tray_bytes,
+    Clap, Colour, Crop, Entry, Frame, Grid, Iscl, Item, Marks, Named, Operation, Oracle, Outcome,
+    Overlay, OverlayInput, Point, Property, Reader, Refusal, Scene, SceneParts, Sighted, Size,
+    chain_bytes, fill_samples, number_bytes, parse_chain, parse_grid, parse_overlay, parse_record,
+    parse_steps, parse_tray, read_sentence, refusal, steps_text, tray_bytes,
 };
 use std::collections::HashSet;
 use std::fmt::Debug;
@@ -158,6 +158,11 @@ pub const ALL: &[Comparison] = &[
         generate: point_input,
         judge: point,
     },
+    Comparison {
+        name: "sentence",
+        generate: sentence_input,
+        judge: sentence,
+    },
 ];
 
 /// What both builds want of a call: the same, and no panic. `departs` says how another side does
@@ -171,21 +176,21 @@ pub(crate) fn agree<T: PartialEq + Debug>(
     }
     let want = match plain {
         Ok(answer) => Ok(answer),
-        Err(Stop::Refused(number)) => Err(number),
+        Err(Stop::Refused(refusal)) => Err(refusal),
         Err(Stop::Large) => return Verdict::PassedOver,
         Err(Stop::Broke(text)) => return Verdict::Different(format!("both builds: {text}")),
     };
     match (departs(&want), want) {
         (Some(shows), _) => Verdict::Different(shows),
         (None, Ok(_)) => Verdict::Accepted,
-        (None, Err(number)) => Verdict::Refused(number),
+        (None, Err(refusal)) => Verdict::Refused(refusal),
     }
 }
 
 /// What is written must be a record.
 pub(crate) fn no_record(want: &Answer<impl AsRef<[u8]>>) -> Option<String> {
-    let number = parse_record(want.as_ref().ok()?.as_ref()).err()?;
-    Some(format!("the record written is refused {number}"))
+    let refusal = parse_record(want.as_ref().ok()?.as_ref()).err()?;
+    Some(format!("the record written is refused {}", refusal.number))
 }
 
 fn house_number_input(rng: &mut Rng) -> Input {
@@ -216,7 +221,7 @@ fn house_number(_: &Sides, input: &Input) -> Verdict {
         {
             Verdict::Accepted
         }
-        (Err(number @ 5), None) => Verdict::Refused(number),
+        (Err(refusal @ refusal::MALFORMED), None) => Verdict::Refused(refusal),
         _ => Verdict::Different(format!("read {read:?}, wanted {wanted:?}")),
     }
 }
@@ -374,7 +379,7 @@ fn overlay_descriptor(sides: &Sides, input: &Input) -> Verdict {
     let inputs = input.numbers("inputs")[0] as u32;
     let wants = sides.wants(|build| expected::settle(build.parse_overlay(body, inputs as usize)));
     agree(wants, |want| {
-        let read = want.as_ref().map_err(|number| *number);
+        let read = want.as_ref().map_err(|refusal| *refusal);
         let words = read.map(|overlay| {
             let [red, green, blue, alpha] = overlay.fill.map(u64::from);
             let [width, height] = [overlay.width, overlay.height].map(u64::from);
@@ -390,7 +395,7 @@ fn overlay_descriptor(sides: &Sides, input: &Input) -> Verdict {
         let offset = |index: u32| {
             let words = read.and_then(|overlay| {
                 let offset = overlay.offsets.get(index as usize);
-                offset.map(placed).ok_or(model::refusal::COUNT)
+                offset.map(placed).ok_or(refusal::COUNT)
             });
             let call = |lent: &mut [u64]| sides.ours.overlay_offset(body, inputs, index, lent);
             ours::fills(&words, call).map(|shows| format!("offset {index}: {shows}"))
@@ -407,22 +412,17 @@ fn chain_input(rng: &mut Rng) -> Input {
     Input::new().with_bytes("chain", damage::any_chain(rng))
 }
 
-/// The composer's count against the model's reading, which is written back to the same bytes. The
+/// The model's reading, which is written back to the same bytes, and the composer's count. The
 /// published Rust has no chains of bytes; `steps` holds what it makes of their entries.
 fn chain(sides: &Sides, input: &Input) -> Verdict {
     let bytes = input.bytes("chain");
-    let read = parse_chain(bytes);
-    let count = read.as_ref().map(|entries| entries.len() as u32);
-    let count = count.map_err(|number| *number);
-    let departs = ours::answers(&count, sides.ours.chain(bytes)).or_else(|| {
-        let other = read.as_ref().is_ok_and(|read| chain_bytes(read) != bytes);
-        other.then(|| "the model writes it back to other bytes".into())
-    });
-    match (departs, read) {
-        (Some(shows), _) => Verdict::Different(shows),
-        (None, Ok(_)) => Verdict::Accepted,
-        (None, Err(number)) => Verdict::Refused(number),
-    }
+    agree(sides.wants(|_| expected::chain(bytes)), |want| {
+        let read = parse_chain(bytes);
+        model_departs(want, &read, bytes, |entries| chain_bytes(entries)).or_else(|| {
+            let count = read.map(|entries| entries.len() as u32);
+            ours::answers(&count, sides.ours.chain(bytes))
+        })
+    })
 }
 
 /// A size of any sides.
@@ -516,7 +516,7 @@ fn steps(sides: &Sides, input: &Input) -> Verdict {
         model_answers(want, &model.map(String::into_bytes)).or_else(|| ours::writes(want, call))
     });
     match (verdict, parse_steps(bytes)) {
-        (Verdict::Accepted, Err(number)) => Verdict::Refused(number),
+        (Verdict::Accepted, Err(refusal)) => Verdict::Refused(refusal),
         (verdict, _) => verdict,
     }
 }
@@ -785,7 +785,8 @@ fn overlay_input(rng: &mut Rng) -> Input {
 /// A scene; once in eight one with known faults.
 pub(crate) fn scene_input(rng: &mut Rng, overlay: bool) -> Input {
     if rng.once_in(8) {
-        let faults = damage::some_faults(rng, |fault: SceneFault| fault.fits(overlay));
+        let drawn = |fault: SceneFault| fault.fits(overlay) && fault.is_drawn();
+        let faults = damage::some_faults(rng, drawn);
         let draft = damage::faulty_scene(rng, &faults, overlay);
         return whole_input(rng, draft);
     }
@@ -912,8 +913,9 @@ fn other_samples(tray: &[u8]) -> Vec<u8> {
 }
 
 /// The point call at every place of the final picture, and at places outside it (18). The model's
-/// answers are held to the oracle's picture: its size, and every sample at every place that it
-/// covers; the composer's to the model's, on a tray of other samples too. No spot is named twice.
+/// answers are held to the oracle's final size, or why there is none, and to its picture: its size, and
+/// every sample at every place that it covers; the composer's to the model's, on a tray of other
+/// samples too. No spot is named twice.
 fn point(sides: &Sides, input: &Input) -> Verdict {
     let parts = parts_of(input);
     let overlay = input.has("premultiplied");
@@ -934,19 +936,27 @@ fn point(sides: &Sides, input: &Input) -> Verdict {
         let departs = ours::fills(&want, |words| ask(tray, place, words));
         departs.map(|shows| format!("at {place:?}: {shows}"))
     };
-    let refused = |number| {
+    let refused = |refusal| {
         let places = [(0, 0), (1, 2), (u32::MAX, u32::MAX)];
         let mut asked = places.into_iter();
-        asked.find_map(|place| ours(parts.tray, place, &Err(number)))
+        asked.find_map(|place| ours(parts.tray, place, &Err(refusal)))
     };
+    let size = sighted.as_ref().map(Sighted::size);
+    let size = size.map_err(|refusal| *refusal);
+    let wants = sides.wants(|build| expected::point(build, &parts, marks.as_ref()));
+    if let shown @ Verdict::Different(_) = agree(wants, |want| model_answers(want, &size)) {
+        return shown;
+    }
     // Input with alpha, or an iscl: the scene may well be made.
-    if let Err(number @ model::refusal::POINT) = sighted {
-        return refused(number).map_or(Verdict::Refused(number), Verdict::Different);
+    if let Err(refusal) = size
+        && refusal.number == refusal::POINT.number
+    {
+        return refused(refusal).map_or(Verdict::Refused(refusal), Verdict::Different);
     }
     let wants = sides.wants(|build| expected_scene(build, &parts, marks.as_ref()));
     let mut many = false;
     let verdict = agree(wants, |want| match (want, &sighted) {
-        (Err(number), Err(same)) if number == same => refused(*number),
+        (Err(refusal), Err(same)) if refusal == same => refused(*refusal),
         (Ok(scene), Ok(sighted)) => {
             let frame = parse_record(&scene.record).expect("a record that was made");
             many = frame.width as usize * frame.height as usize > MANY;
@@ -1016,6 +1026,66 @@ pub fn agreement(frame: &Frame, sighted: &Sighted) -> Option<String> {
         }
     }
     None
+}
+
+/// A number, a sort, an index as its bit pattern and a language: known ones as a rule.
+fn sentence_input(rng: &mut Rng) -> Input {
+    let number = match rng.below(8) {
+        0 => rng.pick(&[0, 19, 255, 256 + 5, u32::MAX]),
+        _ => rng.number(1..=18),
+    };
+    let sort = match rng.below(8) {
+        0 => rng.pick(&[3, 255]),
+        _ => rng.number(0..=2),
+    };
+    let language = match rng.below(8) {
+        0 => rng.pick(&[2, 255]),
+        _ => rng.number(0..=1),
+    };
+    let index = match rng.below(4) {
+        0 => rng.word(),
+        1 => rng.word() >> rng.below(64),
+        _ => rng.pick(&INDEXES),
+    };
+    let [number, sort, language] = [number, sort, language].map(i64::from);
+    let refusal = vec![number, sort, index.cast_signed(), language];
+    Input::new().with_numbers("refusal", refusal)
+}
+
+/// Indexes where another digit or another word begins.
+const INDEXES: [u64; 9] = [
+    0,
+    9,
+    10,
+    (1 << 32) - 1,
+    1 << 32,
+    (1 << 32) + 1,
+    (1 << 40) - 1,
+    (1 << 40) + 1,
+    u64::MAX,
+];
+
+/// The model's sentence, which says what it was made of, and what the composer writes. The published
+/// Rust has none.
+fn sentence(sides: &Sides, input: &Input) -> Verdict {
+    let field = |at: usize| input.numbers("refusal")[at];
+    let (number, sort, language) = (field(0) as u32, field(1) as u8, field(3) as u8);
+    let index = field(2).cast_unsigned();
+    let made = |_: &dyn Oracle| {
+        let sentence = model::sentence(number, sort, index, language)?;
+        Ok(sentence.into_bytes())
+    };
+    agree(sides.wants(made), |want| {
+        let call = |output: &mut [u8]| sides.ours.sentence(number, sort, index, language, output);
+        ours::writes(want, call).or_else(|| {
+            let read = read_sentence(want.as_ref().ok()?);
+            let said = Refusal {
+                number: number as u8,
+                item: Item::of_sort(sort, index),
+            };
+            (read != Some((language, said))).then(|| format!("it is read as {read:?}"))
+        })
+    })
 }
 
 /// A session: a body, a tray of tiles to take from, one more record, and calls of three bytes

@@ -1,11 +1,11 @@
-//! Broken inputs: numbers in forms that document 01 calls malformed, records, trays and chains
-//! with faults whose number is known, margins that are not a crop's, and blind damage.
+//! Broken inputs: numbers in forms that document 01 calls malformed, records, trays, chains and scenes
+//! with faults whose refusal is known, margins that are not a crop's, and blind damage.
 
 use crate::generate;
 use crate::rng::Rng;
 use model::{
-    Clap, Crop, Entry, Frame, Grid, Iscl, MAX_ENTRIES, Overlay, Property, Rectangle, Refusal, Size,
-    chain_bytes, number_bytes, refusal,
+    Chroma, Clap, Colour, Crop, Entry, Frame, Grid, Iscl, Item, MAX_ENTRIES, Marks, Overlay,
+    Property, Rectangle, Refusal, SceneParts, Size, chain_bytes, number_bytes, refusal,
 };
 use std::ops::Range;
 
@@ -126,49 +126,55 @@ impl Draft {
     }
 }
 
-/// A fault that stands at a place of document 01's order and has a number there.
+/// A fault that stands at a place of document 01's order and has a refusal there.
 pub trait Fault: Copy + Ord + 'static {
     /// Every fault, in the order in which they are judged.
-    const ALL: &'static [Self];
+    fn all() -> Vec<Self>;
 
     fn refusal(self) -> Refusal;
 }
 
-/// The number that several faults together are refused with: the first's.
+/// The refusal of several faults together: the first's.
 pub fn first_refusal<F: Fault>(faults: &[F]) -> Refusal {
     faults.iter().min().expect("a fault at least").refusal()
 }
 
 /// One to three faults of those that `fit`.
 pub fn some_faults<F: Fault>(rng: &mut Rng, fit: impl Fn(F) -> bool) -> Vec<F> {
-    let fitting: Vec<F> = F::ALL.iter().copied().filter(|fault| fit(*fault)).collect();
+    let mut fitting = F::all();
+    fitting.retain(|fault| fit(*fault));
     (0..1 + rng.below(3)).map(|_| rng.pick(&fitting)).collect()
 }
 
 /// Every choice of three faults, one and the same included: so each fault alone, each two of them
 /// and each three.
 pub fn triples<F: Fault>() -> Vec<[F; 3]> {
+    let all = F::all();
     let mut triples = Vec::new();
-    for (at, first) in F::ALL.iter().enumerate() {
-        for (next, second) in F::ALL.iter().enumerate().skip(at) {
-            let thirds = F::ALL[next..].iter();
+    for (at, first) in all.iter().enumerate() {
+        for (next, second) in all.iter().enumerate().skip(at) {
+            let thirds = all[next..].iter();
             triples.extend(thirds.map(|third| [*first, *second, *third]));
         }
     }
     triples
 }
 
+/// Bytes with faults, and their refusal.
+pub type Faulty = (Vec<u8>, Refusal);
+
 /// Every choice of one, two and three faults, each made `times` times: the faults, the bytes, and
-/// the number that they are refused with.
+/// their refusal.
 pub fn each_choice<F: Fault>(
     times: usize,
-    make: impl Fn(&mut Rng, &[F]) -> Vec<u8>,
+    make: impl Fn(&mut Rng, &[F]) -> Faulty,
 ) -> Vec<([F; 3], Vec<u8>, Refusal)> {
     let mut rng = Rng::new(1);
     let mut choices = Vec::new();
     for faults in triples() {
         for _ in 0..times {
-            choices.push((faults, make(&mut rng, &faults), first_refusal(&faults)));
+            let (bytes, refusal) = make(&mut rng, &faults);
+            choices.push((faults, bytes, refusal));
         }
     }
     choices
@@ -201,21 +207,23 @@ pub enum RecordFault {
 }
 
 impl Fault for RecordFault {
-    const ALL: &'static [Self] = &[
-        Self::HeaderCut,
-        Self::HeaderNumber,
-        Self::Chroma,
-        Self::Alpha,
-        Self::Depth,
-        Self::ZeroSide,
-        Self::Limit,
-        Self::StrideNumber,
-        Self::LengthNumber,
-        Self::StrideBelowRow,
-        Self::DataShort,
-        Self::PastEnd,
-        Self::LeftOver,
-    ];
+    fn all() -> Vec<Self> {
+        vec![
+            Self::HeaderCut,
+            Self::HeaderNumber,
+            Self::Chroma,
+            Self::Alpha,
+            Self::Depth,
+            Self::ZeroSide,
+            Self::Limit,
+            Self::StrideNumber,
+            Self::LengthNumber,
+            Self::StrideBelowRow,
+            Self::DataShort,
+            Self::PastEnd,
+            Self::LeftOver,
+        ]
+    }
 
     fn refusal(self) -> Refusal {
         match self {
@@ -280,7 +288,7 @@ impl RecordFault {
 }
 
 /// A record with `faults` in it.
-pub fn faulty_record(rng: &mut Rng, faults: &[RecordFault]) -> Vec<u8> {
+pub fn faulty_record(rng: &mut Rng, faults: &[RecordFault]) -> Faulty {
     let size = (generate::side(rng), generate::side(rng));
     let form = generate::form(rng);
     let frame = generate::frame_of(rng, size, form, true);
@@ -288,36 +296,67 @@ pub fn faulty_record(rng: &mut Rng, faults: &[RecordFault]) -> Vec<u8> {
     for fault in last_first(faults) {
         fault.apply(rng, &frame, &mut draft);
     }
-    draft.bytes()
+    (draft.bytes(), first_refusal(faults))
 }
 
-/// A tray with one to three faults, and its number. Records are judged in turn, then what is left.
-pub fn faulty_tray(rng: &mut Rng) -> (Vec<u8>, Refusal) {
-    let mut expected = None;
-    let count = rng.below(4);
-    let mut records = Vec::new();
-    for _ in 0..count {
-        if rng.once_in(3) {
-            let faults = some_faults(rng, RecordFault::stands_in_tray);
-            records.push(faulty_record(rng, &faults));
-            expected = expected.or(Some(first_refusal(&faults)));
-        } else {
-            records.push(generate::frame(rng).record());
+/// Faults of a tray of three records, in document 01's order.
+#[derive(Clone, Copy, Debug, PartialEq, Eq, PartialOrd, Ord)]
+pub enum TrayFault {
+    CountNumber,
+    /// A record's own, by its index.
+    Record(usize, RecordFault),
+    MissingRecord,
+    LeftOver,
+}
+
+/// The records of a faulty tray.
+const RECORDS: usize = 3;
+
+impl Fault for TrayFault {
+    fn all() -> Vec<Self> {
+        let mut all = vec![Self::CountNumber];
+        for index in 0..RECORDS {
+            let faults = RecordFault::all().into_iter();
+            let faults = faults.filter(|fault| fault.stands_in_tray());
+            all.extend(faults.map(|fault| Self::Record(index, fault)));
+        }
+        all.extend([Self::MissingRecord, Self::LeftOver]);
+        all
+    }
+
+    fn refusal(self) -> Refusal {
+        match self {
+            Self::CountNumber | Self::LeftOver => refusal::MALFORMED,
+            Self::Record(index, fault) => fault.refusal().of_record(index),
+            Self::MissingRecord => refusal::MALFORMED.of_record(RECORDS),
         }
     }
-    let mut bytes = number_bytes(count as u32);
-    match rng.below(4) {
-        // The count is unreadable, whatever follows.
-        0 => {
-            bytes = malformed_number(rng);
-            expected = Some(refusal::MALFORMED);
-        }
-        // A record is missing, or bytes are left over: judged once the records are read.
-        1 => bytes = number_bytes(count as u32 + 1),
-        _ => records.push(vec![rng.byte() & 127]),
+}
+
+/// A tray with `faults` in it.
+pub fn faulty_tray(rng: &mut Rng, faults: &[TrayFault]) -> Faulty {
+    let has = |fault| faults.contains(&fault);
+    let mut bytes = match has(TrayFault::CountNumber) {
+        true => malformed_number(rng),
+        false => number_bytes((RECORDS + usize::from(has(TrayFault::MissingRecord))) as u32),
+    };
+    for index in 0..RECORDS {
+        let of_record = |fault: &TrayFault| match fault {
+            TrayFault::Record(at, fault) if *at == index => Some(*fault),
+            _ => None,
+        };
+        let faults: Vec<RecordFault> = faults.iter().filter_map(of_record).collect();
+        bytes.extend(match faults.is_empty() {
+            true => generate::frame(rng).record(),
+            false => faulty_record(rng, &faults).0,
+        });
     }
-    bytes.extend(records.concat());
-    (bytes, expected.unwrap_or(refusal::MALFORMED))
+    if has(TrayFault::LeftOver) {
+        // Too few for the header of a record that is missing.
+        let count = 1 + rng.below(3);
+        bytes.extend(rng.bytes(count));
+    }
+    (bytes, first_refusal(faults))
 }
 
 /// Faults of a chain's form, in document 01's order.
@@ -337,19 +376,21 @@ pub enum ChainFault {
 }
 
 impl Fault for ChainFault {
-    const ALL: &'static [Self] = &[
-        Self::CountNumber,
-        Self::CountAbove,
-        Self::Cut,
-        Self::Kind,
-        Self::Essential,
-        Self::Angle,
-        Self::Axis,
-        Self::Scale,
-        Self::Number,
-        Self::MissingEntry,
-        Self::LeftOver,
-    ];
+    fn all() -> Vec<Self> {
+        vec![
+            Self::CountNumber,
+            Self::CountAbove,
+            Self::Cut,
+            Self::Kind,
+            Self::Essential,
+            Self::Angle,
+            Self::Axis,
+            Self::Scale,
+            Self::Number,
+            Self::MissingEntry,
+            Self::LeftOver,
+        ]
+    }
 
     fn refusal(self) -> Refusal {
         match self {
@@ -358,6 +399,9 @@ impl Fault for ChainFault {
         }
     }
 }
+
+/// The fields of a chain that has one entry of each kind.
+const FIELDS: usize = 25;
 
 /// One entry of each kind, with the field where each kind starts: count, then `other`, clap, irot,
 /// imir, iscl.
@@ -373,35 +417,75 @@ fn one_of_each(rng: &mut Rng) -> (Vec<Entry>, [usize; 5]) {
     (entries.to_vec(), [1, 3, 13, 16, 19])
 }
 
+/// The entry that a field is of.
+fn entry_of(starts: &[usize; 5], field: usize) -> usize {
+    starts.partition_point(|start| *start <= field) - 1
+}
+
 impl ChainFault {
-    fn apply(self, rng: &mut Rng, starts: &[usize; 5], draft: &mut Draft) {
+    /// Puts the fault in, and answers the entry that has it, if one has. A cut is the draft's to say.
+    fn apply(self, rng: &mut Rng, starts: &[usize; 5], draft: &mut Draft) -> Option<usize> {
         let [.., irot, imir, iscl] = *starts;
         let above = |rng: &mut Rng, most: u32| rng.pick(&[most + 1, most + 2, 1 << 16, u32::MAX]);
-        let count = starts.len() as u32;
-        match self {
-            Self::CountNumber => draft.fields[0] = malformed_number(rng),
-            Self::CountAbove => draft.set(0, rng.pick(&[MAX_ENTRIES + 1, 512, 65_536, u32::MAX])),
-            Self::Cut => draft.cut(rng, 1..25),
-            Self::Kind => draft.set(rng.pick(starts), above(rng, 4)),
-            Self::Essential => draft.set(rng.pick(starts) + 1, above(rng, 1)),
-            Self::Angle => draft.set(irot + 2, above(rng, 255)),
-            Self::Axis => draft.set(imir + 2, above(rng, 255)),
-            Self::Scale => draft.set(iscl + 2 + rng.below(4), above(rng, 65_535)),
-            Self::Number => draft.fields[1 + rng.below(24)] = malformed_number(rng),
-            Self::MissingEntry => draft.set(0, count + 1),
-            Self::LeftOver => draft.leave_over(rng),
-        }
+        let count = starts.len();
+        let (field, value) = match self {
+            Self::CountNumber => {
+                draft.fields[0] = malformed_number(rng);
+                return None;
+            }
+            Self::CountAbove => {
+                draft.set(0, rng.pick(&[MAX_ENTRIES + 1, 512, 65_536, u32::MAX]));
+                return None;
+            }
+            Self::Cut => {
+                draft.cut(rng, 1..FIELDS);
+                return None;
+            }
+            Self::Kind => (rng.pick(starts), above(rng, 4)),
+            Self::Essential => (rng.pick(starts) + 1, above(rng, 1)),
+            Self::Angle => (irot + 2, above(rng, 255)),
+            Self::Axis => (imir + 2, above(rng, 255)),
+            Self::Scale => (iscl + 2 + rng.below(4), above(rng, 65_535)),
+            Self::Number => {
+                let number = malformed_number(rng);
+                let field = 1 + rng.below(FIELDS - 1);
+                draft.fields[field] = number;
+                return Some(entry_of(starts, field));
+            }
+            Self::MissingEntry => {
+                draft.set(0, count as u32 + 1);
+                // What is left over must not be that entry.
+                if let Some(left_over) = draft.fields.get_mut(FIELDS) {
+                    left_over[0] = left_over[0].max(5);
+                }
+                return Some(count);
+            }
+            Self::LeftOver => {
+                draft.leave_over(rng);
+                return None;
+            }
+        };
+        draft.set(field, value);
+        Some(entry_of(starts, field))
     }
 }
 
 /// A chain with `faults` in its form.
-pub fn faulty_chain(rng: &mut Rng, faults: &[ChainFault]) -> Vec<u8> {
+pub fn faulty_chain(rng: &mut Rng, faults: &[ChainFault]) -> Faulty {
     let (entries, starts) = one_of_each(rng);
     let mut draft = Draft::of_chain(&entries);
+    let mut hit = Vec::new();
     for fault in last_first(faults) {
-        fault.apply(rng, &starts, &mut draft);
+        hit.extend(fault.apply(rng, &starts, &mut draft));
     }
-    draft.bytes()
+    hit.extend(draft.cut.map(|(field, _)| entry_of(&starts, field)));
+    let refusal = first_refusal(faults);
+    let count = faults.iter().any(|fault| *fault <= ChainFault::CountAbove);
+    let refusal = match hit.into_iter().min() {
+        Some(entry) if !count => refusal.of_entry(entry),
+        _ => refusal,
+    };
+    (draft.bytes(), refusal)
 }
 
 /// A chain of any sort: of entries with any fields, with known faults, or damaged blindly.
@@ -409,7 +493,7 @@ pub fn any_chain(rng: &mut Rng) -> Vec<u8> {
     match rng.below(6) {
         0 => {
             let faults = some_faults(rng, |_| true);
-            faulty_chain(rng, &faults)
+            faulty_chain(rng, &faults).0
         }
         1 => {
             let (entries, _) = one_of_each(rng);
@@ -439,15 +523,17 @@ pub enum BodyFault {
 }
 
 impl Fault for BodyFault {
-    const ALL: &'static [Self] = &[
-        Self::Empty,
-        Self::Version,
-        Self::Short,
-        Self::ZeroSide,
-        Self::Limit,
-        Self::Inputs,
-        Self::OffsetsShort,
-    ];
+    fn all() -> Vec<Self> {
+        vec![
+            Self::Empty,
+            Self::Version,
+            Self::Short,
+            Self::ZeroSide,
+            Self::Limit,
+            Self::Inputs,
+            Self::OffsetsShort,
+        ]
+    }
 
     fn refusal(self) -> Refusal {
         match self {
@@ -514,29 +600,44 @@ pub struct SceneDraft {
     pub premultiplied: Option<Vec<u8>>,
 }
 
-/// Faults of a scene, in document 01's order: tray count, chain, body, counts, records, tiles or
-/// inputs, entries in turn.
+impl SceneDraft {
+    pub fn parts(&self, essential_only: bool) -> SceneParts<'_> {
+        SceneParts {
+            body: &self.body,
+            tray: &self.tray,
+            chain: &self.chain,
+            essential_only,
+        }
+    }
+
+    /// What an overlay is handed beside.
+    pub fn marks(&self, colour: Option<Colour>) -> Option<Marks<'_>> {
+        self.premultiplied.as_ref().map(|premultiplied| Marks {
+            premultiplied,
+            colour,
+        })
+    }
+}
+
+/// Faults of a record of a scene's tray, in document 01's order. A missing one is the tray's end.
 #[derive(Clone, Copy, Debug, PartialEq, Eq, PartialOrd, Ord)]
-pub enum SceneFault {
-    TrayCount,
-    ChainLong,
-    ChainForm,
-    BodyEmpty,
-    BodyVersion,
-    BodyShort,
-    ZeroSide,
-    Limit,
-    Inputs,
-    OffsetsShort,
-    NoInputs,
-    Count,
-    RecordForm,
-    RecordDepth,
-    LeftOver,
-    Cover,
-    TileSize,
+pub enum HeaderFault {
+    Missing,
     Form,
-    Alpha,
+    Depth,
+}
+
+/// Faults of a tile beside the first, in document 01's order.
+#[derive(Clone, Copy, Debug, PartialEq, Eq, PartialOrd, Ord)]
+pub enum TileFault {
+    Size,
+    Chroma,
+    Depth,
+}
+
+/// Faults of an entry that is applied.
+#[derive(Clone, Copy, Debug, PartialEq, Eq, PartialOrd, Ord)]
+pub enum EntryFault {
     ZeroTerm,
     Fraction,
     Outside,
@@ -544,27 +645,8 @@ pub enum SceneFault {
     ScaleLimit,
 }
 
-impl Fault for SceneFault {
-    const ALL: &'static [Self] = &[
-        Self::TrayCount,
-        Self::ChainLong,
-        Self::ChainForm,
-        Self::BodyEmpty,
-        Self::BodyVersion,
-        Self::BodyShort,
-        Self::ZeroSide,
-        Self::Limit,
-        Self::Inputs,
-        Self::OffsetsShort,
-        Self::NoInputs,
-        Self::Count,
-        Self::RecordForm,
-        Self::RecordDepth,
-        Self::LeftOver,
-        Self::Cover,
-        Self::TileSize,
-        Self::Form,
-        Self::Alpha,
+impl EntryFault {
+    const ALL: [Self; 5] = [
         Self::ZeroTerm,
         Self::Fraction,
         Self::Outside,
@@ -574,23 +656,112 @@ impl Fault for SceneFault {
 
     fn refusal(self) -> Refusal {
         match self {
-            Self::TrayCount | Self::ChainForm | Self::RecordForm | Self::LeftOver => {
-                refusal::MALFORMED
-            }
-            Self::ChainLong | Self::Limit | Self::Inputs | Self::ScaleLimit => refusal::LIMIT,
+            Self::ZeroTerm | Self::ScaleZero => refusal::ZERO_DENOMINATOR,
+            Self::Fraction => refusal::NOT_WHOLE,
+            Self::Outside => refusal::OUTSIDE,
+            Self::ScaleLimit => refusal::LIMIT,
+        }
+    }
+
+    fn property(self) -> Property {
+        let clap = |fields| Property::Clap(Clap::from_fields(fields));
+        let scale = |fields| Property::Iscl(Iscl::from_fields(fields));
+        match self {
+            Self::ZeroTerm => clap([1, 0, 1, 1, 0, 1, 0, 1]),
+            Self::Fraction => clap([3, 2, 1, 1, 0, 1, 0, 1]),
+            Self::Outside => clap([0, 1, 1, 1, 0, 1, 0, 1]),
+            Self::ScaleZero => scale([1, 1, 0, 1]),
+            Self::ScaleLimit => scale([65_535, 1, 65_535, 1]),
+        }
+    }
+}
+
+/// Faults of a scene, in document 01's order: tray count, chain, body, counts, records, tiles or
+/// inputs, entries in turn. A number is the index of the record or of the entry that has it.
+#[derive(Clone, Copy, Debug, PartialEq, Eq, PartialOrd, Ord)]
+pub enum SceneFault {
+    TrayCount,
+    ChainLong,
+    ChainEntry(usize),
+    ChainLeftOver,
+    BodyEmpty,
+    BodyVersion,
+    BodyShort,
+    ZeroSide,
+    Limit,
+    Inputs,
+    OffsetsShort,
+    NoInputs,
+    Count,
+    Record(usize, HeaderFault),
+    LeftOver,
+    Cover,
+    Tile(usize, TileFault),
+    Depth(usize),
+    Alpha(usize),
+    Entry(usize, EntryFault),
+}
+
+/// The entries of a faulty scene's chain.
+const STEPS: usize = 5;
+
+/// The tiles or the inputs of a faulty scene.
+fn pictures(overlay: bool) -> usize {
+    if overlay { 3 } else { 4 }
+}
+
+impl Fault for SceneFault {
+    fn all() -> Vec<Self> {
+        let mut all = vec![Self::TrayCount, Self::ChainLong];
+        all.extend([0, 2, 4].map(Self::ChainEntry));
+        all.extend([
+            Self::ChainLeftOver,
+            Self::BodyEmpty,
+            Self::BodyVersion,
+            Self::BodyShort,
+            Self::ZeroSide,
+            Self::Limit,
+            Self::Inputs,
+            Self::OffsetsShort,
+            Self::NoInputs,
+            Self::Count,
+        ]);
+        for index in 0..pictures(false) {
+            let faults = [HeaderFault::Missing, HeaderFault::Form, HeaderFault::Depth];
+            all.extend(faults.map(|fault| Self::Record(index, fault)));
+        }
+        all.extend([Self::LeftOver, Self::Cover]);
+        for index in 1..pictures(false) {
+            let faults = [TileFault::Size, TileFault::Chroma, TileFault::Depth];
+            all.extend(faults.map(|fault| Self::Tile(index, fault)));
+        }
+        all.extend((1..pictures(true)).map(Self::Depth));
+        all.extend((0..pictures(true)).map(Self::Alpha));
+        for index in 0..STEPS {
+            let own = |fault: &EntryFault| [0, *fault as usize, STEPS - 1].contains(&index);
+            let faults = EntryFault::ALL.into_iter().filter(own);
+            all.extend(faults.map(|fault| Self::Entry(index, fault)));
+        }
+        all
+    }
+
+    fn refusal(self) -> Refusal {
+        match self {
+            Self::TrayCount | Self::ChainLeftOver | Self::LeftOver => refusal::MALFORMED,
+            Self::ChainEntry(index) => refusal::MALFORMED.of_entry(index),
+            Self::ChainLong | Self::Limit | Self::Inputs => refusal::LIMIT,
             Self::BodyEmpty | Self::BodyShort | Self::OffsetsShort => refusal::SHORT,
             Self::BodyVersion => refusal::VERSION,
             Self::ZeroSide => refusal::ZERO_SIDE,
             Self::NoInputs => refusal::MISSING,
             Self::Count => refusal::COUNT,
-            Self::RecordDepth => refusal::DEPTH,
+            Self::Record(index, HeaderFault::Depth) => refusal::DEPTH.of_record(index),
+            Self::Record(index, _) => refusal::MALFORMED.of_record(index),
             Self::Cover => refusal::COVER,
-            Self::TileSize => refusal::TILE_SIZE,
-            Self::Form => refusal::FORM,
-            Self::Alpha => refusal::ALPHA,
-            Self::ZeroTerm | Self::ScaleZero => refusal::ZERO_DENOMINATOR,
-            Self::Fraction => refusal::NOT_WHOLE,
-            Self::Outside => refusal::OUTSIDE,
+            Self::Tile(index, TileFault::Size) => refusal::TILE_SIZE.of_record(index),
+            Self::Tile(index, _) | Self::Depth(index) => refusal::FORM.of_record(index),
+            Self::Alpha(index) => refusal::ALPHA.of_record(index),
+            Self::Entry(index, fault) => fault.refusal().of_entry(index),
         }
     }
 }
@@ -599,18 +770,71 @@ impl SceneFault {
     /// Whether a grid's scene, or an overlay's, can have it.
     pub fn fits(self, overlay: bool) -> bool {
         match self {
-            Self::Inputs | Self::OffsetsShort | Self::NoInputs | Self::Alpha => overlay,
-            Self::Cover | Self::TileSize => !overlay,
+            Self::Inputs | Self::OffsetsShort | Self::NoInputs => overlay,
+            Self::Depth(_) | Self::Alpha(_) => overlay,
+            Self::Cover | Self::Tile(..) => !overlay,
+            Self::Record(index, _) => index < pictures(overlay),
             _ => true,
         }
     }
 
-    /// The number that a point call gives it: alpha and scaling are 18 there.
+    /// Whether the scenes of the comparisons have it, which the stored answers stand on: of the faults
+    /// with an index each has one place there, and some have none.
+    pub fn is_drawn(self) -> bool {
+        match self {
+            Self::ChainEntry(_) => false,
+            Self::Record(index, fault) => index == 1 && fault != HeaderFault::Missing,
+            Self::Tile(index, fault) => index == 2 && fault != TileFault::Chroma,
+            Self::Depth(index) => index == 2,
+            Self::Alpha(index) => index == 0,
+            Self::Entry(index, fault) => index == fault as usize,
+            _ => true,
+        }
+    }
+
+    /// Whether the chain has it.
+    pub fn is_of_chain(self) -> bool {
+        matches!(
+            self,
+            Self::ChainLong | Self::ChainEntry(_) | Self::ChainLeftOver | Self::Entry(..)
+        )
+    }
+
+    /// The refusal that a point call gives it: alpha and scaling are 18 there.
     pub fn point_refusal(self) -> Refusal {
         match self {
-            Self::Alpha | Self::ScaleZero | Self::ScaleLimit => refusal::POINT,
+            Self::Alpha(index) => refusal::POINT.of_record(index),
+            Self::Entry(index, EntryFault::ScaleZero | EntryFault::ScaleLimit) => {
+                refusal::POINT.of_entry(index)
+            }
             other => other.refusal(),
         }
+    }
+}
+
+/// Every choice of one, two and three faults that scenes of a sort can have; without inputs no
+/// offsets are short.
+pub fn scene_choices(overlay: bool) -> impl Iterator<Item = [SceneFault; 3]> {
+    let fits = move |faults: &[SceneFault; 3]| {
+        let both = [SceneFault::OffsetsShort, SceneFault::NoInputs];
+        faults.iter().all(|fault| fault.fits(overlay))
+            && !both.iter().all(|fault| faults.contains(fault))
+    };
+    triples().into_iter().filter(fits)
+}
+
+/// A chain with an entry before each of its own that the flag skips, and that would be refused.
+pub fn with_skipped(chain: &[Entry]) -> Vec<Entry> {
+    let skipped = Entry::new(false, EntryFault::ZeroTerm.property());
+    let entries = chain.iter();
+    entries.flat_map(|entry| [skipped, *entry]).collect()
+}
+
+/// The refusal that a chain's becomes [`with_skipped`] entries.
+pub fn behind_skipped(refusal: Refusal) -> Refusal {
+    match refusal.item {
+        Some(Item::Entry(index)) => refusal.of_entry(2 * index as usize + 1),
+        _ => refusal,
     }
 }
 
@@ -618,7 +842,7 @@ impl SceneFault {
 /// essential.
 pub fn faulty_scene(rng: &mut Rng, faults: &[SceneFault], overlay: bool) -> SceneDraft {
     let has = |fault| faults.contains(&fault);
-    let count = if overlay { 3 } else { 4 };
+    let count = pictures(overlay);
     let side = 4 + 2 * rng.below(3) as u32;
     let form = generate::Form {
         depth: rng.number(9..=15) as u8,
@@ -630,32 +854,40 @@ pub fn faulty_scene(rng: &mut Rng, faults: &[SceneFault], overlay: bool) -> Scen
             generate::frame_of(rng, (side, side), generate::Form { alpha, ..form }, false)
         })
         .collect();
-    if has(SceneFault::Alpha) {
-        let form = generate::Form { alpha: 1, ..form };
-        frames[0] = generate::frame_of(rng, (side, side), form, false);
-        let stride = frames[0].planes[form.chroma.colour_planes()].stride;
-        let at = stride * rng.below(side as usize) + 2 * rng.below(side as usize);
-        let above = (1u16 << form.depth).to_le_bytes();
-        frames[0].planes[form.chroma.colour_planes()].data[at..at + 2].copy_from_slice(&above);
-    }
-    if has(SceneFault::TileSize) {
-        frames[2] = generate::frame_of(rng, (side, side + 1), form, false);
-    }
-    if has(SceneFault::Form) {
-        let (size, depth) = ((frames[2].width, frames[2].height), 16);
-        frames[2] = generate::frame_of(rng, size, generate::Form { depth, ..form }, false);
-        if overlay {
-            frames[2].alpha = 0;
-            let planes = frames[2].plane_count();
-            frames[2].planes.truncate(planes);
+    for (index, frame) in frames.iter_mut().enumerate() {
+        if has(SceneFault::Alpha(index)) {
+            let form = generate::Form { alpha: 1, ..form };
+            *frame = generate::frame_of(rng, (side, side), form, false);
+            let plane = &mut frame.planes[form.chroma.colour_planes()];
+            let at = plane.stride * rng.below(side as usize) + 2 * rng.below(side as usize);
+            let above = (1u16 << form.depth).to_le_bytes();
+            plane.data[at..at + 2].copy_from_slice(&above);
+        }
+        if has(SceneFault::Tile(index, TileFault::Size)) {
+            *frame = generate::frame_of(rng, (side, side + 1), form, false);
+        }
+        let size = (frame.width, frame.height);
+        if has(SceneFault::Tile(index, TileFault::Chroma)) {
+            let chroma = Chroma::ALL[(form.chroma as usize + 1) % 4];
+            *frame = generate::frame_of(rng, size, generate::Form { chroma, ..form }, false);
+        }
+        if has(SceneFault::Tile(index, TileFault::Depth)) || has(SceneFault::Depth(index)) {
+            let form = generate::Form { depth: 16, ..form };
+            *frame = generate::frame_of(rng, size, form, false);
+            if overlay {
+                frame.alpha = 0;
+                frame.planes.truncate(frame.plane_count());
+            }
         }
     }
     let mut drafts: Vec<Draft> = frames.iter().map(Draft::of_record).collect();
-    if has(SceneFault::RecordDepth) {
-        drafts[1].set(3, rng.pick(&[7, 17, 264]));
-    }
-    if has(SceneFault::RecordForm) {
-        drafts[1].set(2, rng.pick(&[4, 257]));
+    for (index, draft) in drafts.iter_mut().enumerate() {
+        if has(SceneFault::Record(index, HeaderFault::Depth)) {
+            draft.set(3, rng.pick(&[7, 17, 264]));
+        }
+        if has(SceneFault::Record(index, HeaderFault::Form)) {
+            draft.set(2, rng.pick(&[4, 257]));
+        }
     }
     if has(SceneFault::LeftOver) {
         drafts[count - 1].leave_over(rng);
@@ -668,7 +900,10 @@ pub fn faulty_scene(rng: &mut Rng, faults: &[SceneFault], overlay: bool) -> Scen
         _ if overlay => number_bytes(count as u32),
         listed => number_bytes(listed as u32),
     };
-    for draft in &drafts {
+    for (index, draft) in drafts.iter().enumerate() {
+        if has(SceneFault::Record(index, HeaderFault::Missing)) {
+            break;
+        }
         tray.extend(draft.bytes());
     }
     let canvas = if overlay { side + 3 } else { 2 * side };
@@ -713,25 +948,24 @@ pub fn faulty_scene(rng: &mut Rng, faults: &[SceneFault], overlay: bool) -> Scen
     if has(SceneFault::BodyEmpty) {
         body.clear();
     }
-    let clap = |fields| Property::Clap(Clap::from_fields(fields));
-    let scale = |fields| Property::Iscl(Iscl::from_fields(fields));
-    let slots = [
-        (SceneFault::ZeroTerm, clap([1, 0, 1, 1, 0, 1, 0, 1])),
-        (SceneFault::Fraction, clap([3, 2, 1, 1, 0, 1, 0, 1])),
-        (SceneFault::Outside, clap([0, 1, 1, 1, 0, 1, 0, 1])),
-        (SceneFault::ScaleZero, scale([1, 1, 0, 1])),
-        (SceneFault::ScaleLimit, scale([65_535, 1, 65_535, 1])),
-    ];
     let mut entries = Vec::new();
-    for (fault, property) in slots {
-        let property = match has(fault) {
-            true => property,
-            false => rng.pick(&[Property::Other, Property::Irot(1), Property::Imir(0)]),
+    for index in 0..STEPS {
+        let mut at_it = EntryFault::ALL.into_iter();
+        let property = match at_it.find(|fault| has(SceneFault::Entry(index, *fault))) {
+            Some(fault) => fault.property(),
+            None => rng.pick(&[Property::Other, Property::Irot(1), Property::Imir(0)]),
         };
         entries.push(Entry::new(true, property));
     }
     let mut chain = Draft::of_chain(&entries);
-    if has(SceneFault::ChainForm) {
+    let mut field = 1;
+    for (index, entry) in entries.iter().enumerate() {
+        if has(SceneFault::ChainEntry(index)) {
+            chain.set(field + 1, 2);
+        }
+        field += entry.numbers().len();
+    }
+    if has(SceneFault::ChainLeftOver) {
         chain.leave_over(rng);
     }
     if has(SceneFault::ChainLong) {
@@ -842,7 +1076,7 @@ pub fn any_record(rng: &mut Rng) -> Vec<u8> {
     match rng.below(4) {
         0 => {
             let faults = some_faults(rng, |_| true);
-            faulty_record(rng, &faults)
+            faulty_record(rng, &faults).0
         }
         1 => {
             let mut bytes = generate::frame(rng).record();
@@ -858,7 +1092,8 @@ pub fn any_record(rng: &mut Rng) -> Vec<u8> {
 pub fn any_tray(rng: &mut Rng) -> Vec<u8> {
     let sort = rng.below(4);
     if sort == 0 {
-        return faulty_tray(rng).0;
+        let faults = some_faults(rng, |_| true);
+        return faulty_tray(rng, &faults).0;
     }
     let count = rng.below(4);
     let mut bytes = number_bytes(count as u32);

@@ -1,12 +1,13 @@
 //! What documents 01 and 02 want of a call, refusals in their order, with the pictures worked by the
-//! oracle. Where a paper adds a refusal that the published Rust lacks, it is judged here.
+//! oracle. Where a paper adds a refusal that the published Rust lacks, it is judged here, and so are the
+//! items that have their own.
 
 use crate::refusals;
 use model::{
-    Canvas, CanvasState, Colour, Crop, Entry, Frame, Grid, Iscl, Margins, Marks, Operation, Oracle,
-    Outcome, OverlayInput, Property, Refusal, Scene, SceneParts, Size, parse_chain, parse_record,
-    parse_steps, parse_tray, parse_untested, push_number, refusal, steps_text, tray_count,
-    untested_tray,
+    Canvas, CanvasState, Colour, Crop, Entry, Frame, Grid, Iscl, MAX_ENTRIES, Margins, Marks,
+    Operation, Oracle, Outcome, Overlay, OverlayInput, Property, Reader, Refusal, Scene,
+    SceneParts, Size, parse_chain, parse_record, parse_steps, parse_untested, push_number, refusal,
+    steps_text, tray_count, untested_tray,
 };
 use std::cell::Cell;
 
@@ -25,8 +26,26 @@ pub enum Stop {
 pub type Want<T> = Result<T, Stop>;
 
 impl From<Refusal> for Stop {
-    fn from(number: Refusal) -> Self {
-        Self::Refused(number)
+    fn from(refusal: Refusal) -> Self {
+        Self::Refused(refusal)
+    }
+}
+
+impl Stop {
+    /// A refusal as the own one of a record of the tray.
+    pub(crate) fn of_record(self, index: usize) -> Self {
+        match self {
+            Self::Refused(refusal) => Self::Refused(refusal.of_record(index)),
+            other => other,
+        }
+    }
+
+    /// A refusal as the own one of an entry of the chain.
+    pub(crate) fn of_entry(self, index: usize) -> Self {
+        match self {
+            Self::Refused(refusal) => Self::Refused(refusal.of_entry(index)),
+            other => other,
+        }
     }
 }
 
@@ -37,12 +56,12 @@ const MAX_SCALED_SIDE: u32 = 1 << 26;
 /// The most pixels that a comparison works on.
 const LARGE: u64 = 1 << 20;
 
-/// An outcome of the oracle, its errors as numbers.
+/// An outcome of the oracle, its errors as refusals of no item.
 pub fn settle<T>(outcome: Outcome<T>) -> Want<T> {
     match outcome {
         Outcome::Done(answer) => Ok(answer),
-        Outcome::Error(text) => match refusals::number(&text) {
-            Some(number) => Err(Stop::Refused(number)),
+        Outcome::Error(text) => match refusals::refusal(&text) {
+            Some(refusal) => Err(Stop::Refused(refusal)),
             None => Err(Stop::Broke(text)),
         },
         Outcome::Panic(text) => Err(Stop::Broke(text)),
@@ -65,14 +84,55 @@ pub fn record(oracle: &dyn Oracle, bytes: &[u8]) -> Want<Frame> {
     Ok(frame)
 }
 
-/// The frames of a tray, the planes of each held to its header by `HeifFrame::validate`, in turn.
+/// The frames of a tray, the planes of each held to its header by `HeifFrame::validate`, in turn. What
+/// stops the reading is the own refusal of the record after those that were read, if the tray has more.
 pub fn tray(oracle: &dyn Oracle, bytes: &[u8]) -> Want<Vec<Frame>> {
     let (frames, end) = untested_tray(bytes);
-    for frame in &frames {
-        settle(oracle.validate(frame))?;
+    for (index, frame) in frames.iter().enumerate() {
+        settle(oracle.validate(frame)).map_err(|stop| stop.of_record(index))?;
     }
-    end?;
-    Ok(frames)
+    let Err(Refusal { number, .. }) = end else {
+        return Ok(frames);
+    };
+    let (read, count) = (frames.len(), tray_count(bytes)? as usize);
+    let stop = Stop::Refused(Refusal::new(number));
+    Err(match read < count {
+        true => stop.of_record(read),
+        false => stop,
+    })
+}
+
+/// The most that each number of an entry may be, by its kind: essential, then the fields.
+const ENTRIES: [&[u32]; 5] = [
+    &[1],
+    &[1, MOST, MOST, MOST, MOST, MOST, MOST, MOST, MOST],
+    &[1, 255],
+    &[1, 255],
+    &[1, 65_535, 65_535, 65_535, 65_535],
+];
+const MOST: u32 = u32::MAX;
+
+/// Whether an entry can be read.
+fn has_entry(reader: &mut Reader) -> bool {
+    let kind = reader.number().ok();
+    let most = kind.and_then(|kind| ENTRIES.get(kind as usize));
+    most.is_some_and(|most| most.iter().all(|most| reader.number_to(*most).is_ok()))
+}
+
+/// The entries of a chain, which the published Rust does not read from bytes.
+pub fn chain(bytes: &[u8]) -> Want<Vec<Entry>> {
+    let mut reader = Reader::new(bytes);
+    let count = reader.number()?;
+    if count > MAX_ENTRIES {
+        return Err(Stop::Refused(refusal::LIMIT));
+    }
+    for index in 0..count as usize {
+        if !has_entry(&mut reader) {
+            return Err(Stop::Refused(refusal::MALFORMED.of_entry(index)));
+        }
+    }
+    reader.end()?;
+    parse_chain(bytes).map_err(|refusal| Stop::Broke(format!("the model's reading: {refusal:?}")))
 }
 
 /// A size that an iscl made of another: 4, only where it changes, above L or where a side before or
@@ -118,7 +178,7 @@ pub fn steps(oracle: &dyn Oracle, input: &[u8]) -> Want<Vec<u8>> {
     let text = steps_text(input, |entry, before| {
         let after = match size_after(oracle, entry, before) {
             Ok(size) => Ok(size),
-            Err(Stop::Refused(number)) => Err(number),
+            Err(Stop::Refused(refusal)) => Err(refusal),
             Err(other) => return Err(other),
         };
         last.set(Some(after));
@@ -198,6 +258,15 @@ pub fn fill(
     settle(oracle.fill_to_ycbcr(fill, depth as u8, colour))
 }
 
+/// The entries of a chain that are applied, each with its index and what it does.
+fn applied(
+    chain: &[Entry],
+    essential_only: bool,
+) -> impl Iterator<Item = (usize, &Entry, Operation)> {
+    let entries = chain.iter().enumerate();
+    entries.filter_map(move |(index, entry)| Some((index, entry, entry.applied(essential_only)?)))
+}
+
 /// The applied entries of a chain in turn. The whole is held against `apply_transforms`.
 fn run_chain(
     oracle: &dyn Oracle,
@@ -208,11 +277,9 @@ fn run_chain(
     let mut frame = composed.clone();
     let mut record = frame.record();
     let mut room = record.len();
-    for operation in chain
-        .iter()
-        .filter_map(|entry| entry.applied(essential_only))
-    {
-        frame = apply(oracle, &frame, &operation)?;
+    for (index, _, operation) in applied(chain, essential_only) {
+        let made = apply(oracle, &frame, &operation);
+        frame = made.map_err(|stop| stop.of_entry(index))?;
         record = frame.record();
         room = room.max(record.len());
     }
@@ -225,18 +292,36 @@ fn run_chain(
     Ok(Scene { record, room })
 }
 
-/// The grid scene: 5 tray count, the chain's form, the body, 11, the records, 12 to 14, then the
-/// entries in turn. 17 is the caller's to judge from the room.
-pub fn grid_scene(oracle: &dyn Oracle, parts: &SceneParts) -> Want<Scene> {
+/// Chain, grid and tiles: 5 tray count, the chain's form, the body, 11, the records.
+fn read_grid(oracle: &dyn Oracle, parts: &SceneParts) -> Want<(Vec<Entry>, Grid, Vec<Frame>)> {
     let count = tray_count(parts.tray)?;
-    let chain = parse_chain(parts.chain)?;
+    let chain = chain(parts.chain)?;
     let grid = settle(oracle.parse_grid(parts.body))?;
     if count as usize != grid.cells() {
         return Err(Stop::Refused(refusal::COUNT));
     }
-    let tiles = parse_tray(parts.tray)?;
+    Ok((chain, grid, tray(oracle, parts.tray)?))
+}
+
+/// The tiles of a grid composed: 12, then 13 and 14 of the tile that the error's text names.
+pub(crate) fn compose_grid(oracle: &dyn Oracle, grid: &Grid, tiles: &[Frame]) -> Want<Frame> {
     bearable(grid.width, grid.height)?;
-    let composed = settle(oracle.composite_grid(&grid, &tiles))?;
+    let composed = oracle.composite_grid(grid, tiles);
+    let tile = match &composed {
+        Outcome::Error(text) => refusals::tile(text),
+        _ => None,
+    };
+    settle(composed).map_err(|stop| match tile {
+        Some(tile) => stop.of_record(tile),
+        None => stop,
+    })
+}
+
+/// The grid scene: as it is read, 12 to 14, then the entries in turn. 17 is the caller's to judge from
+/// the room.
+pub fn grid_scene(oracle: &dyn Oracle, parts: &SceneParts) -> Want<Scene> {
+    let (chain, grid, tiles) = read_grid(oracle, parts)?;
+    let composed = compose_grid(oracle, &grid, &tiles)?;
     run_chain(oracle, composed, &chain, parts.essential_only)
 }
 
@@ -249,12 +334,15 @@ pub fn alpha_above_top(frame: &Frame) -> bool {
             .any(|sample| *sample > frame.top())
 }
 
-/// The overlay scene: 5 tray count, the chain's form, the body with its offsets, 15, 11, the
-/// records, 14 and 16 over all inputs, then the entries in turn.
-pub fn overlay_scene(oracle: &dyn Oracle, parts: &SceneParts, marks: &Marks) -> Want<Scene> {
-    let premultiplied = marks.premultiplied;
+/// Chain, overlay and inputs: 5 tray count, the chain's form, the body with its offsets, 15, 11, the
+/// records, then 14 over all inputs.
+fn read_overlay(
+    oracle: &dyn Oracle,
+    parts: &SceneParts,
+    premultiplied: &[u8],
+) -> Want<(Vec<Entry>, Overlay, Vec<OverlayInput>)> {
     let count = tray_count(parts.tray)? as usize;
-    let chain = parse_chain(parts.chain)?;
+    let chain = chain(parts.chain)?;
     let overlay = settle(oracle.parse_overlay(parts.body, count))?;
     if count == 0 {
         return Err(Stop::Refused(refusal::MISSING));
@@ -262,7 +350,7 @@ pub fn overlay_scene(oracle: &dyn Oracle, parts: &SceneParts, marks: &Marks) -> 
     if premultiplied.len() != count {
         return Err(Stop::Refused(refusal::COUNT));
     }
-    let inputs: Vec<OverlayInput> = parse_tray(parts.tray)?
+    let inputs: Vec<OverlayInput> = tray(oracle, parts.tray)?
         .into_iter()
         .zip(premultiplied)
         .map(|(frame, byte)| OverlayInput {
@@ -270,18 +358,57 @@ pub fn overlay_scene(oracle: &dyn Oracle, parts: &SceneParts, marks: &Marks) -> 
             premultiplied: *byte != 0,
         })
         .collect();
-    if inputs
-        .iter()
-        .any(|input| input.frame.depth != inputs[0].frame.depth)
-    {
-        return Err(Stop::Refused(refusal::FORM));
+    let depth = inputs[0].frame.depth;
+    hold_inputs(&inputs, refusal::FORM, |frame| frame.depth == depth)?;
+    Ok((chain, overlay, inputs))
+}
+
+/// The refusal of the lowest input that does not `pass`, if there is one.
+pub(crate) fn hold_inputs(
+    inputs: &[OverlayInput],
+    refusal: Refusal,
+    passes: impl Fn(&Frame) -> bool,
+) -> Want<()> {
+    for (index, input) in inputs.iter().enumerate() {
+        if !passes(&input.frame) {
+            return Err(Stop::Refused(refusal.of_record(index)));
+        }
     }
-    if inputs.iter().any(|input| alpha_above_top(&input.frame)) {
-        return Err(Stop::Refused(refusal::ALPHA));
-    }
+    Ok(())
+}
+
+/// The overlay scene: as it is read, 16 over all inputs, then the entries in turn.
+pub fn overlay_scene(oracle: &dyn Oracle, parts: &SceneParts, marks: &Marks) -> Want<Scene> {
+    let (chain, overlay, inputs) = read_overlay(oracle, parts, marks.premultiplied)?;
+    hold_inputs(&inputs, refusal::ALPHA, |frame| !alpha_above_top(frame))?;
     bearable(overlay.width, overlay.height)?;
     let composed = settle(oracle.composite_overlay(&overlay, &inputs, marks.colour))?;
     run_chain(oracle, composed, &chain, parts.essential_only)
+}
+
+/// The final size of a point call, before its place is judged: as it is read, 12 to 14 or 18 for an
+/// input with alpha, then the entries in turn, 18 for an iscl.
+pub fn point(oracle: &dyn Oracle, parts: &SceneParts, marks: Option<&Marks>) -> Want<Size> {
+    let (chain, mut size) = match marks {
+        Some(marks) => {
+            let (chain, overlay, inputs) = read_overlay(oracle, parts, marks.premultiplied)?;
+            hold_inputs(&inputs, refusal::POINT, |frame| frame.alpha == 0)?;
+            (chain, (overlay.width, overlay.height))
+        }
+        None => {
+            let (chain, grid, tiles) = read_grid(oracle, parts)?;
+            let composed = compose_grid(oracle, &grid, &tiles)?;
+            (chain, (composed.width, composed.height))
+        }
+    };
+    for (index, entry, _) in applied(&chain, parts.essential_only) {
+        let after = match entry.property {
+            Property::Iscl(_) => Err(Stop::Refused(refusal::POINT)),
+            _ => size_after(oracle, entry, size),
+        };
+        size = after.map_err(|stop| stop.of_entry(index))?;
+    }
+    Ok(size)
 }
 
 /// A chain on one record: the record's refusals, the chain's form, the entries in turn, from the
@@ -293,10 +420,10 @@ pub fn transforms(
     essential_only: bool,
 ) -> Want<Scene> {
     let frame = parse_record(record)?;
-    let chain = parse_chain(chain)?;
+    let entries = self::chain(chain)?;
     let tight = settle(oracle.tight(&frame))?;
-    let made = run_chain(oracle, tight, &chain, essential_only)?;
-    let whole = settle(oracle.apply_transforms(&frame, &chain, essential_only))?;
+    let made = run_chain(oracle, tight, &entries, essential_only)?;
+    let whole = settle(oracle.apply_transforms(&frame, &entries, essential_only))?;
     if settle(oracle.tight(&whole))?.record() != made.record {
         return Err(Stop::Broke(
             "apply_transforms departs from its steps on a tight record".into(),

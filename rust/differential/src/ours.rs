@@ -1,14 +1,14 @@
 //! The composer's side of the comparisons: its calls on plain types, and what they are held to.
 
 use crate::expected::{Call, Event, Stop};
-use compose::sys;
+use compose::{About, sys};
 use model::refusal::ROOM;
 use model::{
-    Clap, Colour, Iscl, Layout, Marks, Operation, Place, Refusal, Scene, SceneParts, Size,
+    Clap, Colour, Iscl, Item, Layout, Marks, Operation, Place, Refusal, Scene, SceneParts, Size,
 };
 use std::fmt::Debug;
 
-/// What a call answers, or the number it refuses with.
+/// What a call answers, or how it refuses: number, sort and index.
 pub type Answer<T> = Result<T, Refusal>;
 
 /// The composer's calls on plain types. One that it does not have yet says `None`, and is not
@@ -75,6 +75,18 @@ pub trait Composer: Sync {
     }
 
     fn steps(&self, _input: &[u8], _output: &mut [u8]) -> Option<Answer<usize>> {
+        None
+    }
+
+    /// The sentence of a refusal's number, sort and index in a language.
+    fn sentence(
+        &self,
+        _number: u32,
+        _sort: u8,
+        _index: u64,
+        _language: u8,
+        _output: &mut [u8],
+    ) -> Option<Answer<usize>> {
         None
     }
 
@@ -255,6 +267,18 @@ impl Composer for Linked {
 
     fn steps(&self, input: &[u8], output: &mut [u8]) -> Option<Answer<usize>> {
         let written = sys::compose_steps(input, output);
+        answer(written.map(|length| length as usize))
+    }
+
+    fn sentence(
+        &self,
+        number: u32,
+        sort: u8,
+        index: u64,
+        language: u8,
+        output: &mut [u8],
+    ) -> Option<Answer<usize>> {
+        let written = sys::compose_sentence(number, sort, index, language, output);
         answer(written.map(|length| length as usize))
     }
 
@@ -473,9 +497,21 @@ fn colour_words(colour: Option<Colour>) -> (u8, u16, u8) {
     })
 }
 
-/// An answer of the library, a refusal as its number.
+/// An answer of the library.
 fn answer<T>(answer: Result<T, compose::Refusal>) -> Option<Answer<T>> {
-    Some(answer.map_err(compose::Refusal::number))
+    Some(answer.map_err(refusal))
+}
+
+/// A refusal of the library: number, sort and index.
+pub fn refusal(said: compose::Refusal) -> Refusal {
+    let item = said.about().zip(said.index());
+    Refusal {
+        number: said.number(),
+        item: item.map(|(about, index)| match about {
+            About::Record => Item::Record(index),
+            About::Entry => Item::Entry(index),
+        }),
+    }
 }
 
 fn layout(info: compose::record::RecordInfo) -> Layout {
@@ -511,7 +547,7 @@ fn lend<T: PartialEq + Clone + From<u8>, A: PartialEq + Debug, const N: usize>(
     let ours = call(lent.each_mut().map(Vec::as_mut_slice))?;
     let (want, after) = match want {
         Ok((length, after)) => (Ok(length), after),
-        Err(number) => (Err(number), before),
+        Err(refusal) => (Err(refusal), before),
     };
     let departs = answers(&want, Some(ours));
     let departs = departs.or_else(|| (lent != after).then(|| "other bytes are left".into()));
@@ -554,7 +590,7 @@ pub fn fills<T: PartialEq + Clone + From<u8>>(
     call: impl Fn(&mut [T]) -> Option<Answer<u64>>,
 ) -> Option<String> {
     let want = want.as_ref().map(|words| (0, words.as_ref().to_vec()));
-    fills_start(want.map_err(|number| *number), call)
+    fills_start(want.map_err(|refusal| *refusal), call)
 }
 
 /// How a scene call departs from `want`. Output and spare have more than they need, just that, one
@@ -651,7 +687,7 @@ pub fn places(
     for (at, (call, event)) in calls.iter().zip(want).enumerate() {
         let wanted = match event.answer {
             Ok(length) => Ok(length),
-            Err(Stop::Refused(number)) => Err(number),
+            Err(Stop::Refused(refusal)) => Err(refusal),
             Err(_) => return None,
         };
         let (words, bytes) = (state.clone(), buffer.clone());
@@ -684,6 +720,7 @@ mod tests {
     use super::{Answer, Composer, Linked, answers, composes, places, writes};
     use crate::expected::{Call, Event, Stop};
     use model::Scene;
+    use model::refusal::{LIMIT, MALFORMED, MISSING, ROOM};
 
     const RECORD: [u8; 3] = [1, 2, 3];
 
@@ -701,9 +738,27 @@ mod tests {
     #[test]
     fn answers_are_held() {
         assert_eq!(answers(&Ok(1), Some(Ok(1))), None);
-        for wrong in [Ok(2), Err(5)] {
+        for wrong in [Ok(2), Err(MALFORMED)] {
             assert!(answers(&Ok(1), Some(wrong)).is_some());
-            assert!(answers(&Err(4), Some(wrong)).is_some());
+            assert!(answers(&Err(LIMIT), Some(wrong)).is_some());
+        }
+    }
+
+    /// A refusal of another item, of another list's, of none or of one where none is wanted.
+    #[test]
+    fn items_are_held() {
+        let items = [
+            MALFORMED,
+            MALFORMED.of_record(0),
+            MALFORMED.of_record(1),
+            MALFORMED.of_entry(0),
+            MALFORMED.of_entry(1),
+        ];
+        for want in items {
+            for ours in items {
+                let departs = answers::<u32>(&Err(want), Some(Err(ours)));
+                assert_eq!(departs.is_none(), ours == want, "{departs:?}");
+            }
         }
     }
 
@@ -721,7 +776,7 @@ mod tests {
         each_call(|[other, past, early]| {
             writes(&Ok(RECORD.to_vec()), |output| {
                 if output.len() < 3 + usize::from(early) {
-                    return Some(Err(17));
+                    return Some(Err(ROOM));
                 }
                 if past {
                     output.fill(0);
@@ -733,12 +788,12 @@ mod tests {
         });
         // A byte in front or at the end is written, another number.
         each_call(|[front, end, other]| {
-            writes(&Err(5), |output| {
+            writes(&Err(MALFORMED), |output| {
                 if let [first, .., last] = output {
                     *first += u8::from(front);
                     *last += u8::from(end);
                 }
-                Some(Err(5 + u8::from(other)))
+                Some(Err(if other { LIMIT } else { MALFORMED }))
             })
         });
     }
@@ -753,7 +808,7 @@ mod tests {
         each_call(|[blind, spared, past]| {
             composes(&Ok(scene.clone()), |output, spare| {
                 if output.len() < 5 || (spare.len() < 5 && !blind) {
-                    return Some(Err(17));
+                    return Some(Err(ROOM));
                 }
                 if !spared {
                     spare.fill(0);
@@ -786,7 +841,7 @@ mod tests {
             match (call, answer) {
                 (Call::Place(1, _), Ok(_)) if unmarked => state[10] = 1,
                 (Call::Place(..), Ok(_)) if past => *buffer.last_mut()? = 0,
-                (Call::Finish, Ok(_)) if missing => return Some(Err(15)),
+                (Call::Finish, Ok(_)) if missing => return Some(Err(MISSING)),
                 _ => {}
             }
             Some(answer)
@@ -814,7 +869,7 @@ mod tests {
             }
         };
         let want = [
-            event(Err(Stop::Refused(15)), [false, false]),
+            event(Err(Stop::Refused(MISSING)), [false, false]),
             event(Ok(0), [true, false]),
             event(Ok(0), [true, true]),
             event(Ok(9), [true, true]),

@@ -1,9 +1,9 @@
-//! The number that document 01 gives to an error of the published Rust.
+//! The refusal that document 01 has for an error of the published Rust.
 
 use model::Refusal;
 use model::refusal::*;
 
-/// Parts that an error's text has, in this order in the text, and its number. The first row that
+/// Parts that an error's text has, in this order in the text, and its refusal. The first row that
 /// fits decides.
 const TEXTS: &[(&[&str], Refusal)] = &[
     (&["truncated "], SHORT),
@@ -47,10 +47,16 @@ fn has(text: &str, parts: &[&str]) -> bool {
     })
 }
 
-/// The refusal that an error with this text counts as, if document 01 has one.
-pub fn number(text: &str) -> Option<Refusal> {
+/// The refusal that an error with this text counts as, if document 01 has one; it is of no item.
+pub fn refusal(text: &str) -> Option<Refusal> {
     TEXTS
         .iter()
         .find(|(parts, _)| has(text, parts))
-        .map(|(_, number)| *number)
+        .map(|(_, refusal)| *refusal)
+}
+
+/// The tile that a text names, counted from 0.
+pub fn tile(text: &str) -> Option<usize> {
+    let (_, rest) = text.split_once("grid: tile ")?;
+    rest.split(' ').next()?.parse().ok()
 }

@@ -35,7 +35,7 @@ pub(crate) fn transforms(sides: &Sides, input: &Input) -> Verdict {
     let wants = sides.wants(|build| expected::transforms(build, record, chain, flag));
     agree(wants, |want| {
         let room = want.as_ref().map(|made| made.room as u64);
-        let room = room.map_err(|number| *number);
+        let room = room.map_err(|refusal| *refusal);
         let call = |output: &mut [u8], spare: &mut [u8]| {
             sides.ours.transforms(record, chain, flag, output, spare)
         };
@@ -91,7 +91,7 @@ pub(crate) fn record_size(sides: &Sides, input: &Input) -> Verdict {
         return Verdict::Different(shows);
     }
     let form = match Frame::of_header(header) {
-        Err(number) => return Verdict::Refused(number),
+        Err(refusal) => return Verdict::Refused(refusal),
         Ok(form) => form,
     };
     if u64::from(form.width) * u64::from(form.height) > MADE {

@@ -1,13 +1,14 @@
 //! Pictures in oxideav-heif's shape, as the crate `compose` has it: frames of the model in that
 //! shape, legal or not, and what document 01 wants of the calls on them.
 
-use crate::expected::{Stop, Want, alpha_above_top, attach, settle};
+use crate::expected::{Stop, Want, alpha_above_top, attach, compose_grid, hold_inputs, settle};
+use crate::ours;
 use compose::{
     Chroma, GridDescriptor, HeifFrame, HeifPixelFormat, OverlayDescriptor, Plane, props,
 };
 use model::{
-    Clap, Colour, Crop, Frame, Grid, Iscl, Oracle, Outcome, Overlay, OverlayInput, parse_record,
-    refusal,
+    Clap, Colour, Crop, Entry, Frame, Grid, Iscl, Oracle, Outcome, Overlay, OverlayInput, Refusal,
+    parse_record, refusal,
 };
 
 /// The same frame in the crate's own shape. Nothing is judged.
@@ -68,13 +69,17 @@ pub fn iscl(iscl: &Iscl) -> props::Iscl {
     props::Iscl::new(width_num, width_den, height_num, height_den)
 }
 
-/// Holds an answer of the crate to what is wanted.
-pub fn hold_to(ours: compose::Result<HeifFrame>, want: Want<Frame>, what: &str) {
-    let ours = ours.map_err(|refusal| Stop::Refused(refusal.number()));
-    assert_eq!(ours, want.map(|frame| heif(&frame)), "{what}");
+/// An answer of the crate, its refusal with its item.
+pub fn said<T>(answer: compose::Result<T>) -> Want<T> {
+    answer.map_err(|refusal| Stop::Refused(ours::refusal(refusal)))
 }
 
-/// Holds an answer of the crate to one of the published Rust.
+/// Holds an answer of the crate to what is wanted, a refusal to its number and its item.
+pub fn hold_to(ours: compose::Result<HeifFrame>, want: Want<Frame>, what: &str) {
+    assert_eq!(said(ours), want.map(|frame| heif(&frame)), "{what}");
+}
+
+/// Holds an answer of the crate to one of the published Rust, a refusal to one of no item.
 pub fn hold(ours: compose::Result<HeifFrame>, theirs: Outcome<Frame>, what: &str) {
     hold_to(ours, settle(theirs), what);
 }
@@ -82,8 +87,8 @@ pub fn hold(ours: compose::Result<HeifFrame>, theirs: Outcome<Frame>, what: &str
 /// The pixel limit L of document 01.
 const MAX_PIXELS: u64 = 1 << 30;
 
-fn refused<T>(number: model::Refusal) -> Want<T> {
-    Err(Stop::Refused(number))
+fn refused<T>(refusal: Refusal) -> Want<T> {
+    Err(Stop::Refused(refusal))
 }
 
 /// A frame whose record is judged.
@@ -115,17 +120,23 @@ pub fn grid(grid: &Grid) -> Want<()> {
     Ok(())
 }
 
-/// `composite_grid`: the body's, 11, the records' in turn, then 12, 13 and 14.
+/// Frames whose records are judged in turn, each with its own refusal.
+fn each_judged<'a>(frames: impl Iterator<Item = &'a Frame>) -> Want<Vec<Frame>> {
+    let own = |(index, frame)| judged(frame).map_err(|stop| stop.of_record(index));
+    frames.enumerate().map(own).collect()
+}
+
+/// `composite_grid`: the body's, 11, the records' in turn, then 12, and tile by tile 13 and 14.
 pub fn composite_grid(oracle: &dyn Oracle, desc: &Grid, tiles: &[Frame]) -> Want<Frame> {
     grid(desc)?;
     if tiles.len() != desc.cells() {
         return refused(refusal::COUNT);
     }
-    let tiles: Vec<Frame> = tiles.iter().map(judged).collect::<Want<_>>()?;
-    settle(oracle.composite_grid(desc, &tiles))
+    compose_grid(oracle, desc, &each_judged(tiles.iter())?)
 }
 
-/// `composite_overlay`: the body's, 4 above 65,536 inputs, 15, 11, the records' in turn, 14, 16.
+/// `composite_overlay`: the body's, 4 above 65,536 inputs, 15, 11, the records' in turn, 14 and 16 of
+/// the lowest input.
 pub fn composite_overlay(
     oracle: &dyn Oracle,
     desc: &Overlay,
@@ -142,17 +153,26 @@ pub fn composite_overlay(
     if inputs.len() != desc.offsets.len() {
         return refused(refusal::COUNT);
     }
-    for input in inputs {
-        judged(&input.frame)?;
-    }
+    each_judged(inputs.iter().map(|input| &input.frame))?;
     let depth = inputs[0].frame.depth;
-    if inputs.iter().any(|input| input.frame.depth != depth) {
-        return refused(refusal::FORM);
-    }
-    if inputs.iter().any(|input| alpha_above_top(&input.frame)) {
-        return refused(refusal::ALPHA);
-    }
+    hold_inputs(inputs, refusal::FORM, |frame| frame.depth == depth)?;
+    hold_inputs(inputs, refusal::ALPHA, |frame| !alpha_above_top(frame))?;
     settle(oracle.composite_overlay(desc, inputs, colour))
+}
+
+/// `apply_transforms` on a frame whose record is judged: the entries in turn. The one that is refused
+/// is the last of the shortest beginning of the chain that is.
+pub fn apply_transforms(
+    oracle: &dyn Oracle,
+    frame: &Frame,
+    chain: &[Entry],
+    essential_only: bool,
+) -> Want<Frame> {
+    let apply = |chain| settle(oracle.apply_transforms(frame, chain, essential_only));
+    apply(chain).map_err(|stop| {
+        let refused = (0..chain.len()).find(|last| apply(&chain[..=*last]).is_err());
+        stop.of_entry(refused.expect("the whole chain is refused"))
+    })
 }
 
 /// `promote_to_444`: the record.

@@ -30,7 +30,8 @@ pub struct Call {
     /// The bytes of output and of spare that are lent.
     pub lent: [usize; 2],
     pub fields: [u32; 10],
-    pub answer: Result<Vec<u8>, Refusal>,
+    /// What it writes, or the refusal's number.
+    pub answer: Result<Vec<u8>, u8>,
 }
 
 /// An operation's name and its calls.
@@ -316,7 +317,7 @@ fn turns<'a>(oracle: &dyn Oracle, input: &'a Input, tiles: &'a [Vec<u8>]) -> Wan
     for (at, (call, event)) in calls.into_iter().zip(events).enumerate() {
         let answer = match event.answer {
             Ok(length) => Ok(length),
-            Err(Stop::Refused(number)) => Err(number),
+            Err(Stop::Refused(refusal)) => Err(refusal),
             Err(stop) => return Err(stop),
         };
         let few = [room.saturating_sub(1), 0][at / 2 % 2];
@@ -390,7 +391,10 @@ fn session(oracle: &dyn Oracle, input: &Input) -> Want<Answered> {
     let grid = expected::settle(oracle.parse_grid(input.bytes("body")))?;
     let tiles = tiles(input)?;
     let turns = turns(oracle, input, &tiles)?;
-    let number = |turn: &Turn| numbers([turn.answer.err().map_or(0, u32::from)]);
+    let number = |turn: &Turn| {
+        let refusal = turn.answer.err();
+        numbers([refusal.map_or(0, |refusal| refusal.number.into())])
+    };
     let mut answer: Vec<u8> = turns.iter().flat_map(number).collect();
     let calls = comparisons::calls_of(input, &tiles);
     if let Some((expected::Call::Finish, earlier)) = calls.split_last() {
@@ -502,7 +506,7 @@ impl Source {
         }
         let (answer, room) = match plain {
             Ok(Answered { answer, room }) if room <= LENT => (Ok(answer), room),
-            Err(Stop::Refused(number)) => (Err(number), 0),
+            Err(Stop::Refused(refusal)) => (Err(refusal.number), 0),
             _ => return None,
         };
         let (mut parts, mut fields) = (self.handed)(sides.plain, input);
@@ -568,7 +572,7 @@ impl Source {
             if call.answer.is_ok() && self.buffers > 0 && short.len() * 10 < count {
                 short.push(Call {
                     lent: self.too_short(short.len(), room),
-                    answer: Err(ROOM),
+                    answer: Err(ROOM.number),
                     ..call.clone()
                 });
             }
@@ -586,11 +590,11 @@ impl Source {
 
     /// So many calls that a refusal answers, on inputs that are made for it.
     fn refused(&self, sides: &Sides, count: usize, seed: u64, reached: &Reached) -> Vec<Call> {
-        let (number, generate) = reached;
+        let (refusal, generate) = reached;
         let call = |case: usize| {
             let mut rng = Rng::for_case(seed, self.name, case as u64);
             let (call, room) = self.call(sides, &generate(&mut rng)).expect("a call");
-            assert_eq!(call.answer, Err(*number));
+            assert_eq!(call.answer, Err(refusal.number));
             Call {
                 lent: self.lent(case, &call, room),
                 ..call

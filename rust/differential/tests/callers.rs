@@ -3,6 +3,8 @@
 //! compiled twice, with the crate `compose` as `heif` and with the published Rust, and gives the
 //! same pictures and turns the same things away.
 
+use compose::{About, Refusal};
+
 /// A program as its own module, where `heif` is `$heif`.
 macro_rules! callers {
     ($heif:path) => {
@@ -54,8 +56,12 @@ oracle::where_present! {
                     assert!(one.data == other.data, "{at}");
                 }
             }
-            let turned_away = ours::$program::turned_away();
-            assert_eq!(turned_away, published::$program::turned_away());
+            let ours = ours::$program::turned_away();
+            let theirs = published::$program::turned_away();
+            assert_eq!(ours.len(), theirs.len());
+            for (at, (ours, theirs)) in ours.iter().zip(&theirs).enumerate() {
+                assert_eq!(ours.is_some(), theirs.is_some(), "{at}");
+            }
         };
     }
 
@@ -86,11 +92,29 @@ fn the_callers_run_over_the_proved_calls() {
     assert_eq!(ours::marker_desk::run().map(|made| made.len()), Ok(4));
     assert_eq!(ours::projector::run().map(|made| made.len()), Ok(76));
     assert_eq!(ours::names::run().map(|made| made.len()), Ok(5));
+}
+
+/// What the proved calls turn away, and the tile, the input or the property that it is about.
+#[test]
+fn the_callers_are_told_what_is_refused() {
+    let second = |refusal: Refusal| Some(refusal.of_item(About::Record, 1));
+    let property = |refusal: Refusal| Some(refusal.of_item(About::Entry, 0));
+    let (count, missing) = (Some(Refusal::COUNT), Some(Refusal::MISSING));
     assert_eq!(
         ours::slope_importer::turned_away(),
-        [true, true, true, false]
+        [count, second(Refusal::TILE), Some(Refusal::COVER), None]
     );
-    assert_eq!(ours::marker_desk::turned_away(), [true, true, true, false]);
-    assert_eq!(ours::projector::turned_away(), [true, true, false, true]);
-    assert_eq!(ours::names::turned_away(), [true, true, true]);
+    assert_eq!(
+        ours::marker_desk::turned_away(),
+        [missing, count, second(Refusal::LAYOUT), None]
+    );
+    let (fraction, zero) = (property(Refusal::FRACTION), property(Refusal::ZERO));
+    assert_eq!(
+        ours::projector::turned_away(),
+        [fraction, zero, None, Some(Refusal::OUTSIDE)]
+    );
+    assert_eq!(
+        ours::names::turned_away(),
+        [Refusal::LIMIT, Refusal::LIMIT, Refusal::TILE].map(Some)
+    );
 }

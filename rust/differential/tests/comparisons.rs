@@ -2,8 +2,36 @@
 
 use differential::compare::{Comparison, Difference, Input, Sides, Verdict};
 use differential::comparisons::ALL;
+use differential::expected::Call;
 use differential::ours::{Answer, Composer, Linked};
-use model::{Clap, Colour, Crop, Iscl, Layout, Operation, Rectangle, Size, parse_record};
+use model::refusal::{LIMIT, MALFORMED, NOT_WHOLE, ROOM};
+use model::{
+    Clap, Colour, Crop, Iscl, Item, Layout, Marks, Operation, Rectangle, Refusal, SceneParts, Size,
+    parse_chain, parse_record,
+};
+
+/// The comparisons of calls that refuse records as their own.
+const OF_RECORDS: [&str; 8] = [
+    "tray",
+    "composite-grid",
+    "composite-overlay",
+    "grid-scene",
+    "overlay-scene",
+    "grid-room",
+    "overlay-room",
+    "point",
+];
+
+/// The comparisons of calls that refuse entries as their own.
+const OF_ENTRIES: [&str; 7] = [
+    "chain",
+    "grid-scene",
+    "overlay-scene",
+    "transforms",
+    "grid-room",
+    "overlay-room",
+    "point",
+];
 
 #[test]
 fn every_comparison_agrees() {
@@ -12,6 +40,10 @@ fn every_comparison_agrees() {
         let report = comparison.run(&sides, 500, 3);
         assert!(report.differences.is_empty(), "{report}");
         assert!(report.accepted > 100, "{report}");
+        let mut of_items = OF_RECORDS.iter().chain(&OF_ENTRIES);
+        let has_items = of_items.any(|name| *name == comparison.name);
+        assert_eq!(report.of_items > 20, has_items, "{report}");
+        assert!(has_items || report.of_items == 0, "{report}");
     }
 }
 
@@ -79,7 +111,7 @@ struct Stern;
 
 impl Composer for Stern {
     fn record(&self, _: &[u8]) -> Option<Answer<Layout>> {
-        Some(Err(5))
+        Some(Err(MALFORMED))
     }
 }
 
@@ -171,7 +203,7 @@ const WRAPPED: Writer = Writer(|record, op, out| match op {
 const ROUNDED: Writer = Writer(|record, op, out| match op {
     Operation::Clap(mut clap) => {
         if let Ok(frame) = parse_record(record)
-            && clap.resolve(frame.width, frame.height) == Err(8)
+            && clap.resolve(frame.width, frame.height) == Err(NOT_WHOLE)
         {
             clap.horizontal_n = clap.horizontal_n.wrapping_add(1);
         }
@@ -194,7 +226,7 @@ const PROMOTED: Writer = Writer(|record, op, out| match op {
 
 /// 17 before any other refusal.
 const HASTY: Writer = Writer(|record, op, out| match out.len() {
-    0 => Some(Err(17)),
+    0 => Some(Err(ROOM)),
     _ => other(record, op, out),
 });
 
@@ -296,7 +328,7 @@ impl Composer for Reader {
     /// A chain of 257 entries taken.
     fn chain(&self, chain: &[u8]) -> Option<Answer<u32>> {
         match Linked.chain(chain) {
-            Some(Err(4)) if chain[..2] == [0x81, 2] => Some(Ok(257)),
+            Some(Err(LIMIT)) if chain[..2] == [0x81, 2] => Some(Ok(257)),
             answer => answer,
         }
     }
@@ -381,7 +413,7 @@ impl Composer for Sizer {
     fn iscl_size(&self, iscl: &Iscl, size: Size, words: &mut [u32]) -> Option<Answer<u64>> {
         let longest = size.0.max(size.1);
         match Linked.iscl_size(iscl, size, words) {
-            Some(Err(4)) if longest > 1 << 26 && words.len() >= 2 => Some(Ok(0)),
+            Some(Err(LIMIT)) if longest > 1 << 26 && words.len() >= 2 => Some(Ok(0)),
             answer => answer,
         }
     }
@@ -417,7 +449,7 @@ impl Composer for Marginless {
         let mut all = [0; 8];
         let answer = Linked.clap_resolve(clap, size, &mut all);
         match (answer, words.get_mut(..4)) {
-            (Some(Ok(0)), None) => Some(Err(17)),
+            (Some(Ok(0)), None) => Some(Err(ROOM)),
             (Some(Ok(0)), Some(words)) => {
                 words.copy_from_slice(&all[..4]);
                 answer
@@ -427,10 +459,212 @@ impl Composer for Marginless {
     }
 }
 
+/// Right but for refusals, of which it makes others.
+struct Misled(fn(Refusal) -> Refusal);
+
+/// Calls that are the library's, their refusals changed.
+macro_rules! misled {
+    ($($name:ident($($part:ident: $of:ty),*) -> $answer:ty;)*) => {
+        $(fn $name(&self, $($part: $of),*) -> Option<Answer<$answer>> {
+            Some(Linked.$name($($part),*)?.map_err(self.0))
+        })*
+    };
+}
+
+impl Composer for Misled {
+    misled! {
+        record(record: &[u8]) -> Layout;
+        tray(tray: &[u8]) -> u32;
+        grid_descriptor(body: &[u8], words: &mut [u64]) -> u64;
+        overlay_descriptor(body: &[u8], count: u32, words: &mut [u64]) -> u64;
+        overlay_offset(body: &[u8], count: u32, index: u32, words: &mut [u64]) -> u64;
+        overlay_offsets(body: &[u8], count: u32, words: &mut [u64]) -> u64;
+        chain(chain: &[u8]) -> u32;
+        clap_resolve(clap: &Clap, size: Size, words: &mut [u32]) -> u64;
+        iscl_size(iscl: &Iscl, size: Size, words: &mut [u32]) -> u64;
+        steps(input: &[u8], output: &mut [u8]) -> usize;
+        sentence(number: u32, sort: u8, index: u64, language: u8, output: &mut [u8]) -> usize;
+        fill(channels: [u16; 3], depth: u32, colour: Option<Colour>, words: &mut [u16]) -> u64;
+        operation(record: &[u8], operation: &Operation, output: &mut [u8]) -> usize;
+        attach(master: &[u8], alpha: &[u8], output: &mut [u8]) -> usize;
+        grid(body: &[u8], tray: &[u8], output: &mut [u8]) -> usize;
+        overlay(
+            body: &[u8], tray: &[u8], list: &[u8], colour: Option<Colour>, output: &mut [u8]
+        ) -> usize;
+        grid_scene(parts: &SceneParts, output: &mut [u8], spare: &mut [u8]) -> usize;
+        overlay_scene(
+            parts: &SceneParts, marks: &Marks, output: &mut [u8], spare: &mut [u8]
+        ) -> usize;
+        transforms(
+            record: &[u8], chain: &[u8], flag: bool, output: &mut [u8], spare: &mut [u8]
+        ) -> usize;
+        record_size(header: [u32; 5]) -> u64;
+        grid_room(parts: &SceneParts) -> u64;
+        overlay_room(parts: &SceneParts, list: &[u8]) -> u64;
+        grid_point(parts: &SceneParts, place: Size, words: &mut [u32]) -> u64;
+        overlay_point(parts: &SceneParts, marks: &Marks, place: Size, words: &mut [u32]) -> u64;
+        canvas_start(body: &[u8], state: &mut [u64]) -> u64;
+        canvas_call(call: &Call, state: &mut [u64], buffer: &mut [u8]) -> usize;
+    }
+}
+
+const RECORD_AFTER: Misled = Misled(|refusal| match refusal.item {
+    Some(Item::Record(index)) => refusal.of_record(index as usize + 1),
+    _ => refusal,
+});
+
+const ENTRY_AFTER: Misled = Misled(|refusal| match refusal.item {
+    Some(Item::Entry(index)) => refusal.of_entry(index as usize + 1),
+    _ => refusal,
+});
+
+/// The tray's sort for an entry.
+const TRAYS_SORT: Misled = Misled(|refusal| match refusal.item {
+    Some(Item::Entry(index)) => refusal.of_record(index as usize),
+    _ => refusal,
+});
+
+const ITEMLESS: Misled = Misled(|refusal| Refusal::new(refusal.number));
+
+/// An item where there is none.
+const ALL_ITEMS: Misled = Misled(|refusal| match refusal.item {
+    None => refusal.of_record(0),
+    _ => refusal,
+});
+
+/// An index for bytes left over: that of the item after the last.
+struct Counter;
+
+impl Composer for Counter {
+    fn tray(&self, tray: &[u8]) -> Option<Answer<u32>> {
+        let count = model::tray_count(tray).ok();
+        let answer = Linked.tray(tray)?;
+        Some(answer.map_err(|refusal| match (refusal.item, count) {
+            (None, Some(count)) => refusal.of_record(count as usize),
+            _ => refusal,
+        }))
+    }
+
+    fn chain(&self, chain: &[u8]) -> Option<Answer<u32>> {
+        let count = model::tray_count(chain).ok();
+        let answer = Linked.chain(chain)?;
+        Some(answer.map_err(|refusal| match (refusal, count) {
+            (MALFORMED, Some(count)) => refusal.of_entry(count as usize),
+            _ => refusal,
+        }))
+    }
+}
+
+/// An index among the entries that are applied alone.
+struct Skipper;
+
+impl Composer for Skipper {
+    fn transforms(
+        &self,
+        record: &[u8],
+        chain: &[u8],
+        essential_only: bool,
+        output: &mut [u8],
+        spare: &mut [u8],
+    ) -> Option<Answer<usize>> {
+        let answer = Linked.transforms(record, chain, essential_only, output, spare)?;
+        Some(
+            answer.map_err(|refusal| match (refusal.item, parse_chain(chain)) {
+                (Some(Item::Entry(index)), Ok(entries)) => {
+                    let before = entries[..index as usize].iter();
+                    let applied = before.filter(|entry| entry.applied(essential_only).is_some());
+                    refusal.of_entry(applied.count())
+                }
+                _ => refusal,
+            }),
+        )
+    }
+}
+
+/// A wrong sentence, of number, sort, index and language.
+type Says = fn(u32, u8, u64, u8, &mut [u8]) -> Option<Answer<usize>>;
+
+/// Writes sentences by a function of its own.
+struct Speaker(Says);
+
+impl Composer for Speaker {
+    fn sentence(
+        &self,
+        number: u32,
+        sort: u8,
+        index: u64,
+        language: u8,
+        output: &mut [u8],
+    ) -> Option<Answer<usize>> {
+        (self.0)(number, sort, index, language, output)
+    }
+}
+
+/// The model in the composer's place.
+const MODELLED: Speaker = Speaker(|number, sort, index, language, output| {
+    let length = model::write_sentence(number, sort, index, language, output);
+    Some(length)
+});
+
+/// English for German, German for English.
+const EXCHANGED: Speaker = Speaker(|number, sort, index, language, output| {
+    let other = if language < 2 { 1 - language } else { language };
+    Linked.sentence(number, sort, index, other, output)
+});
+
+/// An index of 32 bits.
+const SHORT_INDEX: Speaker = Speaker(|number, sort, index, language, output| {
+    Linked.sentence(number, sort, index & 0xffff_ffff, language, output)
+});
+
+/// A number of 8 bits.
+const SHORT_NUMBER: Speaker = Speaker(|number, sort, index, language, output| {
+    Linked.sentence(number & 0xff, sort, index, language, output)
+});
+
+/// 17 before 5.
+const SPEAKS_HASTILY: Speaker =
+    Speaker(
+        |number, sort, index, language, output| match output.is_empty() {
+            true => Some(Err(ROOM)),
+            false => Linked.sentence(number, sort, index, language, output),
+        },
+    );
+
+/// A zero behind the sentence, as for C.
+const ENDED: Speaker = Speaker(|number, sort, index, language, output| {
+    let answer = Linked.sentence(number, sort, index, language, output);
+    if let Some(Ok(length)) = answer
+        && let Some(past) = output.get_mut(length)
+    {
+        *past = 0;
+    }
+    answer
+});
+
+#[test]
+fn the_models_sentences_pass_in_the_composers_place() {
+    let Some(sides) = Sides::open() else { return };
+    let comparison = ALL.iter().find(|known| known.name == "sentence");
+    let modelled = Sides {
+        ours: &MODELLED,
+        ..sides
+    };
+    let report = comparison.expect("it").run(&modelled, 1_000, 2);
+    assert!(report.differences.is_empty(), "{report}");
+}
+
+/// The names of the comparisons of the composer's calls.
+fn every_call() -> Vec<&'static str> {
+    let names = ALL.iter().map(|comparison| comparison.name);
+    names.filter(|name| *name != "house-number").collect()
+}
+
 #[test]
 fn a_wrong_composer_is_found() {
     let Some(sides) = Sides::open() else { return };
-    let wrong: [(&str, &'static dyn Composer, &[&str]); 22] = [
+    let of_items = [&OF_RECORDS[..], &OF_ENTRIES].concat();
+    let wrong: [(&str, &'static dyn Composer, &[&str]); 34] = [
         ("judges every record malformed", &Stern, &["record"]),
         ("a plane too far, a tray's word", &Lax, &["record", "tray"]),
         ("turns clockwise", &CLOCKWISE, &["irot"]),
@@ -465,6 +699,18 @@ fn a_wrong_composer_is_found() {
         ),
         ("a margin too short", &Shaver, &["clap-resolve"]),
         ("no margins", &Marginless, &["clap-resolve"]),
+        ("the record after", &RECORD_AFTER, &OF_RECORDS),
+        ("the entry after", &ENTRY_AFTER, &OF_ENTRIES),
+        ("an entry taken for a record", &TRAYS_SORT, &OF_ENTRIES),
+        ("no item", &ITEMLESS, &of_items),
+        ("an item where none is", &ALL_ITEMS, &every_call()),
+        ("an item for bytes left over", &Counter, &["tray", "chain"]),
+        ("skipped entries not counted", &Skipper, &["transforms"]),
+        ("the other language", &EXCHANGED, &["sentence"]),
+        ("an index of 32 bits", &SHORT_INDEX, &["sentence"]),
+        ("a number of 8 bits", &SHORT_NUMBER, &["sentence"]),
+        ("17 before 5", &SPEAKS_HASTILY, &["sentence"]),
+        ("a sentence with an end", &ENDED, &["sentence"]),
     ];
     for (what, ours, names) in wrong {
         for name in names {

@@ -3,7 +3,8 @@
 mod common;
 
 use common::{bytes, on_each_build};
-use differential::expected;
+use differential::expected::{self, Stop, Want};
+use model::refusal::{MISSING, NOT_WHOLE, OUTSIDE, ZERO_DENOMINATOR};
 use model::{
     Chroma, Clap, Colour, Entry, Frame, Grid, Iscl, Oracle, Outcome, Overlay, OverlayInput,
     Property, Rectangle, SceneParts, chain_bytes, parse_record, tray_bytes,
@@ -18,25 +19,22 @@ fn done<T>(outcome: Outcome<T>) -> T {
 }
 
 /// The edge of a clap across a picture 64 wide, or its refusal.
-fn edge(oracle: &dyn Oracle, (n, d): (u32, u32), (off_n, off_d): (i32, u32)) -> Result<u32, u8> {
+fn edge(oracle: &dyn Oracle, (n, d): (u32, u32), (off_n, off_d): (i32, u32)) -> Want<u32> {
     let clap = Clap::from_fields([n, d, 1, 1, off_n.cast_unsigned(), off_d, 0, 1]);
-    match expected::settle(oracle.resolve_clap(&clap, 64, 1)) {
-        Ok(rectangle) => Ok(rectangle.x),
-        Err(expected::Stop::Refused(number)) => Err(number),
-        Err(stop) => panic!("{stop:?}"),
-    }
+    expected::settle(oracle.resolve_clap(&clap, 64, 1)).map(|rectangle| rectangle.x)
 }
 
 #[test]
 fn clap_edges() {
+    let [not_whole, outside] = [NOT_WHOLE, OUTSIDE].map(|refusal| Err(Stop::Refused(refusal)));
     on_each_build(|oracle| {
         assert_eq!(edge(oracle, (62, 1), (0, 1)), Ok(1));
-        assert_eq!(edge(oracle, (63, 1), (0, 1)), Err(8));
+        assert_eq!(edge(oracle, (63, 1), (0, 1)), not_whole);
         assert_eq!(edge(oracle, (63, 1), (1, 2)), Ok(1));
         assert_eq!(edge(oracle, (63, 1), (-1, 2)), Ok(0));
-        assert_eq!(edge(oracle, (64, 1), (1, 1)), Err(9));
-        assert_eq!(edge(oracle, (3, 2), (0, 1)), Err(8));
-        assert_eq!(edge(oracle, (0, 1), (0, 1)), Err(9));
+        assert_eq!(edge(oracle, (64, 1), (1, 1)), outside);
+        assert_eq!(edge(oracle, (3, 2), (0, 1)), not_whole);
+        assert_eq!(edge(oracle, (0, 1), (0, 1)), outside);
     });
 }
 
@@ -47,13 +45,10 @@ fn clap_judges_the_width_wholly_before_the_height() {
             expected::settle(oracle.resolve_clap(&Clap::from_fields(fields), 64, 64)).unwrap_err()
         };
         // The width's edge is outside (9), the height's denominator is 0 (7).
-        assert_eq!(
-            refusal([64, 1, 1, 0, 1, 1, 0, 0]),
-            expected::Stop::Refused(9)
-        );
+        assert_eq!(refusal([64, 1, 1, 0, 1, 1, 0, 0]), Stop::Refused(OUTSIDE));
         assert_eq!(
             refusal([64, 1, 1, 0, 0, 1, 0, 0]),
-            expected::Stop::Refused(7)
+            Stop::Refused(ZERO_DENOMINATOR)
         );
     });
 }
@@ -248,7 +243,7 @@ fn a_session_holds_the_canvas_between_calls() {
         let mut session = oracle.canvas(&grid);
         assert_eq!(
             expected::settle(session.place_blank(0)),
-            Err(expected::Stop::Refused(15))
+            Err(Stop::Refused(MISSING))
         );
         assert_eq!(session.state().canvas, None);
         assert_eq!(session.place(0, &plain), Outcome::Done(()));

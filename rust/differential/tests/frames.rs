@@ -1,5 +1,5 @@
 //! The crate `compose` in oxideav-heif's place: the same calls on the same frames give the same
-//! pictures and, where it refuses, the number that its text counts as.
+//! pictures and, where it refuses, the number that its text counts as and the entry of the chain.
 
 mod common;
 
@@ -13,7 +13,7 @@ use compose::{
 use differential::damage::broken_crops;
 use differential::generate;
 use differential::rng::Rng;
-use differential::shaped::{self, heif, hold};
+use differential::shaped::{self, heif, hold, hold_to};
 use model::{Crop, Frame, Operation, Rectangle, parse_record};
 
 #[test]
@@ -167,7 +167,6 @@ fn frames_that_no_record_holds_are_refused() {
     );
 }
 
-/// A rectangle's aperture resolves to the rectangle.
 /// A chain on a frame: the whole of `apply_transforms`, and its limit, which is added.
 #[test]
 fn chains_are_oxideav_heifs() {
@@ -178,11 +177,11 @@ fn chains_are_oxideav_heifs() {
             let chain = generate::chain(&mut rng, (frame.width, frame.height));
             let entries = chain::entries(&model::chain_bytes(&chain)).expect("a chain");
             for essential_only in [false, true] {
-                let theirs = || oracle.apply_transforms(&frame, &chain, essential_only);
+                let want = shaped::apply_transforms(oracle, &frame, &chain, essential_only);
                 let ours = apply_transforms(&heif(&frame), &entries, essential_only);
-                hold(ours, theirs(), "apply_transforms");
+                hold_to(ours, want.clone(), "apply_transforms");
                 let ours = apply_transforms_owned(heif(&frame), &entries, essential_only);
-                hold(ours, theirs(), "apply_transforms_owned");
+                hold_to(ours, want, "apply_transforms_owned");
             }
         }
     });
@@ -240,6 +239,7 @@ fn crops_with_margins() {
     }
 }
 
+/// A rectangle's aperture resolves to the rectangle.
 #[test]
 fn apertures_for_rectangles() {
     let mut rng = Rng::new(16);

@@ -35,6 +35,7 @@ use common::{bytes, on_each_build};
 use differential::compare::Sides;
 use differential::ours::{Composer, Linked};
 use differential::shaped::{grid_descriptor, heif, overlay_descriptor};
+use model::refusal::{DEPTH, LIMIT, MALFORMED, OUTSIDE};
 use model::{
     Chroma, Colour, Crop, Entry, Frame, Grid, Iscl, Operation, Oracle, Outcome, Overlay,
     OverlayInput, Plane, Property, chain_bytes, parse_tray, parse_untested,
@@ -144,7 +145,7 @@ fn a_scaled_side_above_2_to_26() {
         let scaled = oracle.iscl_size(&iscl, size.0, size.1);
         assert_eq!(scaled, Outcome::Done((1_025, 1)));
     });
-    assert_eq!(Linked.iscl_size(&iscl, size, &mut [0; 2]), Some(Err(4)));
+    assert_eq!(Linked.iscl_size(&iscl, size, &mut [0; 2]), Some(Err(LIMIT)));
 }
 
 #[test]
@@ -170,7 +171,7 @@ fn fills_at_depths_outside_8_to_16() {
     for (depth, colour, numbers, panic) in cases {
         let fill = [65_535, 0, 0];
         let ours = Linked.fill(fill, u32::from(depth), colour, &mut [0; 3]);
-        assert_eq!(ours, Some(Err(6)), "depth {depth}");
+        assert_eq!(ours, Some(Err(DEPTH)), "depth {depth}");
         let red = |oracle: &dyn Oracle| oracle.fill_to_ycbcr(fill, depth, colour);
         on_the_builds(
             |plain| assert_eq!(red(plain), Outcome::Done(numbers), "depth {depth}"),
@@ -192,7 +193,7 @@ fn a_chain_of_257_entries() {
         let size = oracle.chain_size(&[mirror; 257], (2, 1), false);
         assert_eq!(size, Outcome::Done((2, 1)));
     });
-    assert_eq!(Linked.chain(&chain_bytes(&[mirror; 257])), Some(Err(4)));
+    assert_eq!(Linked.chain(&chain_bytes(&[mirror; 257])), Some(Err(LIMIT)));
 }
 
 #[test]
@@ -218,7 +219,7 @@ fn a_record_that_is_never_validated() {
     let record = bytes("0201000800020105");
     let short = parse_untested(&record).expect("a header that passes");
     let mirrored = Linked.operation(&record, &Operation::Imir(1), &mut [0; 9]);
-    assert_eq!(mirrored, Some(Err(5)));
+    assert_eq!(mirrored, Some(Err(MALFORMED)));
     on_each_build(|oracle| {
         assert!(matches!(oracle.validate(&short), Outcome::Error(_)));
         for axis in [0, 1] {
@@ -234,7 +235,7 @@ fn a_depth_that_validate_does_not_look_at() {
         for depth in [7, 17] {
             let frame = Frame::tight((1, 1), Chroma::Mono, depth, 0, &[&[5]]);
             assert_eq!(oracle.validate(&frame), Outcome::Done(()));
-            assert_eq!(Linked.record(&frame.record()), Some(Err(6)));
+            assert_eq!(Linked.record(&frame.record()), Some(Err(DEPTH)));
         }
     });
 }
@@ -253,7 +254,10 @@ fn the_size_after_an_iscl() {
         };
         assert!(text.starts_with("heif: limit exceeded: "), "{text}");
     });
-    assert_eq!(Linked.iscl_size(&iscl, (1, 1), &mut [0; 2]), Some(Err(4)));
+    assert_eq!(
+        Linked.iscl_size(&iscl, (1, 1), &mut [0; 2]),
+        Some(Err(LIMIT))
+    );
     let input = compose::steps::input(1, 1, &chain_bytes(&[entry]));
     let text = compose::steps::text(&input);
     assert_eq!(text, "step kind width height\n0 4 refused 4\n");
@@ -279,7 +283,7 @@ fn margins_that_are_not_a_crops_own() {
     let record = bytes("0101000800010105");
     let crop = Crop::from_fields([0, 0, 1, 1, 0, 0, 0, 1]);
     let ours = Linked.operation(&record, &Operation::Crop(crop), &mut [0; 8]);
-    assert_eq!(ours, Some(Err(9)));
+    assert_eq!(ours, Some(Err(OUTSIDE)));
     let frame = Frame::mono(1, 1, &[5]);
     on_each_build(|oracle| {
         let part = oracle.crop(&frame, &crop.rectangle).done();
@@ -290,7 +294,7 @@ fn margins_that_are_not_a_crops_own() {
 /// Rows of tiles that no body holds: more than 256, and none.
 #[test]
 fn rows_that_no_body_holds() {
-    for (rows, refusal) in [(257, 4), (0, 3)] {
+    for (rows, refusal) in [(257, compose::Refusal::LIMIT), (0, compose::Refusal::EMPTY)] {
         let grid = Grid {
             rows,
             columns: 1,
@@ -300,7 +304,7 @@ fn rows_that_no_body_holds() {
         let tiles = vec![Frame::mono(2, 2, &[1, 2, 3, 4]); usize::from(rows)];
         let ours: Vec<compose::HeifFrame> = tiles.iter().map(heif).collect();
         let made = compose::composite_grid(&grid_descriptor(&grid), &ours);
-        assert_eq!(made.map_err(|refused| refused.number()), Err(refusal));
+        assert_eq!(made, Err(refusal));
         on_each_build(|oracle| match oracle.composite_grid(&grid, &tiles) {
             Outcome::Done(picture) => assert_eq!((rows, picture), (257, tiles[0].clone())),
             Outcome::Error(text) => assert_eq!(text, "heif: invalid data: grid: no tiles"),

@@ -2,14 +2,15 @@
 //! many bytes as the call then writes.
 
 use compose::limits::{Ceiling, Excess, Limits};
-use compose::props::{Colr, Imir};
+use compose::props::{Clap, Colr, Imir, Irot, Iscl, Property, PropertyEntry};
 use compose::{
     GridCanvas, HeifFrame, HeifPixelFormat, Refusal, Scene, composite, operation, record, scene,
     sys,
 };
-use differential::generate;
 use differential::rng::Rng;
 use differential::shaped::{clap, grid_descriptor, heif, iscl};
+use differential::{generate, ours};
+use model::refusal::LIMIT;
 use model::{Frame, SceneParts, chain_bytes, tray_bytes};
 
 /// Nothing may be made.
@@ -17,6 +18,12 @@ const NOTHING: Limits = Limits::new().with_max_pixels(0).with_max_bytes(0);
 
 fn excess(what: Ceiling, asked: u64, most: u64) -> Option<Excess> {
     Some(Excess { what, asked, most })
+}
+
+/// What is above a ceiling of the caller's; its refusal is 4, of no item.
+fn above_ceiling(refusal: Refusal) -> Option<Excess> {
+    assert_eq!(ours::refusal(refusal), LIMIT);
+    refusal.excess()
 }
 
 /// How many pixels a record has.
@@ -37,7 +44,7 @@ fn hold(what: &str, call: impl Fn() -> compose::Result<Vec<u8>>) {
     let (pixels, bytes) = (pixels(&made), made.len() as u64);
     let just = Limits::new().with_max_pixels(pixels).with_max_bytes(bytes);
     assert_eq!(just.within(&call), Ok(made), "{what}");
-    let above = |limits: Limits| limits.within(&call).expect_err(what).excess();
+    let above = |limits: Limits| above_ceiling(limits.within(&call).expect_err(what));
     let few = just.with_max_pixels(pixels - 1);
     assert_eq!(
         above(few),
@@ -95,19 +102,19 @@ fn operations_ask_for_what_they_write() {
 }
 
 /// What a scene asks for, without its chain and with it.
-fn hold_scene(scene_of: &Scene, room: Result<usize, u8>) {
+fn hold_scene(scene_of: &Scene, room: Result<usize, model::Refusal>) {
     let call = || scene(scene_of);
-    let refusal = NOTHING.within(call).expect_err("nothing is made");
+    let said = NOTHING.within(call).expect_err("nothing is made");
     let room = match room {
         Ok(room) => room as u64,
-        Err(number) => {
-            assert_eq!((refusal.number(), refusal.excess()), (number, None));
+        Err(refusal) => {
+            assert_eq!((ours::refusal(said), said.excess()), (refusal, None));
             return;
         }
     };
     // An output and a spare.
     let bytes = Limits::new().with_max_bytes(0).within(call).unwrap_err();
-    assert_eq!(bytes.excess(), excess(Ceiling::Bytes, 2 * room, 0));
+    assert_eq!(above_ceiling(bytes), excess(Ceiling::Bytes, 2 * room, 0));
     let just = Limits::new().with_max_bytes(2 * room);
     assert_eq!(just.within(call), call());
     assert!(call().is_ok());
@@ -175,7 +182,7 @@ fn pictures_between_two_entries_count() {
     let call = || scene(&Scene::grid(&body, &tray, &chain));
     assert_eq!(call(), Ok(tray[1..].to_vec()));
     let above = Limits::new().with_max_pixels(63).within(call);
-    let above = above.unwrap_err().excess();
+    let above = above_ceiling(above.unwrap_err());
     assert_eq!(above, excess(Ceiling::Pixels, 64, 63));
     assert!(Limits::new().with_max_pixels(64).within(call).is_ok());
 }
@@ -197,8 +204,8 @@ fn a_canvas_asks_for_what_it_takes() {
         }
         let all = u64::from(grid.width) * u64::from(grid.height);
         let above = place(NOTHING.with_max_bytes(u64::MAX)).unwrap_err();
-        assert_eq!(above.excess(), excess(Ceiling::Pixels, all, 0));
-        let above = place(NOTHING.with_max_pixels(all)).unwrap_err().excess();
+        assert_eq!(above_ceiling(above), excess(Ceiling::Pixels, all, 0));
+        let above = above_ceiling(place(NOTHING.with_max_pixels(all)).unwrap_err());
         let room = above.expect("a ceiling of bytes").asked;
         assert_eq!(place(Limits::new().with_max_bytes(room)), Ok(()));
 
@@ -221,15 +228,37 @@ fn frames_keep_to_ceilings() {
     let above = limits
         .within(|| HeifFrame::zeroed(5, 5, format))
         .unwrap_err();
-    assert_eq!(above.excess(), excess(Ceiling::Pixels, 25, 24));
+    assert_eq!(above_ceiling(above), excess(Ceiling::Pixels, 25, 24));
     let frame = limits
         .within(|| HeifFrame::zeroed(6, 4, format))
         .expect("a frame");
     let twice = || compose::resize_nearest(&frame, 12, 4);
     let above = limits.within(twice).unwrap_err();
-    assert_eq!(above.excess(), excess(Ceiling::Pixels, 48, 24));
+    assert_eq!(above_ceiling(above), excess(Ceiling::Pixels, 48, 24));
     assert_eq!((above.number(), above.name()), (4, "limit"));
     assert!(twice().is_ok());
+}
+
+/// A ceiling is judged for a chain as a whole, and is no entry's.
+#[test]
+fn a_ceiling_of_a_chain_is_no_entrys() {
+    let format = HeifPixelFormat::new(compose::Chroma::Yuv420, 8, false).expect("a depth");
+    let frame = HeifFrame::zeroed(6, 4, format).expect("a frame");
+    let twice = Property::Iscl(Iscl::new(2, 1, 1, 1));
+    for before in [
+        Property::Other,
+        Property::Clap(Clap::integer(6, 4, 0, 0)),
+        Property::Irot(Irot::new(1)),
+        Property::Irot(Irot::new(0)),
+    ] {
+        let chain = [before, twice].map(|property| PropertyEntry::new(1, true, property));
+        let above = Limits::new()
+            .with_max_pixels(24)
+            .within(|| compose::apply_transforms(&frame, &chain, false))
+            .unwrap_err();
+        assert_eq!(above_ceiling(above), excess(Ceiling::Pixels, 48, 24));
+        assert_eq!((above.about(), above.index()), (None, None));
+    }
 }
 
 /// What is made of a frame's bands is judged as a whole.

@@ -3,17 +3,18 @@
 use differential::damage::{BOUNDARIES, each_choice, faulty_chain};
 use differential::generate;
 use differential::rng::Rng;
+use model::refusal::{LIMIT, MALFORMED};
 use model::{
     Chroma, Clap, Entry, Frame, Property, Reader, Refusal, chain_bytes, number_bytes, parse_chain,
     parse_record, parse_tray, tray_bytes, tray_count,
 };
 
 #[test]
-fn faulty_chains_have_the_first_faults_number() {
-    for (faults, bytes, number) in each_choice(20, faulty_chain) {
+fn faulty_chains_have_the_first_faults_refusal() {
+    for (faults, bytes, refusal) in each_choice(20, faulty_chain) {
         assert_eq!(
             parse_chain(&bytes).err(),
-            Some(number),
+            Some(refusal),
             "{faults:?} {bytes:02x?}"
         );
     }
@@ -52,7 +53,8 @@ fn house_numbers_have_one_form() {
         assert_eq!(read_number(&bytes), Ok((value, 0)));
         assert_eq!(read_number(&[&bytes[..], &[9, 9]].concat()), Ok((value, 2)));
         for end in 0..bytes.len() {
-            assert_eq!(read_number(&bytes[..end]), Err(5), "{value} cut to {end}");
+            let cut = read_number(&bytes[..end]);
+            assert_eq!(cut, Err(MALFORMED), "{value} cut to {end}");
         }
     }
 }
@@ -73,7 +75,7 @@ fn malformed_house_numbers_are_5() {
         &[0x80, 0x80, 0x80, 0x80, 0x80, 0x01],
         &[0xff, 0xff, 0xff, 0xff, 0x8f, 0x00],
     ] {
-        assert_eq!(read_number(bytes), Err(5), "{bytes:02x?}");
+        assert_eq!(read_number(bytes), Err(MALFORMED), "{bytes:02x?}");
     }
     assert_eq!(
         read_number(&[0xff, 0xff, 0xff, 0xff, 0x0f]),
@@ -102,11 +104,13 @@ fn a_chain_holds_256_entries() {
         parse_chain(&chain_bytes(&[other; 256])).map(|chain| chain.len()),
         Ok(256)
     );
-    assert_eq!(parse_chain(&chain_bytes(&[other; 257])).err(), Some(4));
+    let above = parse_chain(&chain_bytes(&[other; 257]));
+    assert_eq!(above.err(), Some(LIMIT));
     // 4 once the count is read, whatever follows; an unreadable count is 5.
-    assert_eq!(parse_chain(&[0x81, 0x02]).err(), Some(4));
-    assert_eq!(parse_chain(&[0x81]).err(), Some(5));
-    assert_eq!(parse_chain(&[1, 2, 1, 0x80, 0x02]).err(), Some(5));
+    assert_eq!(parse_chain(&[0x81, 0x02]).err(), Some(LIMIT));
+    assert_eq!(parse_chain(&[0x81]).err(), Some(MALFORMED));
+    let angle = parse_chain(&[1, 2, 1, 0x80, 0x02]);
+    assert_eq!(angle.err(), Some(MALFORMED.of_entry(0)));
     assert_eq!(
         parse_chain(&[1, 2, 1, 0xff, 0x01]).map(|chain| chain.len()),
         Ok(1)

@@ -6,7 +6,10 @@ use differential::damage::broken_crops;
 use differential::generate::{self, Form};
 use differential::ours::{BEFORE, Composer, Linked, fills, writes};
 use differential::rng::Rng;
-use model::{Chroma, Clap, Colour, Crop, Frame, Operation, Rectangle, fill_samples, parse_record};
+use model::refusal::OUTSIDE;
+use model::{
+    Chroma, Clap, Colour, Crop, Frame, Operation, Rectangle, Refusal, fill_samples, parse_record,
+};
 
 /// Holds the composer to the model: the number, the length, each byte, and what is left alone.
 fn hold(frame: &Frame, operation: Operation) {
@@ -88,7 +91,7 @@ fn crops(size: (u32, u32)) -> Vec<Crop> {
 /// A crop that is 9, held to the model.
 fn hold_broken(frame: &Frame, crop: Crop) {
     let operation = Operation::Crop(crop);
-    assert_eq!(operation.apply(frame), Err(9), "{crop:?}");
+    assert_eq!(operation.apply(frame), Err(OUTSIDE), "{crop:?}");
     hold(frame, operation);
 }
 
@@ -178,7 +181,8 @@ fn crops_refuse_in_their_order() {
     ] {
         let mut output = vec![BEFORE; room];
         let answer = Linked.operation(record, &Operation::Crop(crop), &mut output);
-        assert_eq!(answer, Some(Err(number)), "{crop:?} of {record:?}");
+        let refused = Some(Err(Refusal::new(number)));
+        assert_eq!(answer, refused, "{crop:?} of {record:?}");
         assert_eq!(output, vec![BEFORE; room]);
     }
 }
@@ -245,8 +249,8 @@ fn apertures_judge_the_width_wholly_before_the_height() {
                 across[0], across[1], down[0], down[1], across[2], across[3], down[2], down[3],
             ];
             let clap = Clap::from_fields(fields);
-            let number = first.or(second);
-            assert_eq!(clap.resolve(2, 2).err(), number, "{fields:?}");
+            let refusal = first.or(second).map(Refusal::new);
+            assert_eq!(clap.resolve(2, 2).err(), refusal, "{fields:?}");
             hold(&frame, Operation::Clap(clap));
         }
     }

@@ -2,21 +2,23 @@
 //! the model: every cut, every changed byte, every small aperture, and document 01's own cases. The
 //! published Rust is not needed here.
 
-use compose::{GridDescriptor, OverlayDescriptor, Refusal, chain, props, steps};
+use compose::{GridDescriptor, OverlayDescriptor, chain, props, steps};
 use differential::compare::hex;
 use differential::damage::{
     BodyFault, each_choice, faulty_body, faulty_chain, first_refusal, triples,
 };
+use differential::expected::{self, Stop};
 use differential::generate;
-use differential::ours::{Composer, Linked, fills, writes};
+use differential::ours::{Composer, Linked, fills, refusal, writes};
 use differential::rng::Rng;
 use differential::shaped;
+use model::refusal::{LIMIT, MALFORMED};
 use model::{
-    Clap, Entry, Grid, Iscl, Overlay, Property, chain_bytes, parse_chain, parse_grid,
+    Clap, Entry, Grid, Iscl, Overlay, Property, Refusal, chain_bytes, parse_chain, parse_grid,
     parse_overlay, steps_text,
 };
 
-/// What `compose` reads of a grid's body, held to the model.
+/// What `compose` reads of a grid's body, held to the model: the number of its refusal.
 fn read_grid(body: &[u8]) -> Option<u8> {
     let ours = GridDescriptor::parse(body).map(|grid| Grid {
         rows: grid.rows,
@@ -24,9 +26,16 @@ fn read_grid(body: &[u8]) -> Option<u8> {
         width: grid.output_width,
         height: grid.output_height,
     });
-    let ours = ours.map_err(Refusal::number);
+    let ours = ours.map_err(refusal);
     assert_eq!(ours, parse_grid(body), "{}", hex(body));
-    ours.err()
+    alone(ours.err())
+}
+
+/// The number of a refusal that is of no item.
+fn alone(refusal: Option<Refusal>) -> Option<u8> {
+    let refusal = refusal?;
+    assert_eq!(refusal, Refusal::new(refusal.number));
+    Some(refusal.number)
 }
 
 /// What `compose` reads of an overlay's body, each offset with it, held to the model.
@@ -37,9 +46,9 @@ fn read_overlay(body: &[u8], inputs: usize) -> Option<u8> {
         height: overlay.output_height,
         offsets: overlay.offsets,
     });
-    let ours = ours.map_err(Refusal::number);
+    let ours = ours.map_err(refusal);
     assert_eq!(ours, parse_overlay(body, inputs), "{}", hex(body));
-    ours.err()
+    alone(ours.err())
 }
 
 fn property(of: &props::Property) -> Property {
@@ -66,16 +75,22 @@ fn property(of: &props::Property) -> Property {
     }
 }
 
-/// What `compose` reads of a chain, held to the model, and written back to the same bytes.
-fn read_chain(bytes: &[u8]) -> Option<u8> {
+/// What `compose` reads of a chain, held to the model and to its numbers, and written back to the same
+/// bytes.
+fn read_chain(bytes: &[u8]) -> Option<Refusal> {
     let read = chain::entries(bytes);
     let ours = read.as_ref().map(|entries| {
         let entry =
             |entry: &props::PropertyEntry| Entry::new(entry.essential, property(&entry.property));
         entries.iter().map(entry).collect::<Vec<_>>()
     });
-    let ours = ours.map_err(|refusal| refusal.number());
+    let ours = ours.map_err(|said| refusal(*said));
     assert_eq!(ours, parse_chain(bytes), "{}", hex(bytes));
+    let want = expected::chain(bytes);
+    assert_eq!(
+        want.err(),
+        ours.as_ref().err().map(|refusal| Stop::Refused(*refusal))
+    );
     if let Ok(entries) = &read {
         assert_eq!(chain::join(entries).as_deref(), Ok(bytes));
     }
@@ -95,18 +110,18 @@ fn read_steps(input: &[u8]) -> String {
 
 /// What an aperture leaves of a size and the margins about it: the composer, and `compose`, held to the
 /// model.
-fn hold_clap(clap: Clap, size: (u32, u32)) -> Result<[u32; 8], u8> {
+fn hold_clap(clap: Clap, size: (u32, u32)) -> Result<[u32; 8], Refusal> {
     let crop = clap.resolve(size.0, size.1);
     let want = crop.map(|crop| crop.fields());
     let departs = fills(&want, |words| Linked.clap_resolve(&clap, size, words));
     assert_eq!(departs, None, "{clap:?} of {size:?}");
     let ours = shaped::clap(&clap).resolve(size.0, size.1);
     let crop = crop.map(|crop| shaped::crop(&crop));
-    assert_eq!(ours.map_err(Refusal::number), crop);
+    assert_eq!(ours.map_err(refusal), crop);
     want
 }
 
-fn hold_iscl(iscl: Iscl, size: (u32, u32)) -> Result<[u32; 2], u8> {
+fn hold_iscl(iscl: Iscl, size: (u32, u32)) -> Result<[u32; 2], Refusal> {
     let want = iscl.output_size(size.0, size.1);
     let want = want.map(|(width, height)| [width, height]);
     let departs = fills(&want, |words| Linked.iscl_size(&iscl, size, words));
@@ -161,7 +176,7 @@ fn bodies_cut_and_changed_anywhere() {
 fn faulty_bodies_have_the_first_faults_number() {
     let mut rng = Rng::new(2);
     for faults in triples::<BodyFault>() {
-        let number = first_refusal(&faults);
+        let number = first_refusal(&faults).number;
         for _ in 0..5 {
             let (body, inputs) = faulty_body(&mut rng, &faults, true);
             assert_eq!(read_overlay(&body, inputs), Some(number), "{faults:?}");
@@ -205,12 +220,12 @@ fn bodies_are_written_back() {
         let area = u64::from(width) * u64::from(height);
         let read = OverlayDescriptor::parse(&overlay.to_bytes(), inputs);
         match area {
-            0 => assert_eq!(read, Err(Refusal::EMPTY)),
+            0 => assert_eq!(read, Err(compose::Refusal::EMPTY)),
             1..=0x4000_0000 => {
                 assert_eq!(read, Ok(overlay));
                 assert_eq!(GridDescriptor::parse(&grid.to_bytes()), Ok(grid));
             }
-            _ => assert_eq!(read, Err(Refusal::LIMIT)),
+            _ => assert_eq!(read, Err(compose::Refusal::LIMIT)),
         }
     }
 }
@@ -229,12 +244,21 @@ fn chains_cut_and_changed_anywhere() {
     let bytes = chain_bytes(&entries);
     assert_eq!(read_chain(&bytes), None);
     each_damage(&bytes, read_chain);
+    // A chain that ends in an entry, or before it, is that entry's 5.
+    for end in 1..bytes.len() {
+        let whole = (0..entries.len()).rfind(|whole| chain_bytes(&entries[..*whole]).len() <= end);
+        let entry = whole.expect("an entry that is cut");
+        let refusal = MALFORMED.of_entry(entry);
+        assert_eq!(read_chain(&bytes[..end]), Some(refusal), "{end}");
+    }
+    assert_eq!(read_chain(&[]), Some(MALFORMED));
+    assert_eq!(read_chain(&[&bytes[..], &[0]].concat()), Some(MALFORMED));
 }
 
 #[test]
-fn faulty_chains_have_the_first_faults_number() {
-    for (faults, bytes, number) in each_choice(20, faulty_chain) {
-        assert_eq!(read_chain(&bytes), Some(number), "{faults:?}");
+fn faulty_chains_have_the_first_faults_refusal() {
+    for (faults, bytes, refusal) in each_choice(20, faulty_chain) {
+        assert_eq!(read_chain(&bytes), Some(refusal), "{faults:?}");
     }
 }
 
@@ -243,14 +267,14 @@ fn faulty_chains_have_the_first_faults_number() {
 fn the_longest_chain() {
     for count in [0, 1, 255, 256, 257] {
         let chain = chain_bytes(&vec![Entry::new(true, Property::Other); count]);
-        let number = if count > 256 { Some(4) } else { None };
-        assert_eq!(read_chain(&chain), number);
+        let refusal = if count > 256 { Some(LIMIT) } else { None };
+        assert_eq!(read_chain(&chain), refusal);
     }
-    assert_eq!(read_chain(&[0x81, 2]), Some(4));
-    assert_eq!(read_chain(&[0x81]), Some(5));
+    assert_eq!(read_chain(&[0x81, 2]), Some(LIMIT));
+    assert_eq!(read_chain(&[0x81]), Some(MALFORMED));
     let mirror = props::Property::Imir(props::Imir::new(1));
     let entries = vec![props::PropertyEntry::new(1, true, mirror); 257];
-    assert_eq!(chain::join(&entries), Err(Refusal::LIMIT));
+    assert_eq!(chain::join(&entries), Err(compose::Refusal::LIMIT));
 }
 
 /// Document 01's cases of an aperture 64 wide.
@@ -270,6 +294,7 @@ fn apertures_of_the_paper() {
         ((0, 1, 0, 1), Err(9)),
     ] {
         let (n, d, off_n, off_d) = fields;
+        let edge = edge.map_err(Refusal::new);
         assert_eq!(resolve(n, d, off_n, off_d), edge, "{fields:?}");
     }
 }
@@ -375,6 +400,7 @@ fn scaled_sizes() {
         ([7, 7, 1, 1], (u32::MAX, u32::MAX), Ok([u32::MAX, u32::MAX])),
         ([65_535, 65_534, 1, 1], (0, 0), Ok([0, 0])),
     ] {
+        let want = want.map_err(Refusal::new);
         assert_eq!(hold_iscl(Iscl::from_fields(fields), size), want);
     }
 }

@@ -1,17 +1,22 @@
-//! Records and trays, read by the model and by the composer: the same number, or the same form and
+//! Records and trays, read by the model and by the composer: the same refusal, or the same form and
 //! places, on every fault and every few faults at once, every cut and every changed byte.
 
-use compose::{Refusal, sys, tray};
-use differential::compare::hex;
+use compose::{sys, tray};
+use differential::compare::{Sides, hex};
 use differential::damage::{each_choice, faulty_record, faulty_tray};
+use differential::expected::{self, Stop};
 use differential::generate::{self, Form};
-use differential::ours::{Composer, Linked};
+use differential::ours::{self, Composer, Linked};
 use differential::rng::Rng;
-use model::{Chroma, Frame, Layout, Place, number_bytes, parse_record, parse_tray, tray_bytes};
+use model::refusal::{DEPTH, MALFORMED, ROOM};
+use model::{
+    Chroma, Frame, Item, Layout, Place, Refusal, number_bytes, parse_record, parse_tray,
+    tray_bytes, tray_count,
+};
 use std::io::Cursor;
 
 /// Both readings of a record, held together.
-fn read_record(bytes: &[u8]) -> Result<Layout, u8> {
+fn read_record(bytes: &[u8]) -> Result<Layout, Refusal> {
     let read = parse_record(bytes).map(|frame| frame.layout());
     assert_eq!(Linked.record(bytes).as_ref(), Some(&read), "{}", hex(bytes));
     let outline = compose::record::outline(&mut Cursor::new(bytes)).expect("a file");
@@ -24,22 +29,28 @@ fn read_record(bytes: &[u8]) -> Result<Layout, u8> {
     read
 }
 
-/// Both readings of a tray, held together: its count.
-fn read_tray(bytes: &[u8]) -> Result<u32, u8> {
+/// Both readings of a tray, held together: its count, or the record that is refused.
+fn read_tray(bytes: &[u8]) -> Result<u32, Refusal> {
     let read = parse_tray(bytes).map(|frames| frames.len() as u32);
     assert_eq!(Linked.tray(bytes).as_ref(), Some(&read), "{}", hex(bytes));
     let outline = tray::outline(&mut Cursor::new(bytes)).expect("a file");
     assert_eq!(tray::count(&outline), tray::count(bytes), "{}", hex(bytes));
-    let refused_at = tray::refused_at(bytes);
-    assert!(read.is_err() || refused_at.is_none(), "{}", hex(bytes));
+    let index = tray::count(bytes).err().and_then(compose::Refusal::index);
+    let item = read.err().and_then(|refusal| refusal.item);
+    assert_eq!(index.map(Item::Record), item, "{}", hex(bytes));
+    // Without a count there is no record.
+    assert!(tray_count(bytes).is_ok() || item.is_none());
     read
 }
 
+/// A record's refusal, which is of no item.
 fn record_refusal(bytes: &[u8]) -> Option<u8> {
-    read_record(bytes).err()
+    let refusal = read_record(bytes).err()?;
+    assert_eq!(refusal.item, None);
+    Some(refusal.number)
 }
 
-fn tray_refusal(bytes: &[u8]) -> Option<u8> {
+fn tray_refusal(bytes: &[u8]) -> Option<Refusal> {
     read_tray(bytes).err()
 }
 
@@ -104,36 +115,54 @@ fn each_refusal_of_a_record() {
 
 #[test]
 fn faulty_records_have_the_first_faults_number() {
-    for (faults, bytes, number) in each_choice(20, faulty_record) {
+    for (faults, bytes, refusal) in each_choice(20, faulty_record) {
         let shows = format!("{faults:?} {}", hex(&bytes));
-        assert_eq!(record_refusal(&bytes), Some(number), "{shows}");
+        assert_eq!(record_refusal(&bytes), Some(refusal.number), "{shows}");
     }
 }
 
 #[test]
 fn a_tray_is_its_records_and_nothing_after() {
     let one = Frame::mono(1, 1, &[7]);
-    assert_eq!(tray_refusal(&[]), Some(5));
+    assert_eq!(tray_refusal(&[]), Some(MALFORMED));
     assert_eq!(tray_refusal(&[0]), None);
-    assert_eq!(tray_refusal(&[0, 0]), Some(5));
-    assert_eq!(tray_refusal(&[1]), Some(5));
+    assert_eq!(tray_refusal(&[0, 0]), Some(MALFORMED));
+    assert_eq!(tray_refusal(&[1]), Some(MALFORMED.of_record(0)));
     let mut tray = tray_bytes(&[one.clone(), one]);
     assert_eq!(tray_refusal(&tray), None);
     // The second record's fault comes before the bytes left over.
     let depth = tray.len() - 5;
     tray[depth] = 17;
     tray.push(0);
-    assert_eq!(tray_refusal(&tray), Some(6));
+    assert_eq!(tray_refusal(&tray), Some(DEPTH.of_record(1)));
     // A count of 2^32 − 1 is read record by record.
-    assert_eq!(tray_refusal(&[0xff, 0xff, 0xff, 0xff, 0x0f]), Some(5));
+    let most = [0xff, 0xff, 0xff, 0xff, 0x0f];
+    assert_eq!(tray_refusal(&most), Some(MALFORMED.of_record(0)));
+    // A count that is cut, padded, above 2^32 − 1 or too long is no record's.
+    let counts: [&[u8]; 4] = [
+        &[0x81],
+        &[0x81, 0],
+        &[0xff, 0xff, 0xff, 0xff, 0x10],
+        &[0x80, 0x80, 0x80, 0x80, 0x80, 1],
+    ];
+    for count in counts {
+        assert_eq!(tray_refusal(count), Some(MALFORMED), "{}", hex(count));
+    }
 }
 
+/// By the model, by the composer and where the oracle judges the planes.
 #[test]
-fn faulty_trays_have_the_first_faults_number() {
-    let mut rng = Rng::new(1);
-    for _ in 0..5_000 {
-        let (bytes, number) = faulty_tray(&mut rng);
-        assert_eq!(tray_refusal(&bytes), Some(number), "{}", hex(&bytes));
+fn faulty_trays_have_the_first_faults_refusal() {
+    let choices = each_choice(2, faulty_tray);
+    for (faults, bytes, refusal) in &choices {
+        let shows = format!("{faults:?} {}", hex(bytes));
+        assert_eq!(tray_refusal(bytes), Some(*refusal), "{shows}");
+    }
+    for (_, build) in Sides::open().iter().flat_map(Sides::builds) {
+        for (faults, bytes, refusal) in &choices {
+            let want = expected::tray(build, bytes);
+            assert_eq!(want, Err(Stop::Refused(*refusal)), "{faults:?}");
+        }
     }
 }
 
@@ -268,11 +297,25 @@ fn the_smallest_record_with_any_two_bytes_changed() {
     each_change(&bytes, |changed| each_change(changed, hold_record));
 }
 
+/// A tray that ends in a record, or before it, is that record's 5.
 #[test]
 fn trays_cut_anywhere() {
     for bytes in small_trays() {
         assert_eq!(tray_refusal(&bytes), None);
-        each_cut(&bytes, hold_tray);
+        let frames = parse_tray(&bytes).expect("a tray");
+        let mut ends = vec![1];
+        for frame in &frames {
+            ends.push(ends[ends.len() - 1] + frame.record().len());
+        }
+        each_cut(&bytes, |cut| {
+            let whole = ends.iter().filter(|end| **end <= cut.len()).count();
+            let refusal = match whole {
+                0 => Some(MALFORMED),
+                whole if whole > frames.len() => None,
+                whole => Some(MALFORMED.of_record(whole - 1)),
+            };
+            assert_eq!(tray_refusal(cut), refusal, "{}", hex(cut));
+        });
     }
 }
 
@@ -298,11 +341,11 @@ fn lend_answers(bytes: &[u8]) {
     let read = read_record(bytes);
     for length in 0..=20 {
         let mut answer = vec![BEFORE; length];
-        let said = sys::compose_record(bytes, &mut answer).map_err(Refusal::number);
+        let said = sys::compose_record(bytes, &mut answer).map_err(ours::refusal);
         let mut after = vec![BEFORE; length];
         let wanted = match &read {
-            Err(number) => Err(*number),
-            Ok(_) if length < 17 => Err(17),
+            Err(refusal) => Err(*refusal),
+            Ok(_) if length < 17 => Err(ROOM),
             Ok(layout) => {
                 after[..17].copy_from_slice(&words(layout));
                 Ok(0)

@@ -5,8 +5,10 @@ use compose::props::{Colr, Imir, Irot};
 use compose::recorded::{self, RecordFrame};
 use compose::{GridCanvas, HeifFrame, OverlayInput, Refusal, chain, tray};
 use differential::generate;
+use differential::ours::refusal;
 use differential::rng::Rng;
 use differential::shaped::{self, grid_descriptor, heif, overlay_descriptor};
+use model::refusal::MISSING;
 use model::{Frame, chain_bytes, tray_bytes};
 
 /// The frame in both shapes.
@@ -66,10 +68,13 @@ fn operations_are_those_of_planes() {
         let attached = recorded::attach_alpha(&over, &over_alpha);
         hold(compose::attach_alpha(&planes, &alpha), attached, "attach");
 
-        let entries = chain_bytes(&generate::chain(&mut rng, size));
-        let entries = chain::entries(&entries).expect("a chain");
+        let bytes = chain_bytes(&generate::chain(&mut rng, size));
+        let entries = chain::entries(&bytes).expect("a chain");
         for essential in [false, true] {
             let of_planes = || compose::apply_transforms(&planes, &entries, essential);
+            // Refused as the whole chain is, which has an entry for each property.
+            let whole = compose::operation::transforms(over.as_record(), &bytes, essential);
+            assert_eq!(of_planes().err(), whole.err());
             let changed = recorded::apply_transforms(&over, &entries, essential);
             hold(of_planes(), changed, "chain");
             let changed = recorded::apply_transforms_owned(over.clone(), &entries, essential);
@@ -86,6 +91,9 @@ fn grids_and_canvases_are_those_of_planes() {
         let desc = grid_descriptor(&grid);
         let (planes, over): (Vec<_>, Vec<_>) = tiles.iter().map(both).unzip();
         let joined = recorded::composite_grid(&desc, &over);
+        // Refused as the model has it, which names the tile.
+        let want = model::composite_grid(&grid, &tiles).err();
+        assert_eq!(joined.as_ref().err().map(|said| refusal(*said)), want);
         hold(compose::composite_grid(&desc, &planes), joined, "grid");
         let fewer = recorded::composite_grid(&desc, &over[1..]);
         assert_eq!(fewer, Err(Refusal::COUNT));
@@ -122,6 +130,11 @@ fn overlays_are_those_of_planes() {
             .collect();
         let colr = Some(&Colr::MIAF_DEFAULT);
         let laid = recorded::composite_overlay(&desc, &over, colr);
+        let want = match inputs.is_empty() {
+            true => Some(MISSING),
+            false => model::composite_overlay(&overlay, &inputs, None).err(),
+        };
+        assert_eq!(laid.as_ref().err().map(|said| refusal(*said)), want);
         let of_planes = compose::composite_overlay(&desc, &planes, colr);
         hold(of_planes, laid, "overlay");
     }

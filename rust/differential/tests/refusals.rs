@@ -1,4 +1,4 @@
-//! The published Rust's error texts as document 01's numbers.
+//! The published Rust's error texts as document 01's refusals, which are of no item.
 
 mod common;
 
@@ -10,8 +10,8 @@ use model::{
     Chroma, Clap, Entry, Frame, Grid, Iscl, Overlay, OverlayInput, Property, Rectangle, Refusal,
 };
 
-fn assert_refused<T: std::fmt::Debug + PartialEq>(want: Want<T>, number: Refusal) {
-    assert_eq!(want, Err(Stop::Refused(number)));
+fn assert_refused<T: std::fmt::Debug + PartialEq>(want: Want<T>, number: u8) {
+    assert_eq!(want, Err(Stop::Refused(Refusal::new(number))));
 }
 
 #[test]
@@ -46,7 +46,7 @@ fn faulty_bodies_have_the_first_faults_number() {
     on_each_build(|oracle| {
         let mut rng = Rng::new(1);
         for faults in triples::<BodyFault>() {
-            let number = first_refusal(&faults);
+            let number = first_refusal(&faults).number;
             for _ in 0..5 {
                 let (body, inputs) = faulty_body(&mut rng, &faults, true);
                 assert_refused(settle(oracle.parse_overlay(&body, inputs)), number);

@@ -5,16 +5,18 @@
 use differential::compare::{Input, Sides, Verdict};
 use differential::comparisons::ALL;
 use differential::damage::{
-    ChainFault, Fault, RecordFault, SceneDraft, SceneFault, faulty_chain, faulty_record,
-    faulty_scene, triples,
+    ChainFault, Fault, RecordFault, SceneDraft, SceneFault, behind_skipped, faulty_chain,
+    faulty_record, faulty_scene, first_refusal, scene_choices, with_skipped,
 };
+use differential::expected::{self, Stop};
 use differential::generate::{self, Form};
 use differential::ours::{Answer, Composer, Linked};
 use differential::rng::Rng;
+use model::refusal::{DEPTH, LIMIT, MALFORMED, OUTSIDE, ROOM, ZERO_DENOMINATOR, ZERO_SIDE};
 use model::{
     Chroma, Clap, Colour, Crop, Entry, Frame, Grid, Iscl, Marks, Operation, Overlay, Property,
-    Rectangle, Refusal, Scene, SceneParts, chain_bytes, grid_room, overlay_room, parse_record,
-    record_size, tray_bytes,
+    Rectangle, Refusal, Scene, SceneParts, chain_bytes, grid_room, overlay_room, parse_chain,
+    parse_record, record_size, tray_bytes,
 };
 
 /// Every chroma, depth and alpha.
@@ -144,7 +146,7 @@ fn a_records_size_is_refused_in_order() {
                     };
                     let header = [width, height, chroma, depth, alpha];
                     let size = record_size(header);
-                    assert_eq!(size.err(), number, "{header:?}");
+                    assert_eq!(size.err(), number.map(Refusal::new), "{header:?}");
                     assert_eq!(Linked.record_size(header), Some(size), "{header:?}");
                     seen[usize::from(number.unwrap_or(0))] += 1;
                 }
@@ -206,8 +208,8 @@ fn the_room_of_a_large_scene() {
     };
     assert_eq!(room(&parts(&[32_768])), Ok((1 << 30) + 17));
     assert_eq!(room(&parts(&[1])), Ok(8));
-    assert_eq!(room(&parts(&[32_769])), Err(4));
-    assert_eq!(room(&parts(&[32_768, 32_768])), Err(4));
+    assert_eq!(room(&parts(&[32_769])), Err(LIMIT.of_entry(0)));
+    assert_eq!(room(&parts(&[32_768, 32_768])), Err(LIMIT.of_entry(1)));
 }
 
 /// The room by forms is the longest record that is drawn, in scenes and in chains on one record.
@@ -217,24 +219,13 @@ fn the_models_room_is_what_it_draws() {
     let mut made = 0;
     for case in 0..3_000 {
         let draft = drawn_draft(&mut rng, case % 2 == 0);
-        let parts = SceneParts {
-            body: &draft.body,
-            tray: &draft.tray,
-            chain: &draft.chain,
-            essential_only: rng.flag(),
-        };
-        let (scene, room) = match &draft.premultiplied {
+        let parts = draft.parts(rng.flag());
+        let (scene, room) = match draft.marks(generate::colour(&mut rng)) {
             None => (model::grid_scene(&parts), grid_room(&parts)),
-            Some(list) => {
-                let marks = Marks {
-                    premultiplied: list,
-                    colour: generate::colour(&mut rng),
-                };
-                (
-                    model::overlay_scene(&parts, &marks),
-                    overlay_room(&parts, list),
-                )
-            }
+            Some(marks) => (
+                model::overlay_scene(&parts, &marks),
+                overlay_room(&parts, marks.premultiplied),
+            ),
         };
         made += usize::from(scene.is_ok());
         assert_eq!(scene.map(|scene| scene.room as u64), room, "{draft:?}");
@@ -279,23 +270,27 @@ fn small_chain(rng: &mut Rng, size: (u32, u32)) -> Vec<Entry> {
     chain
 }
 
-/// What a chain on one record is refused with, by the model and by the composer, which leaves
-/// output and spare alone.
-fn refusal(record: &[u8], chain: &[u8]) -> Option<Refusal> {
-    let number = model::transforms(record, chain, false).err();
+/// What a chain on one record is refused with, by the model, where the oracle makes the pictures and by
+/// the composer, which leaves output and spare alone.
+fn refusal(record: &[u8], chain: &[u8], essential_only: bool) -> Option<Refusal> {
+    let refusal = model::transforms(record, chain, essential_only).err();
+    for (_, build) in Sides::open().iter().flat_map(Sides::builds) {
+        let theirs = expected::transforms(build, record, chain, essential_only);
+        assert_eq!(theirs.err(), refusal.map(Stop::Refused));
+    }
     let [mut output, mut spare] = [vec![9; 4_096], vec![9; 4_096]];
-    let ours = Linked.transforms(record, chain, false, &mut output, &mut spare);
-    assert_eq!(ours.expect("a call").err(), number);
-    if number.is_some() {
+    let ours = Linked.transforms(record, chain, essential_only, &mut output, &mut spare);
+    assert_eq!(ours.expect("a call").err(), refusal);
+    if refusal.is_some() {
         assert!(output.iter().chain(&spare).all(|byte| *byte == 9));
     }
-    // With no room at all it is the same number; 17 comes last.
-    let none = Linked.transforms(record, chain, false, &mut [], &mut []);
-    assert_eq!(none, Some(Err(number.unwrap_or(17))));
-    number
+    // With no room at all it is the same refusal; 17 comes last.
+    let none = Linked.transforms(record, chain, essential_only, &mut [], &mut []);
+    assert_eq!(none, Some(Err(refusal.unwrap_or(ROOM))));
+    refusal
 }
 
-/// The record's faults come first, then the chain's, then the entries'.
+/// The record's faults come first and are of no item, then the chain's, then the entries'.
 #[test]
 fn faulty_chains_on_faulty_records() {
     let mut rng = Rng::new(2);
@@ -305,46 +300,60 @@ fn faulty_chains_on_faulty_records() {
         Entry::new(true, Property::Irot(1)),
         Entry::new(true, outside),
     ]);
-    assert_eq!(refusal(&sound, &entry), Some(9));
-    assert_eq!(refusal(&sound, &[0]), None);
-    for (of_record, of_chain) in RecordFault::ALL
-        .iter()
-        .flat_map(|one| ChainFault::ALL.iter().map(move |other| (*one, *other)))
-    {
+    let outside = Some(OUTSIDE.of_entry(1));
+    assert_eq!(refusal(&sound, &entry, false), outside);
+    assert_eq!(refusal(&sound, &[0], false), None);
+    let pairs = RecordFault::all()
+        .into_iter()
+        .flat_map(|one| ChainFault::all().into_iter().map(move |other| (one, other)));
+    for (of_record, of_chain) in pairs {
         for _ in 0..3 {
-            let record = faulty_record(&mut rng, &[of_record]);
-            let chain = faulty_chain(&mut rng, &[of_chain]);
-            let number = of_record.refusal();
-            assert_eq!(refusal(&record, &chain), Some(number), "{of_record:?}");
-            assert_eq!(refusal(&record, &entry), Some(number), "{of_record:?}");
-            assert_eq!(
-                refusal(&sound, &chain),
-                Some(of_chain.refusal()),
-                "{of_chain:?}"
-            );
+            let (record, first) = faulty_record(&mut rng, &[of_record]);
+            let (chain, next) = faulty_chain(&mut rng, &[of_chain]);
+            assert_eq!(first, of_record.refusal());
+            let of_both = refusal(&record, &chain, false);
+            assert_eq!(of_both, Some(first), "{of_record:?}");
+            let of_record_alone = refusal(&record, &entry, false);
+            assert_eq!(of_record_alone, Some(first), "{of_record:?}");
+            let of_chain_alone = refusal(&sound, &chain, false);
+            assert_eq!(of_chain_alone, Some(next), "{of_chain:?}");
         }
+    }
+}
+
+/// Entries that are refused at several places of a chain on one record, behind entries that are skipped:
+/// the first that is applied has the refusal, its place counted among all.
+#[test]
+fn faulty_entries_after_skipped_ones() {
+    let mut rng = Rng::new(5);
+    let sound = Frame::mono(6, 4, &[1; 24]).record();
+    let of_entries = |faults: &[SceneFault; 3]| {
+        let of_entry = |fault: &SceneFault| matches!(fault, SceneFault::Entry(..));
+        faults.iter().all(of_entry)
+    };
+    for faults in scene_choices(false).filter(of_entries) {
+        let chain = faulty_scene(&mut rng, &faults, false).chain;
+        let first = first_refusal(&faults);
+        assert_eq!(refusal(&sound, &chain, true), Some(first), "{faults:?}");
+        let entries = parse_chain(&chain).expect("a chain");
+        let skipping = chain_bytes(&with_skipped(&entries));
+        let later = behind_skipped(first);
+        assert_eq!(refusal(&sound, &skipping, true), Some(later), "{faults:?}");
+        // Without the flag none is skipped.
+        let without = refusal(&sound, &skipping, false);
+        assert_eq!(without, Some(ZERO_DENOMINATOR.of_entry(0)), "{faults:?}");
     }
 }
 
 /// A room has the refusals of its scene, the first of several faults.
 #[test]
-fn faulty_rooms_have_the_first_faults_number() {
+fn faulty_rooms_have_the_first_faults_refusal() {
     let mut rng = Rng::new(3);
     for overlay in [false, true] {
-        let fits = |faults: &[SceneFault; 3]| {
-            let both = [SceneFault::OffsetsShort, SceneFault::NoInputs];
-            faults.iter().all(|fault| fault.fits(overlay))
-                && !both.iter().all(|fault| faults.contains(fault))
-        };
-        for faults in triples().into_iter().filter(fits) {
+        for faults in scene_choices(overlay) {
             let draft = faulty_scene(&mut rng, &faults, overlay);
-            let parts = SceneParts {
-                body: &draft.body,
-                tray: &draft.tray,
-                chain: &draft.chain,
-                essential_only: false,
-            };
-            let first = faults.iter().min().expect("a fault").refusal();
+            let parts = draft.parts(false);
+            let first = first_refusal(&faults);
             let (model, ours) = match &draft.premultiplied {
                 Some(list) => (
                     overlay_room(&parts, list),
@@ -397,7 +406,16 @@ fn cut_and_changed_transforms() {
         };
         let whole = &parts[which];
         for end in 0..whole.len() {
-            assert_eq!(with(&whole[..end]), Verdict::Refused(5), "cut to {end}");
+            let Verdict::Refused(refusal) = with(&whole[..end]) else {
+                panic!("cut to {end}");
+            };
+            // A record by itself is of no item, and neither is a chain's count. The two entries before
+            // the last have three bytes each.
+            let wanted = match (which, end) {
+                (1, 1..) => MALFORMED.of_entry(((end - 1) / 3).min(2)),
+                _ => MALFORMED,
+            };
+            assert_eq!(refusal, wanted, "cut to {end}");
         }
         for (at, bit) in (0..whole.len()).flat_map(|at| (0..8).map(move |bit| (at, bit))) {
             let mut changed = whole.clone();
@@ -514,7 +532,7 @@ const ALL_ENTRIES: Spoiler = Spoiler(|record, chain, _, output, spare| {
 /// Entries are judged after the room.
 const HASTY: Spoiler = Spoiler(|record, chain, essential_only, output, spare| {
     if parse_record(record).is_ok() && model::parse_chain(chain).is_ok() && output.is_empty() {
-        return Some(Err(17));
+        return Some(Err(ROOM));
     }
     Linked.transforms(record, chain, essential_only, output, spare)
 });
@@ -570,12 +588,12 @@ const SHALLOW: Sizer = Sizer(|[width, height, chroma, depth, alpha]| {
 /// The depth is judged before chroma and alpha.
 const DEPTH_FIRST: Sizer = Sizer(|header| match header[3] {
     8..=16 => record_size(header),
-    _ => Err(6),
+    _ => Err(DEPTH),
 });
 
 /// The limit is judged before a side of 0, as where it is taken for the largest.
 const ZERO_LAST: Sizer = Sizer(|header| match record_size(header) {
-    Err(3) if header[..2].contains(&u32::MAX) => Err(4),
+    Err(ZERO_SIDE) if header[..2].contains(&u32::MAX) => Err(LIMIT),
     answer => answer,
 });
 
@@ -595,9 +613,9 @@ impl Composer for Roomer {
 const ONE_MORE: Roomer = Roomer(|room, _| room.map(|room| room + 1));
 const ONE_LESS: Roomer = Roomer(|room, _| room.map(|room| room - 1));
 const ENTRIES_TAKEN: Roomer = Roomer(|room, _| {
-    room.or_else(|number| match number {
+    room.or_else(|refusal| match refusal.number {
         7..=10 => Ok(0),
-        _ => Err(number),
+        _ => Err(refusal),
     })
 });
 
@@ -716,12 +734,7 @@ fn an_overlays_room_does_for_every_colour() {
     for _ in 0..200 {
         let draft = drawn_draft(&mut rng, true);
         let list = draft.premultiplied.as_deref().expect("a list");
-        let parts = SceneParts {
-            body: &draft.body,
-            tray: &draft.tray,
-            chain: &draft.chain,
-            essential_only: false,
-        };
+        let parts = draft.parts(false);
         let Some(Ok(room)) = Linked.overlay_room(&parts, list) else {
             continue;
         };
@@ -736,8 +749,8 @@ fn an_overlays_room_does_for_every_colour() {
                 Linked.overlay_scene(&parts, &marks, &mut output, &mut spare)
             };
             assert!(lent(room, room).expect("a call").is_ok());
-            assert_eq!(lent(room - 1, room), Some(Err(17)));
-            assert_eq!(lent(room, room - 1), Some(Err(17)));
+            assert_eq!(lent(room - 1, room), Some(Err(ROOM)));
+            assert_eq!(lent(room, room - 1), Some(Err(ROOM)));
         }
     }
 }

@@ -6,95 +6,186 @@ mod common;
 use common::{bytes, on_each_build};
 use differential::compare::Sides;
 use differential::comparisons::{ALL, agreement};
-use differential::damage::{Fault, SceneDraft, SceneFault, faulty_scene, triples};
-use differential::expected::{self, Stop};
+use differential::damage::{
+    Fault, SceneDraft, behind_skipped, faulty_scene, scene_choices, with_skipped,
+};
+use differential::expected::{self, Stop, Want};
 use differential::generate;
 use differential::ours::{Answer, Composer, Linked};
 use differential::rng::Rng;
+use model::refusal::{ALPHA, FORM, MALFORMED, POINT, ROOM, SIDE_OVERFLOW};
 use model::{
-    Crop, Entry, Frame, Iscl, Marks, Named, Operation, OverlayInput, Point, Property, Rectangle,
-    Refusal, Scene, SceneParts, Sight, Sighted, Size, chain_bytes, grid_scene, overlay_scene,
-    parse_record, tray_bytes,
+    Chroma, Crop, Entry, Frame, Iscl, Marks, Named, Operation, Oracle, Overlay, OverlayInput,
+    Point, Property, Rectangle, Refusal, Scene, SceneParts, Sight, Sighted, Size, chain_bytes,
+    grid_scene, overlay_scene, parse_chain, parse_record, tray_bytes,
 };
 
-/// The parts of a draft, every entry applied.
-fn parts(draft: &SceneDraft) -> SceneParts<'_> {
-    SceneParts {
-        body: &draft.body,
-        tray: &draft.tray,
-        chain: &draft.chain,
-        essential_only: false,
+/// What the model makes of a draft, with the flag or without.
+fn model_scene(draft: &SceneDraft, essential_only: bool) -> Result<Scene, Refusal> {
+    let parts = draft.parts(essential_only);
+    match draft.marks(None) {
+        Some(marks) => overlay_scene(&parts, &marks),
+        None => grid_scene(&parts),
     }
 }
 
-fn marks(draft: &SceneDraft) -> Marks<'_> {
-    Marks {
-        premultiplied: draft.premultiplied.as_deref().unwrap_or_default(),
-        colour: None,
+fn model_point(draft: &SceneDraft, essential_only: bool) -> Result<Sighted, Refusal> {
+    let parts = draft.parts(essential_only);
+    match draft.marks(None) {
+        Some(marks) => Sighted::overlay(&parts, &marks),
+        None => Sighted::grid(&parts),
     }
 }
 
-fn model_scene(draft: &SceneDraft) -> Result<Scene, Refusal> {
-    match draft.premultiplied {
-        Some(_) => overlay_scene(&parts(draft), &marks(draft)),
-        None => grid_scene(&parts(draft)),
+fn wanted_scene(build: &dyn Oracle, draft: &SceneDraft, essential_only: bool) -> Want<Scene> {
+    let parts = draft.parts(essential_only);
+    match draft.marks(None) {
+        Some(marks) => expected::overlay_scene(build, &parts, &marks),
+        None => expected::grid_scene(build, &parts),
     }
 }
 
-fn model_point(draft: &SceneDraft) -> Result<Sighted, Refusal> {
-    match draft.premultiplied {
-        Some(_) => Sighted::overlay(&parts(draft), &marks(draft)),
-        None => Sighted::grid(&parts(draft)),
-    }
-}
-
-/// Every choice of one, two and three faults that scenes of a sort can have; without inputs no
-/// offsets are short.
-fn choices(overlay: bool) -> impl Iterator<Item = [SceneFault; 3]> {
-    let fits = move |faults: &[SceneFault; 3]| {
-        let both = [SceneFault::OffsetsShort, SceneFault::NoInputs];
-        faults.iter().all(|fault| fault.fits(overlay))
-            && !both.iter().all(|fault| faults.contains(fault))
+/// What the composer says with nothing lent: of the picture without its chain, of the scene and of a
+/// point.
+fn our_refusals(draft: &SceneDraft, essential_only: bool) -> Option<[Option<Refusal>; 3]> {
+    let parts = draft.parts(essential_only);
+    let (composed, scene, point) = match draft.marks(None) {
+        Some(marks) => (
+            Linked.overlay(parts.body, parts.tray, marks.premultiplied, None, &mut []),
+            Linked.overlay_scene(&parts, &marks, &mut [], &mut []),
+            Linked.overlay_point(&parts, &marks, (0, 0), &mut []),
+        ),
+        None => (
+            Linked.grid(parts.body, parts.tray, &mut []),
+            Linked.grid_scene(&parts, &mut [], &mut []),
+            Linked.grid_point(&parts, (0, 0), &mut []),
+        ),
     };
-    triples().into_iter().filter(fits)
+    Some([composed?.err(), scene?.err(), point?.err()])
 }
 
-/// The first of several faults in document 01's order gives the number, in the model and where the
-/// oracle makes the pictures; for a point alpha and scaling are 18.
+/// Holds what all sides say to a scene: the composer, the model, and where the oracle makes the pictures.
+/// Where it is not refused, the composer has 17 left to say.
+fn hold_refusals(
+    draft: &SceneDraft,
+    essential_only: bool,
+    wanted: [Option<Refusal>; 3],
+    shows: &str,
+) {
+    let short = wanted.map(|refusal| refusal.or(Some(ROOM)));
+    let ours = our_refusals(draft, essential_only);
+    assert_eq!(ours, Some(short), "{shows}");
+    let composed = SceneDraft {
+        chain: vec![0],
+        ..draft.clone()
+    };
+    let model = [
+        model_scene(&composed, essential_only).err(),
+        model_scene(draft, essential_only).err(),
+        model_point(draft, essential_only).err(),
+    ];
+    assert_eq!(model, wanted, "{shows}");
+    for (_, build) in Sides::open().iter().flat_map(|sides| sides.builds()) {
+        let parts = draft.parts(essential_only);
+        let theirs = [
+            wanted_scene(build, &composed, essential_only).err(),
+            wanted_scene(build, draft, essential_only).err(),
+            expected::point(build, &parts, draft.marks(None).as_ref()).err(),
+        ];
+        assert_eq!(
+            theirs,
+            wanted.map(|refusal| refusal.map(Stop::Refused)),
+            "{shows}"
+        );
+    }
+}
+
+/// The first of several faults in document 01's order gives the refusal, its item included, by every
+/// side; for a point alpha and scaling are 18. Entries that the flag skips count, and are not judged.
 #[test]
-fn faulty_scenes_have_the_first_faults_number() {
+fn faulty_scenes_have_the_first_faults_refusal() {
     let mut rng = Rng::new(1);
-    let sides = Sides::open();
     for overlay in [false, true] {
-        for faults in choices(overlay) {
+        for faults in scene_choices(overlay) {
             let draft = faulty_scene(&mut rng, &faults, overlay);
             let first = faults.iter().min().expect("a fault");
-            assert_eq!(
-                model_scene(&draft).err(),
+            let composed = faults.iter().filter(|fault| !fault.is_of_chain()).min();
+            let wanted = [
+                composed.map(|fault| fault.refusal()),
                 Some(first.refusal()),
-                "{faults:?}"
-            );
-            let point = model_point(&draft).err();
-            assert_eq!(point, Some(first.point_refusal()), "{faults:?}");
-            for (_, build) in sides.iter().flat_map(|sides| sides.builds()) {
-                let want = match overlay {
-                    true => expected::overlay_scene(build, &parts(&draft), &marks(&draft)),
-                    false => expected::grid_scene(build, &parts(&draft)),
-                };
-                assert_eq!(want, Err(Stop::Refused(first.refusal())), "{faults:?}");
-            }
+                Some(first.point_refusal()),
+            ];
+            let shows = format!("{faults:?}");
+            hold_refusals(&draft, false, wanted, &shows);
+            let Ok(chain) = parse_chain(&draft.chain) else {
+                continue;
+            };
+            let skipping = SceneDraft {
+                chain: chain_bytes(&with_skipped(&chain)),
+                ..draft
+            };
+            let later = wanted.map(|refusal| refusal.map(behind_skipped));
+            hold_refusals(&skipping, true, later, &shows);
         }
         // Without a fault it is made, and answered.
         for _ in 0..100 {
             let draft = faulty_scene(&mut rng, &[], overlay);
-            let made = model_scene(&draft).expect("a scene");
+            hold_refusals(&draft, false, [None; 3], "no fault");
+            let made = model_scene(&draft, false).expect("a scene");
             let room = made.room as isize;
             for (output, spare, taken) in [(0, 0, true), (-1, 0, false), (0, -1, false)] {
                 let [output, spare] = [output, spare].map(|more| (room + more) as usize);
                 assert_eq!(made.clone().lent(output, spare).is_ok(), taken);
             }
-            model_point(&draft).expect("an answer");
         }
+    }
+}
+
+/// The depth of an input of one pixel, and how far its alpha lies above top, if it has alpha.
+type Pixel = (u8, Option<u16>);
+
+/// Three inputs, each of one of two depths, without alpha, with alpha at top or above it: 14 is the own
+/// refusal of the lowest that differs from the first, 16 of the lowest above top, a point's 18 of the
+/// lowest that has alpha.
+#[test]
+fn overlays_of_every_depth_and_alpha() {
+    let mut pixels: Vec<Pixel> = Vec::new();
+    for depth in [9, 10] {
+        pixels.extend([(depth, None), (depth, Some(0)), (depth, Some(1))]);
+    }
+    let frame = |(depth, above): Pixel| {
+        let top = (1 << depth) - 1;
+        let frame =
+            |alpha, planes: &[&[u16]]| Frame::tight((1, 1), Chroma::Mono, depth, alpha, planes);
+        match above {
+            None => frame(0, &[&[7]]),
+            Some(above) => frame(1, &[&[7], &[top + above]]),
+        }
+    };
+    let overlay = Overlay {
+        fill: [0; 4],
+        width: 1,
+        height: 1,
+        offsets: vec![(0, 0); 3],
+    };
+    for at in 0..pixels.len().pow(3) {
+        let inputs = [at / 36, at / 6 % 6, at % 6].map(|at| pixels[at]);
+        let draft = SceneDraft {
+            body: generate::overlay_body(&overlay, false),
+            tray: tray_bytes(&inputs.map(frame)),
+            chain: vec![0],
+            premultiplied: Some(vec![0; 3]),
+        };
+        let lowest = |refusal: Refusal, wrong: fn(&[Pixel; 3], Pixel) -> bool| {
+            let mut each = inputs.into_iter();
+            let index = each.position(|input| wrong(&inputs, input));
+            index.map(|index| refusal.of_record(index))
+        };
+        let other = lowest(FORM, |[first, ..], (depth, _)| depth != first.0);
+        let above = other.or_else(|| lowest(ALPHA, |_, (_, above)| above == Some(1)));
+        let shines = other.or_else(|| lowest(POINT, |_, (_, above)| above.is_some()));
+        let wanted = [above, above, shines];
+        hold_refusals(&draft, false, wanted, &format!("{inputs:?}"));
     }
 }
 
@@ -133,7 +224,7 @@ fn the_models_picture_shows_what_its_points_name() {
     let mut answered = 0;
     for _ in 0..4_000 {
         let draft = plain_scene(&mut rng);
-        match (model_scene(&draft), model_point(&draft)) {
+        match (model_scene(&draft, false), model_point(&draft, false)) {
             (Ok(scene), Ok(sighted)) => {
                 let frame = parse_record(&scene.record).expect("a record");
                 assert_eq!(agreement(&frame, &sighted), None, "{draft:?}");
@@ -153,14 +244,15 @@ fn rectangle_and_turn_are_the_chains() {
     let mut seen = std::collections::BTreeSet::new();
     for _ in 0..2_000 {
         let draft = plain_scene(&mut rng);
-        let (Ok(scene), Ok(sighted)) = (model_scene(&draft), model_point(&draft)) else {
+        let (Ok(scene), Ok(sighted)) = (model_scene(&draft, false), model_point(&draft, false))
+        else {
             continue;
         };
         let composed = SceneDraft {
             chain: vec![0],
             ..draft
         };
-        let composed = model_scene(&composed).expect("a scene without its chain");
+        let composed = model_scene(&composed, false).expect("a scene without its chain");
         let luma = |record: &[u8]| {
             let frame = parse_record(record).expect("a record");
             let size = (frame.width, frame.height);
@@ -197,7 +289,7 @@ fn the_grid_example_names_its_spots() {
         chain: chain_bytes(&[Entry::new(true, Property::Irot(1))]),
         premultiplied: None,
     };
-    let sighted = model_point(&draft).expect("an answer");
+    let sighted = model_point(&draft, false).expect("an answer");
     assert_eq!(sighted.size(), (2, 4));
     let whole = Rectangle {
         x: 0,
@@ -209,16 +301,16 @@ fn the_grid_example_names_its_spots() {
     assert_eq!(point.named, Named::Spot(1, 1, 0));
     assert_eq!(point.words(), [1, 1, 1, 0, 0, 0, 4, 2, 0, 1]);
     assert_eq!(sighted.sight().rectangle, whole);
-    assert_eq!(sighted.at(2, 0), Err(18));
-    assert_eq!(sighted.at(0, 4), Err(18));
+    assert_eq!(sighted.at(2, 0), Err(POINT));
+    assert_eq!(sighted.at(0, 4), Err(POINT));
     let unturned = SceneDraft {
         chain: vec![0],
         ..draft
     };
-    let scene = model_scene(&unturned).expect("a scene");
+    let scene = model_scene(&unturned, false).expect("a scene");
     assert_eq!(scene.clone().lent(15, 15).map(|lent| lent.0), Ok(15));
-    assert_eq!(scene.clone().lent(14, 15).err(), Some(17));
-    assert_eq!(scene.lent(15, 14).err(), Some(17));
+    assert_eq!(scene.clone().lent(14, 15).err(), Some(ROOM));
+    assert_eq!(scene.lent(15, 14).err(), Some(ROOM));
 }
 
 /// The model in the composer's place: scenes and points as they should be.
@@ -241,7 +333,7 @@ fn compose(
 /// What a point call does with the words that it is lent.
 fn answer(point: Result<Point, Refusal>, words: &mut [u32]) -> Option<Answer<u64>> {
     Some(point.and_then(|point| {
-        let lent = words.get_mut(..10).ok_or(17)?;
+        let lent = words.get_mut(..10).ok_or(ROOM)?;
         lent.copy_from_slice(&point.words());
         Ok(0)
     }))
@@ -310,20 +402,20 @@ impl Composer for Spoiler {
     }
 }
 
-const TURNS_ALL_AWAY: Spoiler = Spoiler(|_, _, _| Some(Err(5)));
+const TURNS_ALL_AWAY: Spoiler = Spoiler(|_, _, _| Some(Err(MALFORMED)));
 
 /// 17 unless there is more room than is needed.
 const EARLY: Spoiler = Spoiler(|scene, output, spare| {
     let short = |scene: &Scene| output.len() <= scene.room;
     match scene.as_ref().is_ok_and(short) {
-        true => Some(Err(17)),
+        true => Some(Err(ROOM)),
         false => compose(scene, output, spare),
     }
 });
 
 /// 17 before any other refusal.
 const HASTY: Spoiler = Spoiler(|scene, output, spare| match output.is_empty() {
-    true => Some(Err(17)),
+    true => Some(Err(ROOM)),
     false => compose(scene, output, spare),
 });
 
@@ -438,7 +530,7 @@ const CLOCKWISE: Pointer = Pointer(|point| {
 });
 
 /// Says 18 where the scene says another number.
-const POINTLESS: Pointer = Pointer(|point| point.map_err(|_| 18));
+const POINTLESS: Pointer = Pointer(|point| point.map_err(|_| POINT));
 
 /// Names other spots where the samples are others.
 struct Peeping;
@@ -450,7 +542,7 @@ impl Composer for Peeping {
         if let Some(Ok(_)) = answer
             && sum.is_multiple_of(7)
         {
-            answer = Some(Err(18));
+            answer = Some(Err(POINT));
         }
         answer
     }
@@ -508,15 +600,12 @@ fn a_scaled_side_above_32_bits() {
         chain: chain_bytes(&[Entry::new(true, scale)]),
         premultiplied: None,
     };
-    assert_eq!(model_scene(&draft), Err(10));
-    assert_eq!(model_point(&draft).err(), Some(18));
-    on_each_build(|build| {
-        let want = expected::grid_scene(build, &parts(&draft));
-        assert_eq!(want, Err(Stop::Refused(10)));
-    });
+    let refusal = SIDE_OVERFLOW.of_entry(0);
+    let refusals = [None, Some(refusal), Some(POINT.of_entry(0))];
+    hold_refusals(&draft, false, refusals, "a strip");
     let [mut output, mut spare] = [vec![1; 80_000], vec![1; 80_000]];
-    let ours = Linked.grid_scene(&parts(&draft), &mut output, &mut spare);
-    assert!(ours.is_none_or(|answer| answer == Err(10)));
+    let ours = Linked.grid_scene(&draft.parts(false), &mut output, &mut spare);
+    assert_eq!(ours, Some(Err(refusal)));
     assert!(output.iter().chain(&spare).all(|byte| *byte == 1));
 }
 
@@ -527,11 +616,8 @@ fn the_models_scene_is_the_published_rusts() {
         let mut rng = Rng::new(8);
         for _ in 0..500 {
             let draft = plain_scene(&mut rng);
-            let want = match draft.premultiplied {
-                Some(_) => expected::overlay_scene(build, &parts(&draft), &marks(&draft)),
-                None => expected::grid_scene(build, &parts(&draft)),
-            };
-            let model = model_scene(&draft).map_err(Stop::Refused);
+            let want = wanted_scene(build, &draft, false);
+            let model = model_scene(&draft, false).map_err(Stop::Refused);
             assert_eq!(model, want, "{draft:?}");
         }
     });

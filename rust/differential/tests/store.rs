@@ -92,7 +92,9 @@ fn session(body: &[u8], calls: &[(expected::Call, usize)]) -> Answer<Vec<u8>> {
         let answer = Linked.canvas_call(call, &mut state, &mut buffer[..*lent]);
         let answer = answer.expect("a call that is there");
         assert!(answer.is_ok() || before == (state.clone(), buffer.clone()));
-        answers.extend(u32::from(answer.err().unwrap_or(0)).to_be_bytes());
+        assert_eq!(answer.err().and_then(|refusal| refusal.item), None);
+        let number = answer.err().map_or(0, |refusal| refusal.number);
+        answers.extend(u32::from(number).to_be_bytes());
         length = answer.unwrap_or(0);
     }
     answers.extend(&buffer[..length]);
@@ -244,22 +246,31 @@ fn modelled(call: &Call) -> Option<Answer<Vec<u8>>> {
     })
 }
 
+/// Whether an answer is the one that is stored, a refusal by its number.
+fn is_stored(answer: Answer<Vec<u8>>, call: &Call) -> bool {
+    answer.map_err(|refusal| refusal.number) == call.answer
+}
+
 #[test]
 fn the_model_answers_as_it_is_stored() {
     for operation in stored() {
         for (at, call) in operation.calls.iter().enumerate() {
-            let model = modelled(call);
-            let alike = model.is_none_or(|answer| answer == call.answer);
+            let alike = modelled(call).is_none_or(|answer| is_stored(answer, call));
             assert!(alike, "{} {at}", operation.name);
         }
     }
 }
 
+/// No items are stored: they are the model's, and attach and the session have none.
 #[test]
 fn the_composer_answers_as_it_is_stored() {
+    let item = |answer: Answer<Vec<u8>>| answer.err()?.item;
     for operation in stored() {
         for (at, call) in operation.calls.iter().enumerate() {
-            assert!(answer(call) == call.answer, "{} {at}", operation.name);
+            let ours = answer(call);
+            assert!(is_stored(ours.clone(), call), "{} {at}", operation.name);
+            let want = modelled(call).and_then(item);
+            assert_eq!(item(ours), want, "{} {at}", operation.name);
         }
     }
 }
@@ -308,18 +319,18 @@ fn refusals_that_are_rare_are_stored() {
             calls.filter(|call| call.answer == Err(number)).count()
         };
         match operation.name.as_str() {
-            "fill" | "clap-resolve" | "iscl-size" => assert_eq!(count(ROOM), 0),
+            "fill" | "clap-resolve" | "iscl-size" => assert_eq!(count(17), 0),
             "session" => {
                 let answers = operation.calls.iter().flat_map(|call| {
                     let turns = 4 * call.fields[0] as usize;
                     let answer = call.answer.as_ref().expect("a session that is started");
                     answer[..turns].as_chunks::<4>().0
                 });
-                let short = answers.filter(|answer| **answer == [0, 0, 0, ROOM]);
+                let short = answers.filter(|answer| **answer == [0, 0, 0, 17]);
                 assert!(short.count() > 400);
             }
-            "iscl" => assert_eq!([count(4), count(10), count(ROOM)], [10, 10, 25]),
-            _ => assert_eq!(count(ROOM), 25, "{}", operation.name),
+            "iscl" => assert_eq!([count(4), count(10), count(17)], [10, 10, 25]),
+            _ => assert_eq!(count(17), 25, "{}", operation.name),
         }
     }
 }

@@ -1,22 +1,22 @@
 //! The crate `compose` on what its types allow and its calls do not: descriptors and frames out of
-//! range, and two faults at once. What the published Rust refuses is refused, and the number is the
-//! first of document 01's order.
+//! range, and two faults at once. What the published Rust refuses is refused, and the refusal is the
+//! first of document 01's order, with its item.
 
 mod common;
 
 use common::{bytes, on_each_build};
 use compose::props::{Clap, Imir, Irot, Iscl, Property, PropertyEntry};
 use compose::{
-    GridCanvas, GridDescriptor, HeifFrame, OverlayDescriptor, OverlayInput, Refusal, Result,
-    apply_clap, apply_imir, apply_irot, apply_iscl, apply_transforms, apply_transforms_owned,
-    attach_alpha, composite_grid, composite_overlay, crop, crop_with_margins, rescale_depth,
-    resize_area, resize_nearest,
+    About, Chroma, GridCanvas, GridDescriptor, HeifFrame, HeifPixelFormat, OverlayDescriptor,
+    OverlayInput, RecordFrame, Refusal, Result, apply_clap, apply_imir, apply_irot, apply_iscl,
+    apply_transforms, apply_transforms_owned, attach_alpha, composite_grid, composite_overlay,
+    crop, crop_with_margins, recorded, rescale_depth, resize_area, resize_nearest,
 };
 use differential::expected::{Stop, Want, operation, settle};
 use differential::generate;
 use differential::rng::Rng;
 use differential::shaped::{
-    self, grid, grid_descriptor, heif, hold_to, judged, overlay_descriptor,
+    self, grid, grid_descriptor, heif, hold_to, judged, overlay_descriptor, said,
 };
 use model::{Canvas, Crop, Frame, Grid, Operation, Oracle, Rectangle, parse_record, refusal};
 
@@ -154,8 +154,9 @@ fn the_first_refusal_is_document_01s() {
     assert_eq!(lay(2, 1, &[]), Err(Refusal::MISSING));
     assert_eq!(lay(2, 2, &[deep()]), Err(Refusal::COUNT));
     assert_eq!(lay(2, 1, &[deep(), empty()]), Err(Refusal::COUNT));
-    assert_eq!(lay(2, 2, &[deep(), empty()]), Err(Refusal::DEPTH));
-    assert_eq!(lay(2, 2, &[empty(), deep()]), Err(Refusal::EMPTY));
+    let first = |refusal: Refusal| Err(refusal.of_item(About::Record, 0));
+    assert_eq!(lay(2, 2, &[deep(), empty()]), first(Refusal::DEPTH));
+    assert_eq!(lay(2, 2, &[empty(), deep()]), first(Refusal::EMPTY));
 
     let long = [PropertyEntry::new(1, true, Property::Irot(Irot::new(1))); 257];
     assert_eq!(apply_transforms(&deep(), &long, false), Err(Refusal::LIMIT));
@@ -169,6 +170,130 @@ fn the_first_refusal_is_document_01s() {
     assert_eq!(apply_clap(&deep(), &none), Err(Refusal::DEPTH));
     let none = Iscl::new(0, 0, 0, 0);
     assert_eq!(apply_iscl(&empty(), &none), Err(Refusal::EMPTY));
+}
+
+/// A frame of 2 rows, every sample 600, which is above the top of depth 9.
+fn frame_of(width: u32, chroma: Chroma, depth: u8, alpha: bool) -> HeifFrame {
+    let format = HeifPixelFormat::new(chroma, depth, alpha).expect("a depth");
+    HeifFrame::filled(width, 2, format, 600).expect("a frame")
+}
+
+/// Frames and what they are refused with, in a list of others of 2 × 2, mono, depth 9.
+type Faults = Vec<(HeifFrame, Refusal)>;
+
+/// A list with a fault at each place, and with another one behind it: `call` names the frame that is
+/// refused by its index. Faults are found in several walks through the list, the lowest frame first.
+fn hold_index(walks: &[Faults], call: impl Fn(&[HeifFrame]) -> Option<Refusal>) {
+    let of_walk = |(walk, faults)| std::iter::repeat(walk).zip::<&Faults>(faults);
+    let faults: Vec<_> = walks.iter().enumerate().flat_map(of_walk).collect();
+    let good = frame_of(2, Chroma::Mono, 9, false);
+    for at in 1..5 {
+        for (walk, (frame, refusal)) in &faults {
+            let mut frames = vec![good.clone(); 6];
+            assert_eq!(call(&frames), None);
+            frames[at] = frame.clone();
+            let own = refusal.of_item(About::Record, at as u64);
+            assert_eq!(call(&frames), Some(own));
+            for (later, (frame, behind)) in &faults {
+                frames[5] = frame.clone();
+                let first = match walk <= later {
+                    true => own,
+                    false => behind.of_item(About::Record, 5),
+                };
+                assert_eq!(call(&frames), Some(first), "{own} {behind}");
+            }
+        }
+    }
+}
+
+/// A tile or an input that is refused is named by its place in the caller's list.
+#[test]
+fn frames_are_counted_as_the_caller_counts() {
+    let records = vec![
+        (empty(), Refusal::EMPTY),
+        (tile().with_width(1 << 31), Refusal::LIMIT),
+        (tile().with_planes(Vec::new()), Refusal::MALFORMED),
+        (deep(), Refusal::DEPTH),
+    ];
+    let tiles = vec![
+        (frame_of(3, Chroma::Mono, 9, false), Refusal::TILE),
+        (frame_of(2, Chroma::Yuv444, 9, false), Refusal::LAYOUT),
+        (frame_of(2, Chroma::Mono, 10, false), Refusal::LAYOUT),
+    ];
+    let depths = vec![(frame_of(3, Chroma::Yuv420, 10, true), Refusal::LAYOUT)];
+    let alphas = vec![(frame_of(3, Chroma::Yuv420, 9, true), Refusal::OPACITY)];
+
+    let grid = GridDescriptor::new(2, 3, 6, 4);
+    hold_index(&[records.clone(), tiles.clone()], |tiles| {
+        composite_grid(&grid, tiles).err()
+    });
+    let over = |frames: &[HeifFrame]| -> Vec<RecordFrame> {
+        let frames = frames.iter().map(RecordFrame::from_frame);
+        frames.collect::<Result<_>>().expect("frames")
+    };
+    hold_index(&[tiles], |tiles| {
+        recorded::composite_grid(&grid, &over(tiles)).err()
+    });
+
+    let overlay = OverlayDescriptor::new([0; 4], 6, 4, vec![(1, 0); 6]);
+    hold_index(&[records, depths.clone(), alphas.clone()], |frames| {
+        let inputs = frames.iter().map(|frame| OverlayInput::new(frame, false));
+        composite_overlay(&overlay, &inputs.collect::<Vec<_>>(), None).err()
+    });
+    hold_index(&[depths, alphas], |frames| {
+        let frames = over(frames);
+        let inputs = frames
+            .iter()
+            .map(|frame| recorded::OverlayInput::new(frame, false));
+        recorded::composite_overlay(&overlay, &inputs.collect::<Vec<_>>(), None).err()
+    });
+}
+
+/// A property that is refused is named by its place in the caller's list, whatever is skipped before it
+/// and however the ones before it are drawn.
+#[test]
+fn properties_are_counted_as_the_caller_counts() {
+    let other = (false, Property::Other);
+    let kept = (false, Property::Clap(Clap::integer(9, 9, 0, 0)));
+    let whole = (true, Property::Clap(Clap::integer(2, 2, 0, 0)));
+    let turn = (true, Property::Irot(Irot::new(1)));
+    let none = (true, Property::Irot(Irot::new(4)));
+    let mirror = (true, Property::Imir(Imir::new(1)));
+    let scale = (true, Property::Iscl(Iscl::new(3, 2, 1, 1)));
+    let outside = (true, Property::Clap(Clap::integer(9, 9, 0, 0)));
+    let zero = (true, Property::Iscl(Iscl::new(1, 1, 0, 1)));
+    let befores: [&[(bool, Property)]; 9] = [
+        &[],
+        &[other],
+        &[other, kept, other],
+        &[kept, whole, other],
+        &[turn, kept],
+        &[whole, mirror, kept, turn],
+        &[kept, none],
+        &[scale, other, none],
+        &[kept, scale, turn, kept],
+    ];
+    for before in befores {
+        for (refused, refusal) in [(outside, Refusal::OUTSIDE), (zero, Refusal::ZERO)] {
+            for after in [&[][..], &[zero], &[kept, turn, outside]] {
+                let chain = [before, &[refused], after].concat();
+                let entry = |(essential, property)| PropertyEntry::new(7, essential, property);
+                let entries: Vec<PropertyEntry> = chain.into_iter().map(entry).collect();
+                let own = refusal.of_item(About::Entry, before.len() as u64);
+                let over = RecordFrame::from_frame(&tile()).expect("a frame");
+                let changed = [
+                    apply_transforms(&tile(), &entries, true).err(),
+                    apply_transforms_owned(tile(), &entries, true).err(),
+                    recorded::apply_transforms(&over, &entries, true).err(),
+                    recorded::apply_transforms_owned(over, &entries, true).err(),
+                ];
+                assert_eq!(changed, [Some(own); 4], "{entries:?}");
+                // The frame's own refusal is no entry's.
+                let spoilt = apply_transforms(&deep(), &entries, true);
+                assert_eq!(spoilt, Err(Refusal::DEPTH));
+            }
+        }
+    }
 }
 
 /// More inputs than an overlay may have, with as many places and with one.
@@ -279,7 +404,7 @@ fn chains_on_doubtful_frames() {
                 .any(|entry| entry.applied(essential_only).is_some());
             let want = match applied {
                 true => judged(&frame).and_then(|frame| {
-                    settle(oracle.apply_transforms(&frame, &chain, essential_only))
+                    shaped::apply_transforms(oracle, &frame, &chain, essential_only)
                 }),
                 false => Ok(frame.clone()),
             };
@@ -382,7 +507,6 @@ fn wanted_blank(canvas: &mut dyn Canvas, desc: &Grid, index: usize) -> Want<()> 
 
 #[test]
 fn canvases_with_doubtful_tiles() {
-    let number = |answer: Result<()>| answer.map_err(|refusal| Stop::Refused(refusal.number()));
     on_each_build(|oracle| {
         let mut rng = Rng::new(25);
         for _ in 0..1_500 {
@@ -400,11 +524,11 @@ fn canvases_with_doubtful_tiles() {
                     _ => rng.below(desc.cells().max(1)),
                 };
                 if rng.once_in(5) {
-                    let blank = number(ours.place_blank(index));
+                    let blank = said(ours.place_blank(index));
                     assert_eq!(blank, wanted_blank(&mut *theirs, &desc, index));
                     continue;
                 }
-                let placed = number(ours.place(index, &heif(&tile)));
+                let placed = said(ours.place(index, &heif(&tile)));
                 assert_eq!(placed, wanted_place(&mut *theirs, &desc, index, &tile));
             }
             let want = grid(&desc).and_then(|()| settle(theirs.finish()));

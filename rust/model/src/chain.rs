@@ -150,7 +150,8 @@ impl Entry {
     }
 }
 
-/// The entries of a chain; 5 where it is malformed, 4 once a count above 256 is read.
+/// The entries of a chain; 5 where it is malformed, an entry's own where an entry is, 4 once a count
+/// above 256 is read.
 pub fn parse_chain(bytes: &[u8]) -> Result<Vec<Entry>, Refusal> {
     let mut reader = Reader::new(bytes);
     let count = reader.number()?;
@@ -158,8 +159,9 @@ pub fn parse_chain(bytes: &[u8]) -> Result<Vec<Entry>, Refusal> {
         return Err(refusal::LIMIT);
     }
     let mut entries = Vec::new();
-    for _ in 0..count {
-        entries.push(Entry::read(&mut reader)?);
+    for index in 0..count as usize {
+        let entry = Entry::read(&mut reader);
+        entries.push(entry.map_err(|refusal| refusal.of_entry(index))?);
     }
     reader.end()?;
     Ok(entries)

@@ -59,7 +59,7 @@ fn canvas_chroma(first: &Frame, promoted: bool) -> Chroma {
     }
 }
 
-/// 12, then tile by tile 13 and 14.
+/// 12, then tile by tile its 13 and 14.
 pub(crate) fn tiles_fit(grid: &Grid, tiles: &[Frame]) -> Result<(), Refusal> {
     let first = &tiles[0];
     let covered = |side: u32, cells: u16| u64::from(side) * u64::from(cells);
@@ -68,12 +68,12 @@ pub(crate) fn tiles_fit(grid: &Grid, tiles: &[Frame]) -> Result<(), Refusal> {
     {
         return Err(refusal::COVER);
     }
-    for tile in tiles {
+    for (index, tile) in tiles.iter().enumerate() {
         if (tile.width, tile.height) != (first.width, first.height) {
-            return Err(refusal::TILE_SIZE);
+            return Err(refusal::TILE_SIZE.of_record(index));
         }
         if (tile.chroma, tile.depth) != (first.chroma, first.depth) {
-            return Err(refusal::FORM);
+            return Err(refusal::FORM.of_record(index));
         }
     }
     Ok(())
@@ -140,23 +140,31 @@ fn alpha_above_top(frame: &Frame) -> bool {
     frame.alpha != 0 && samples().iter().any(|sample| *sample > frame.top())
 }
 
-/// 14 over all inputs.
-pub(crate) fn one_depth<'a>(frames: impl IntoIterator<Item = &'a Frame>) -> Result<(), Refusal> {
-    let mut depths = frames.into_iter().map(|frame| frame.depth);
-    let first = depths.next();
-    if depths.any(|depth| Some(depth) != first) {
-        return Err(refusal::FORM);
+/// The refusal of the lowest input that is `wrong`, where one is.
+pub(crate) fn none_is<'a>(
+    frames: impl IntoIterator<Item = &'a Frame>,
+    refusal: Refusal,
+    wrong: impl Fn(&Frame) -> bool,
+) -> Result<(), Refusal> {
+    match frames.into_iter().position(wrong) {
+        Some(index) => Err(refusal.of_record(index)),
+        None => Ok(()),
     }
-    Ok(())
+}
+
+/// 14 over all inputs.
+pub(crate) fn one_depth<'a>(
+    frames: impl Clone + IntoIterator<Item = &'a Frame>,
+) -> Result<(), Refusal> {
+    let first = frames.clone().into_iter().next().map(|frame| frame.depth);
+    none_is(frames, refusal::FORM, |frame| Some(frame.depth) != first)
 }
 
 /// The form of an overlay's canvas, whatever its colour description: 14, then 16.
 pub(crate) fn overlay_form(overlay: &Overlay, inputs: &[OverlayInput]) -> Result<Frame, Refusal> {
     let frames = || inputs.iter().map(|input| &input.frame);
     one_depth(frames())?;
-    if frames().any(alpha_above_top) {
-        return Err(refusal::ALPHA);
-    }
+    none_is(frames(), refusal::ALPHA, alpha_above_top)?;
     let first = &inputs[0].frame;
     let [.., fill_alpha] = canvas_fill(overlay, first, None)?;
     let along = |offsets: Vec<i32>, sides: Vec<u32>, canvas: u32| -> Vec<u32> {

@@ -1,7 +1,7 @@
 //! Document 01, with what document 02 changes, as plain Rust: house numbers, frame records, trays,
 //! chains and descriptor bodies, with the refusals of each; the operations on one record, fill
-//! colours, grids and overlays, scenes and points, chains on one record, room, and the text of the
-//! steps program.
+//! colours, grids and overlays, scenes and points, chains on one record, room, the text of the steps
+//! program, and the sentences of refusals.
 //! All of it is written from the paper and shares nothing with the composer or with the published
 //! Rust, so that both can be held against it.
 //!
@@ -22,6 +22,7 @@ mod record;
 pub mod refusal;
 mod room;
 mod scene;
+mod sentence;
 mod steps;
 
 pub use chain::{Clap, Entry, Iscl, MAX_ENTRIES, Property, chain_bytes, parse_chain};
@@ -39,7 +40,8 @@ pub use record::{
     Chroma, Frame, Layout, Place, Plane, parse_record, parse_tray, parse_untested, tray_bytes,
     tray_count, untested_tray,
 };
-pub use refusal::Refusal;
+pub use refusal::{Item, Refusal};
 pub use room::{grid_room, overlay_room, record_size, transforms_room};
 pub use scene::{Marks, Scene, SceneParts, grid_scene, overlay_scene, transforms};
+pub use sentence::{read_sentence, sentence, write_sentence};
 pub use steps::{Size, parse_steps, steps_text};

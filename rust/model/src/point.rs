@@ -1,12 +1,12 @@
 //! The point calls (document 01, "Point call").
 
 use crate::chain::Entry;
-use crate::composite::{canvas_fill, one_depth, spot_at, tile_at, tiles_fit};
+use crate::composite::{canvas_fill, none_is, one_depth, spot_at, tile_at, tiles_fit};
 use crate::operation::Operation;
 use crate::oracle::{Grid, Overlay, Rectangle};
 use crate::record::Frame;
 use crate::refusal::{self, Refusal};
-use crate::scene::{Marks, SceneParts, read_grid, read_overlay};
+use crate::scene::{Marks, SceneParts, applied, read_grid, read_overlay};
 use crate::steps::Size;
 
 /// The chain's rectangle in the composed picture and its turn.
@@ -128,12 +128,13 @@ impl Sighted {
         let mut last = size;
         let (mut exchanged, mut turns) = (false, 0);
         let mut steps = Vec::new();
-        for operation in chain
-            .iter()
-            .filter_map(|entry| entry.applied(essential_only))
-        {
+        for (index, operation) in applied(chain, essential_only) {
             let step = match operation {
-                Operation::Clap(clap) => Step::Cut(clap.resolve(last.0, last.1)?.rectangle),
+                Operation::Clap(clap) => {
+                    let crop = clap.resolve(last.0, last.1);
+                    let crop = crop.map_err(|refusal| refusal.of_entry(index))?;
+                    Step::Cut(crop.rectangle)
+                }
                 Operation::Irot(angle) => {
                     turns = (turns + angle % 4) % 4;
                     Step::Turn(angle % 4, last)
@@ -145,7 +146,7 @@ impl Sighted {
                     turns = (4 + 2 * (1 - axis % 2) - turns) % 4;
                     Step::Mirror(axis % 2 == 1, last)
                 }
-                _ => return Err(refusal::POINT),
+                _ => return Err(refusal::POINT.of_entry(index)),
             };
             last = step.size();
             steps.push(step);
@@ -185,9 +186,7 @@ impl Sighted {
         let (chain, overlay, inputs) = read_overlay(parts, marks.premultiplied)?;
         let frames: Vec<Frame> = inputs.into_iter().map(|input| input.frame).collect();
         one_depth(&frames)?;
-        if frames.iter().any(|frame| frame.alpha != 0) {
-            return Err(refusal::POINT);
-        }
+        none_is(&frames, refusal::POINT, |frame| frame.alpha != 0)?;
         let size = (overlay.width, overlay.height);
         let fill = canvas_fill(&overlay, &frames[0], marks.colour)?;
         let canvas = Canvas::Overlay(overlay, fill);

@@ -281,7 +281,7 @@ fn whole(bytes: &[u8], tested: bool) -> Result<Frame, Refusal> {
     Ok(frame)
 }
 
-/// The frame of a record, or the number that document 01 refuses it with.
+/// The frame of a record, or its refusal, which is of no item.
 pub fn parse_record(bytes: &[u8]) -> Result<Frame, Refusal> {
     whole(bytes, true)
 }
@@ -303,8 +303,9 @@ fn read_tray(bytes: &[u8], tested: bool) -> (Vec<Frame>, Result<(), Refusal>) {
     let mut reader = Reader::new(bytes);
     let mut frames = Vec::new();
     let mut read = || {
-        for _ in 0..reader.number()? {
-            frames.push(Frame::read(&mut reader, tested)?);
+        for index in 0..reader.number()? as usize {
+            let frame = Frame::read(&mut reader, tested);
+            frames.push(frame.map_err(|refusal| refusal.of_record(index))?);
         }
         reader.end()
     };
@@ -312,7 +313,8 @@ fn read_tray(bytes: &[u8], tested: bool) -> (Vec<Frame>, Result<(), Refusal>) {
     (frames, end)
 }
 
-/// The frames of a tray: a count, that many records judged in turn, nothing after.
+/// The frames of a tray: a count, that many records judged in turn, each with refusals of its own,
+/// nothing after.
 pub fn parse_tray(bytes: &[u8]) -> Result<Vec<Frame>, Refusal> {
     let (frames, end) = read_tray(bytes, true);
     end.map(|()| frames)

@@ -66,9 +66,10 @@ fn form_after(form: &Frame, property: Property) -> Result<Frame, Refusal> {
 fn longest(first: Frame, chain: &[Entry], essential_only: bool) -> Result<u64, Refusal> {
     let mut form = first;
     let mut longest = form.tight_length();
-    let applied = |entry: &&Entry| entry.applied(essential_only).is_some();
-    for entry in chain.iter().filter(applied) {
-        form = form_after(&form, entry.property)?;
+    let applied = |(_, entry): &(usize, &Entry)| entry.applied(essential_only).is_some();
+    for (index, entry) in chain.iter().enumerate().filter(applied) {
+        let after = form_after(&form, entry.property);
+        form = after.map_err(|refusal| refusal.of_entry(index))?;
         longest = longest.max(form.tight_length());
     }
     Ok(longest)

@@ -68,16 +68,26 @@ impl Entry {
     }
 }
 
-/// The chain on a composed picture, entry by entry.
+/// What the entries of a chain that are applied do, each with its index in the chain.
+pub(crate) fn applied(
+    chain: &[Entry],
+    essential_only: bool,
+) -> impl Iterator<Item = (usize, Operation)> {
+    let applied = move |(index, entry): (usize, &Entry)| {
+        let operation = entry.applied(essential_only)?;
+        Some((index, operation))
+    };
+    chain.iter().enumerate().filter_map(applied)
+}
+
+/// The chain on a composed picture, entry by entry, each with refusals of its own.
 fn run_chain(composed: Frame, chain: &[Entry], essential_only: bool) -> Result<Scene, Refusal> {
     let mut frame = composed;
     let mut record = frame.record();
     let mut room = record.len();
-    for operation in chain
-        .iter()
-        .filter_map(|entry| entry.applied(essential_only))
-    {
-        frame = operation.apply(&frame)?;
+    for (index, operation) in applied(chain, essential_only) {
+        let made = operation.apply(&frame);
+        frame = made.map_err(|refusal| refusal.of_entry(index))?;
         record = frame.record();
         room = room.max(record.len());
     }

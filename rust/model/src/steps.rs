@@ -9,11 +9,12 @@ use crate::refusal::{self, Refusal};
 pub type Size = (u32, u32);
 
 /// What the program is handed: a size and a chain. 5 malformed, 4 a chain above 256, then 3 a side
-/// 0, 4 above L.
+/// 0, 4 above L; of no item.
 pub fn parse_steps(input: &[u8]) -> Result<(Size, Vec<Entry>), Refusal> {
     let mut reader = Reader::new(input);
     let (width, height) = (reader.number()?, reader.number()?);
-    let chain = parse_chain(reader.rest())?;
+    let chain = parse_chain(reader.rest());
+    let chain = chain.map_err(|refusal| Refusal::new(refusal.number))?;
     if width == 0 || height == 0 {
         return Err(refusal::ZERO_SIDE);
     }
@@ -51,7 +52,7 @@ pub fn steps_text<E>(
 ) -> Result<String, E> {
     let (mut size, chain) = match parse_steps(input) {
         Ok(read) => read,
-        Err(number) => return Ok(format!("refused {number}\n")),
+        Err(Refusal { number, .. }) => return Ok(format!("refused {number}\n")),
     };
     let mut text = "step kind width height\n".to_string();
     for (index, entry) in chain.iter().enumerate() {
@@ -61,7 +62,7 @@ pub fn steps_text<E>(
                 text += &format!("{index} {kind} {width} {height}\n");
                 size = (width, height);
             }
-            Err(number) => {
+            Err(Refusal { number, .. }) => {
                 text += &format!("{index} {kind} refused {number}\n");
                 break;
             }

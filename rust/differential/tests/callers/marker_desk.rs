@@ -3,7 +3,7 @@
 
 use heif::compose::{OverlayInput, attach_alpha, composite_overlay, fill_to_ycbcr};
 use heif::derived::OverlayDescriptor;
-use heif::error::Result;
+use heif::error::{Error, Result};
 use heif::image::{Chroma, HeifFrame, HeifPixelFormat};
 use heif::props::Colr;
 
@@ -74,7 +74,7 @@ pub fn run() -> Result<Vec<HeifFrame>> {
 }
 
 /// What the desk turns away: no inputs, an input without a place, another depth.
-pub fn turned_away() -> Vec<bool> {
+pub fn turned_away() -> Vec<Option<Error>> {
     let of = |depth| {
         let format = HeifPixelFormat::new(Chroma::Mono, depth, false).expect("a depth");
         HeifFrame::filled(4, 4, format, 9).expect("a frame")
@@ -86,7 +86,7 @@ pub fn turned_away() -> Vec<bool> {
             .iter()
             .map(|frame| OverlayInput::new(frame, false))
             .collect();
-        composite_overlay(&place(count), &inputs, None).is_err()
+        composite_overlay(&place(count), &inputs, None).err()
     };
     vec![
         lay(0, &[]),

@@ -3,7 +3,7 @@
 
 use heif::compose::{GridCanvas, needs_444, resize_area};
 use heif::derived::{GridDescriptor, MAX_CANVAS_PIXELS, MAX_DERIVATION_INPUTS, OverlayDescriptor};
-use heif::error::Result;
+use heif::error::{Error, Result};
 #[allow(deprecated)]
 use heif::image::HeifPlane;
 use heif::image::{Chroma, HeifFrame, HeifPixelFormat, MAX_FRAME_PIXELS};
@@ -37,15 +37,15 @@ pub fn run() -> Result<Vec<HeifFrame>> {
 }
 
 /// A canvas and a list of inputs above their limits, and an alpha of another size.
-pub fn turned_away() -> Vec<bool> {
+pub fn turned_away() -> Vec<Option<Error>> {
     let side = u32::try_from(MAX_CANVAS_PIXELS.min(MAX_FRAME_PIXELS)).expect("a side");
     let grid = GridDescriptor::new(1, 1, side, 2);
     let overlay = OverlayDescriptor::new([0; 4], 1, 1, vec![(0, 0); MAX_DERIVATION_INPUTS + 1]);
     let mono = HeifPixelFormat::new(Chroma::Mono, 8, false).expect("a depth");
     let alpha = HeifFrame::zeroed(3, 1, mono).expect("a frame");
     vec![
-        GridDescriptor::parse(&grid.to_bytes()).is_err(),
-        OverlayDescriptor::parse(&overlay.to_bytes(), MAX_DERIVATION_INPUTS + 1).is_err(),
-        row().expect("a frame").with_alpha_plane(&alpha).is_err(),
+        GridDescriptor::parse(&grid.to_bytes()).err(),
+        OverlayDescriptor::parse(&overlay.to_bytes(), MAX_DERIVATION_INPUTS + 1).err(),
+        row().expect("a frame").with_alpha_plane(&alpha).err(),
     ]
 }

@@ -4,7 +4,7 @@
 use heif::compose::{
     apply_clap, apply_imir, apply_irot, apply_transforms, apply_transforms_owned, crop,
 };
-use heif::error::Result;
+use heif::error::{Error, Result};
 use heif::image::{Chroma, HeifFrame, HeifPixelFormat};
 use heif::props::{Clap, CropRect, Imir, Irot, Iscl, Property, PropertyEntry};
 
@@ -70,16 +70,16 @@ pub fn run() -> Result<Vec<HeifFrame>> {
 }
 
 /// What the projector turns away: an aperture that has no whole edge, a scale of 0, a part outside.
-pub fn turned_away() -> Vec<bool> {
+pub fn turned_away() -> Vec<Option<Error>> {
     let slope = slope(Chroma::Yuv420, 8, false).expect("a frame");
     let one = |property| {
         let chain = [PropertyEntry::new(1, true, property)];
-        apply_transforms(&slope, &chain, true).is_err()
+        apply_transforms(&slope, &chain, true).err()
     };
     vec![
         one(Property::Clap(Clap::integer(36, 26, 0, 0))),
         one(Property::Iscl(Iscl::new(1, 0, 1, 1))),
         one(Property::Irot(Irot::new(200))),
-        crop(&slope, 30, 0, 8, 1).is_err(),
+        crop(&slope, 30, 0, 8, 1).err(),
     ]
 }

@@ -3,7 +3,7 @@
 
 use heif::compose::{apply_iscl, attach_alpha, composite_grid, crop, rescale_depth, resize_nearest};
 use heif::derived::GridDescriptor;
-use heif::error::Result;
+use heif::error::{Error, Result};
 use heif::image::{Chroma, HeifFrame, HeifPixelFormat, Plane};
 use heif::props::Iscl;
 
@@ -53,7 +53,7 @@ pub fn run() -> Result<Vec<HeifFrame>> {
 }
 
 /// What the importer turns away: too few tiles, tiles of another size, tiles that do not cover it.
-pub fn turned_away() -> Vec<bool> {
+pub fn turned_away() -> Vec<Option<Error>> {
     let format = HeifPixelFormat::new(Chroma::Yuv422, 8, false).expect("a depth");
     let of = |width, height| HeifFrame::filled(width, height, format, 9).expect("a frame");
     let grid = GridDescriptor::new(1, 2, 30, 16);
@@ -64,6 +64,6 @@ pub fn turned_away() -> Vec<bool> {
         vec![of(20, 16), of(20, 16)],
     ]
     .iter()
-    .map(|tiles| composite_grid(&grid, tiles).is_err())
+    .map(|tiles| composite_grid(&grid, tiles).err())
     .collect()
 }
