@@ -1,6 +1,6 @@
 pub mod Pick
 pub mod Any
-pub mod Ascii
+pub mod Utf8
 pub mod Out
 pub mod Span
 pub mod Puts

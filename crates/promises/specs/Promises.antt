@@ -9,11 +9,11 @@ use lib.IntN.{subℕ, ℤ}
 use lib.ListN.{drop, getD, length, take}
 use mathlib.Core.Logic.{_⊎_}
 use Rattle.laws.specs.Any.{any}
-use Rattle.laws.specs.Ascii.{ascii}
 use Rattle.laws.specs.Out.{Out, andThen, done, fitted, isDone, reason, refuseItem, refused}
 use Rattle.laws.specs.Puts.{Bytes}
-use Rattle.laws.specs.declared.Refusal.{Refusal}
 use Rattle.laws.specs.Pick.{pick}
+use Rattle.laws.specs.Utf8.{utf8}
+use Rattle.laws.specs.declared.Refusal.{Refusal}
 use Rattle.numbers.specs.Field.{offsetOf}
 use Rattle.numbers.specs.Number.{numberBytes, readNumber}
 use Rattle.numbers.specs.declared.NumberRead.the-variants.{Number}
@@ -182,10 +182,10 @@ pub record Promises : Type 0 where
   pub sightNames : (es : List PropertyEntry) (essentialOnly : Bool) (width height : ℕ) (r : Refusal) → sightOf es essentialOnly width height ≡ refused r
       → OwnStep (foldChain sightAfter essentialOnly) (λ e s. pick (applies essentialOnly e) (sightAfter (e .property) s) (done s)) 2 es (whole width height) r
   -- "Compose a sentence from the number and, where there is one, the index and its sort, in German (0) or English (1)"
-  pub sentenceExamples : (sentenceRun 17 0 9 0 192 ≡ done (ascii "17: Ein bereitgestellter Puffer ist zu kurz."))
-      × (sentenceRun 13 1 4 0 192 ≡ done (ascii "13: Eine Kachel ist nicht so groß wie die erste (Bild 4)."))
-      × (sentenceRun 13 1 4 1 192 ≡ done (ascii "13: A tile is not the same size as the first one (record 4)."))
-      × (sentenceRun 10 2 255 1 192 ≡ done (ascii "10: A side would be too long after scaling (entry 255)."))
+  pub sentenceExamples : (sentenceRun 17 0 9 0 192 ≡ done (utf8 "17: Ein bereitgestellter Puffer ist zu kurz."))
+      × (sentenceRun 13 1 4 0 192 ≡ done (utf8 "13: Eine Kachel ist nicht so groß wie die erste (Bild 4)."))
+      × (sentenceRun 13 1 4 1 192 ≡ done (utf8 "13: A tile is not the same size as the first one (record 4)."))
+      × (sentenceRun 10 2 255 1 192 ≡ done (utf8 "10: A side would be too long after scaling (entry 255)."))
   -- "Both languages have a sentence for every refusal number", with every sort; 192 bytes are room enough
   pub sentenceThere : (number sort index language room : ℕ) → 1 ≤ number → number ≤ 18 → sort ≤ 2 → language ≤ 1 → 192 ≤ room → isDone (sentenceRun number sort index language room) ≡ true
   -- "It refuses 5 for a number or language that has no sentence": nothing else has one
@@ -196,7 +196,7 @@ pub record Promises : Type 0 where
   -- ---- "Steps program"
 
   -- "Input 6 4 2 2 1 1 3 0 1 (decimal bytes) gives, whole"
-  pub stepsExample : textOf (6 ∷ 4 ∷ 2 ∷ 2 ∷ 1 ∷ 1 ∷ 3 ∷ 0 ∷ 1 ∷ []) ≡ ascii "step kind width height\n0 2 4 6\n1 3 4 6\n"
+  pub stepsExample : textOf (6 ∷ 4 ∷ 2 ∷ 2 ∷ 1 ∷ 1 ∷ 3 ∷ 0 ∷ 1 ∷ []) ≡ utf8 "step kind width height\n0 2 4 6\n1 3 4 6\n"
   -- "prints the heading below, then for each entry": the program reads at most 16,384 bytes and has room for as many; an input's text is
   -- that of its first 12,816 bytes, and every text fits
   pub stepsPrefix : (n : ℕ) (s : List ℕ) → 12816 ≤ n → textOf (take n s) ≡ textOf s

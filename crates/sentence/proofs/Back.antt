@@ -9,9 +9,9 @@ use lib.ListN.{getD}
 use borrow.Author.Tests.{eq-eqb, ltb-false}
 use Rattle.laws.proofs.Order.{and-true, apart, by-test, pick-false, pick-true}
 use Rattle.laws.proofs.Out.{andThen-done, done-same, not-done, refuse-done}
-use Rattle.laws.specs.Ascii.{ascii, characterBytes}
 use Rattle.laws.specs.Out.{done, fitted, reason}
 use Rattle.laws.specs.Pick.{pick}
+use Rattle.laws.specs.Utf8.{characterBytes, utf8}
 use Rattle.numbers.proofs.Decimal.{decimal-back}
 use Rattle.numbers.specs.Decimal.{decimal, digitsOnto, isDigit, readDecimal}
 use Rattle.sentence.proofs.Rows.{row-number}
@@ -90,12 +90,12 @@ among-both (suc (suc n)) r rows h a = absurd (omega arith)
 
 -- every two openings differ, in one language or two
 openings-differ : allDiffer opening (keys 0 reasons ++ keys 1 reasons) ≡ true
-unfolding allDiffer differsFrom differ opening head inLanguage pick reasons keys ascii characterBytes decimal digitsOnto
+unfolding allDiffer differsFrom differ opening head inLanguage pick reasons keys utf8 characterBytes decimal digitsOnto
 openings-differ = refl
 
 -- every two words of a language do
 words-differ : (language : ℕ) → language ≤ 1 → allDiffer word (keys language sorts) ≡ true
-unfolding allDiffer differsFrom differ word inLanguage pick sorts keys ascii characterBytes
+unfolding allDiffer differsFrom differ word inLanguage pick sorts keys utf8 characterBytes
 words-differ zero h = refl
 words-differ (suc zero) h = refl
 words-differ (suc (suc n)) h = absurd (omega arith)
@@ -103,19 +103,19 @@ words-differ (suc (suc n)) h = absurd (omega arith)
 -- ---- what follows the reason
 
 unfoldable indexEnd : ℕ → ℕ → List ℕ
-indexEnd sort index = pick (eqb sort 0) [] (decimal index ++ (ascii ")" ++ ascii "."))
+indexEnd sort index = pick (eqb sort 0) [] (decimal index ++ (utf8 ")" ++ utf8 "."))
 
-item-split : (language index : ℕ) (r : Row) → item language r index ++ ascii "." ≡ word (record { language = language; row = r }) ++ indexEnd (r .number) index
+item-split : (language index : ℕ) (r : Row) → item language r index ++ utf8 "." ≡ word (record { language = language; row = r }) ++ indexEnd (r .number) index
 unfolding item word indexEnd pick
-item-split language index r = by-test (eqb (r .number) 0) (λ e. simp e (sym (append-nil (ascii ".")))) (λ e. simp (e, append-assoc))
+item-split language index r = by-test (eqb (r .number) 0) (λ e. simp e (sym (append-nil (utf8 ".")))) (λ e. simp (e, append-assoc))
 
-bracket-ends : isDigit (getD (ascii ")" ++ ascii ".") 0 0) ≡ false
-unfolding isDigit ascii characterBytes pick
+bracket-ends : isDigit (getD (utf8 ")" ++ utf8 ".") 0 0) ≡ false
+unfolding isDigit utf8 characterBytes pick
 bracket-ends = refl
 
 index-back : (sort index : ℕ) → index < 10 ^ 20 → pick (eqb sort 0) 0 (readDecimal (indexEnd sort index)) ≡ pick (eqb sort 0) 0 index
 unfolding indexEnd pick
-index-back sort index h = by-test (eqb sort 0) (λ e. simp e) (λ e. simp e (decimal-back index (ascii ")" ++ ascii ".") h bracket-ends))
+index-back sort index h = by-test (eqb sort 0) (λ e. simp e) (λ e. simp e (decimal-back index (utf8 ")" ++ utf8 ".") h bracket-ends))
 
 -- ---- THE SENTENCE READ BACK
 

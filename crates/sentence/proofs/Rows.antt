@@ -10,9 +10,9 @@ use lib.ListN.{getD, length}
 use borrow.Author.Tests.{eq-eqb, eqb-true, leb-true, ne-eqb}
 use Rattle.laws.proofs.Order.{and-true, by-order, by-test, pick-both, pick-false, pick-true}
 use Rattle.laws.proofs.Out.{done-same, not-done}
-use Rattle.laws.specs.Ascii.{ascii, characterBytes}
 use Rattle.laws.specs.Out.{done, reason, refused}
 use Rattle.laws.specs.Pick.{pick}
+use Rattle.laws.specs.Utf8.{characterBytes, utf8}
 use Rattle.sentence.specs.Sentence.{inLanguage, rowOf}
 use Rattle.sentence.specs.Table.{Row, reasons, sorts}
 use Rattle.sentence.specs.inner.Texts.{noRow}
@@ -75,25 +75,25 @@ sorts-numbered = refl
 
 unfoldable pub shortTexts : ℕ → List Row → Bool
 shortTexts n [] = true
-shortTexts n (r ∷ rows) = leb (length (ascii (r .german))) n && (leb (length (ascii (r .english))) n && shortTexts n rows)
+shortTexts n (r ∷ rows) = leb (length (utf8 (r .german))) n && (leb (length (utf8 (r .english))) n && shortTexts n rows)
 
 pub row-short : (rows : List Row) (n k language : ℕ) → shortTexts n rows ≡ true → k < length rows → length (inLanguage language (getD rows k noRow)) ≤ n
 unfolding shortTexts inLanguage
 row-short [] n k language t h = absurd (not-suc-le-zero h)
 row-short (r ∷ rows) n k language t h =
-    let a = and-true (leb (length (ascii (r .german))) n) (leb (length (ascii (r .english))) n && shortTexts n rows) t in
-    let b = and-true (leb (length (ascii (r .english))) n) (shortTexts n rows) (a .1) in
+    let a = and-true (leb (length (utf8 (r .german))) n) (leb (length (utf8 (r .english))) n && shortTexts n rows) t in
+    let b = and-true (leb (length (utf8 (r .english))) n) (shortTexts n rows) (a .1) in
     go k h (leb-true _ _ (a .0)) (leb-true _ _ (b .0)) (λ j l. row-short rows n j language (b .1) l)
   where
-    go : (j : ℕ) → j < length (r ∷ rows) → length (ascii (r .german)) ≤ n → length (ascii (r .english)) ≤ n
+    go : (j : ℕ) → j < length (r ∷ rows) → length (utf8 (r .german)) ≤ n → length (utf8 (r .english)) ≤ n
         → ((i : ℕ) → i < length rows → length (inLanguage language (getD rows i noRow)) ≤ n) → length (inLanguage language (getD (r ∷ rows) j noRow)) ≤ n
-    go zero l p q f = pick-both (λ (bs : List ℕ). length bs ≤ n) (eqb language 0) (ascii (r .german)) (ascii (r .english)) p q
+    go zero l p q f = pick-both (λ (bs : List ℕ). length bs ≤ n) (eqb language 0) (utf8 (r .german)) (utf8 (r .english)) p q
     go (suc j) l p q f = f j (le-of-suc-le-suc l)
 
 pub reasons-short : shortTexts 128 reasons ≡ true
-unfolding shortTexts reasons ascii characterBytes pick
+unfolding shortTexts reasons utf8 characterBytes pick
 reasons-short = refl
 
 pub sorts-short : shortTexts 10 sorts ≡ true
-unfolding shortTexts sorts ascii characterBytes pick
+unfolding shortTexts sorts utf8 characterBytes pick
 sorts-short = refl

@@ -10,9 +10,9 @@ use lib.Seq.{getD-append-add}
 use borrow.Author.Tests.{eq-eqb, le-ltb, lt-ltb, ltb-false, ne-eqb}
 use Rattle.laws.proofs.Order.{pick-both, pick-false, pick-true}
 use Rattle.laws.proofs.Out.{andThen-done, done-yes, fitted-room, refuse-done, refuse-no, refuse-yes, then-done, then-refused}
-use Rattle.laws.specs.Ascii.{ascii, characterBytes}
 use Rattle.laws.specs.Out.{done, fitted, isDone, reason, refused}
 use Rattle.laws.specs.Pick.{pick}
+use Rattle.laws.specs.Utf8.{characterBytes, utf8}
 use Rattle.numbers.proofs.Decimal.{decimal-few, decimal-short}
 use Rattle.numbers.specs.Decimal.{decimal}
 use Rattle.sentence.proofs.Rows.{reasons-numbered, reasons-short, row-at, row-none, row-number, row-short, row-within, sorts-numbered, sorts-short}
@@ -29,8 +29,8 @@ unfolding sorts
 sorts-count = refl
 
 -- the marks between the parts
-marks : (length (ascii ": ") ≡ 2) × (length (ascii ")") ≡ 1) × (length (ascii ".") ≡ 1)
-unfolding ascii characterBytes pick
+marks : (length (utf8 ": ") ≡ 2) × (length (utf8 ")") ≡ 1) × (length (utf8 ".") ≡ 1)
+unfolding utf8 characterBytes pick
 marks = (refl, refl, refl)
 
 -- ---- the rows of a known number and sort
@@ -61,7 +61,7 @@ pub item-none : (sort index language : ℕ) → sort ≡ 0 → itemAt sort index
 unfolding itemAt
 item-none sort index language h = pick-true _ _ _ (eq-eqb sort 0 h)
 
-pub item-some : (sort index language : ℕ) → (sort ≡ 0 → ⊥) → itemAt sort index language ≡ textAt sort language ++ (decimal index ++ ascii ")")
+pub item-some : (sort index language : ℕ) → (sort ≡ 0 → ⊥) → itemAt sort index language ≡ textAt sort language ++ (decimal index ++ utf8 ")")
 unfolding itemAt
 item-some sort index language h = pick-false _ _ _ (ne-eqb sort 0 h)
 
@@ -73,13 +73,13 @@ module _ (number sort index language : ℕ) (known : Known number sort language)
   sentence-at =
       let why = getD reasons (number - 1) noRow in
       let of = getD sorts sort noRow in
-      let tail = item language of index ++ ascii "." in
+      let tail = item language of index ++ utf8 "." in
       let n : why .number ≡ number = row-number number reasons why (reason-row number (known .least) (known .most)) in
       let t : inLanguage language why ≡ textAt (number + lastSort) language = reason-text number (known .least) (known .most) language in
       let s : of .number ≡ sort = row-number sort sorts of (sort-row sort (known .listed)) in
       let w : inLanguage language of ≡ textAt sort language = sort-text sort (known .listed) language in
-      append-assoc (decimal (why .number)) (ascii ": " ++ inLanguage language why) tail
-      ∙ ap (λ (bs : List ℕ). decimal (why .number) ++ bs) (append-assoc (ascii ": ") (inLanguage language why) tail)
+      append-assoc (decimal (why .number)) (utf8 ": " ++ inLanguage language why) tail
+      ∙ ap (λ (bs : List ℕ). decimal (why .number) ++ bs) (append-assoc (utf8 ": ") (inLanguage language why) tail)
       ∙ rw (n, t, s, w) refl
 
   pub run-known : (room : ℕ) → sentenceRun number sort index language room ≡ fitted room (sentenceAt number sort index language)
@@ -93,7 +93,7 @@ module _ (number sort index language : ℕ) (known : Known number sort language)
   item-short =
       let w = row-short sorts 10 sort language sorts-short (omega (arith, known .listed, sorts-count)) in
       let e = ap length (sort-text sort (known .listed) language) in
-      pick-both (λ (bs : List ℕ). length bs ≤ 31) (eqb sort 0) [] (textAt sort language ++ (decimal index ++ ascii ")")) (omega arith)
+      pick-both (λ (bs : List ℕ). length bs ≤ 31) (eqb sort 0) [] (textAt sort language ++ (decimal index ++ utf8 ")")) (omega arith)
       (simp length-append (omega (arith, decimal-short index, marks)))
 
   -- the longest has 164 bytes: the reason of 18 in German, with an entry's index of 20 digits

@@ -7,9 +7,9 @@ use native.Mathlib.Omega.{arith}
 use lib.ListN.{drop, getD, length, length-append, take}
 use lib.Seq.{drop-at, take-append-seam, take-at}
 use Rattle.laws.proofs.Puts.{puts-start}
-use Rattle.laws.specs.Ascii.{ascii}
 use Rattle.laws.specs.Pick.{pick}
 use Rattle.laws.specs.Puts.{puts}
+use Rattle.laws.specs.Utf8.{utf8}
 use Rattle.sentence.specs.Sentence.{inLanguage}
 use Rattle.sentence.specs.Table.{Row, reasons, sorts}
 use Rattle.sentence.specs.inner.Texts.{noRow, rowCount, textAt}
@@ -17,14 +17,14 @@ use Rattle.sentence.specs.inner.Texts.{noRow, rowCount, textAt}
 -- the texts of each row in German, then in English
 unfoldable pub joined : List Row → List ℕ
 joined [] = []
-joined (r ∷ rows) = ascii (r .german) ++ (ascii (r .english) ++ joined rows)
+joined (r ∷ rows) = utf8 (r .german) ++ (utf8 (r .english) ++ joined rows)
 
 -- of each row where it begins, where its German text ends, and where its English text does
 unfoldable pub endsFrom : ℕ → List Row → List (List ℕ)
 endsFrom at [] = []
 endsFrom at (r ∷ rows) =
-    (at ∷ (at + length (ascii (r .german))) ∷ (at + length (ascii (r .german)) + length (ascii (r .english))) ∷ [])
-    ∷ endsFrom (at + length (ascii (r .german)) + length (ascii (r .english))) rows
+    (at ∷ (at + length (utf8 (r .german))) ∷ (at + length (utf8 (r .german)) + length (utf8 (r .english))) ∷ [])
+    ∷ endsFrom (at + length (utf8 (r .german)) + length (utf8 (r .english))) rows
 
 -- bytes that stand between two places of a list
 pub record Between (all : List ℕ) (start end : ℕ) (bs : List ℕ) : Type 0 where
@@ -47,15 +47,15 @@ pub row-part : (rows : List Row) (all before : List ℕ) (at k language : ℕ) �
     → Between all (getD (getD (endsFrom at rows) k []) language 0) (getD (getD (endsFrom at rows) k []) (language + 1) 0) (inLanguage language (getD rows k noRow))
 unfolding joined endsFrom inLanguage pick
 row-part [] all before at k language e h l m = absurd (not-suc-le-zero l)
-row-part (r ∷ rows) all before at zero zero e h l m = part-between all before (ascii (r .german)) (ascii (r .english) ++ joined rows) at e h
+row-part (r ∷ rows) all before at zero zero e h l m = part-between all before (utf8 (r .german)) (utf8 (r .english) ++ joined rows) at e h
 row-part (r ∷ rows) all before at zero (suc zero) e h l m =
-    let n : length (before ++ ascii (r .german)) ≡ length before + length (ascii (r .german)) = length-append before (ascii (r .german)) in
-    part-between all (before ++ ascii (r .german)) (ascii (r .english)) (joined rows) (at + length (ascii (r .german)))
-    (e ∙ sym (append-assoc before (ascii (r .german)) (ascii (r .english) ++ joined rows))) (omega arith)
+    let n : length (before ++ utf8 (r .german)) ≡ length before + length (utf8 (r .german)) = length-append before (utf8 (r .german)) in
+    part-between all (before ++ utf8 (r .german)) (utf8 (r .english)) (joined rows) (at + length (utf8 (r .german)))
+    (e ∙ sym (append-assoc before (utf8 (r .german)) (utf8 (r .english) ++ joined rows))) (omega arith)
 row-part (r ∷ rows) all before at zero (suc (suc n)) e h l m = absurd (omega arith)
 row-part (r ∷ rows) all before at (suc k) language e h l m =
-    let g = ascii (r .german) in
-    let f = ascii (r .english) in
+    let g = utf8 (r .german) in
+    let f = utf8 (r .english) in
     let n : length (before ++ (g ++ f)) ≡ length before + (length g + length f) = simp length-append in
     row-part rows all (before ++ (g ++ f)) (at + length g + length f) k language
     (e ∙ ap (λ (q : List ℕ). before ++ q) (sym (append-assoc g f (joined rows))) ∙ sym (append-assoc before (g ++ f) (joined rows))) (omega arith) (le-of-suc-le-suc l) m

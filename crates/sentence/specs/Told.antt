@@ -2,8 +2,8 @@
 use mathlib.Core.List.{List, [], _++_, _∷_}
 use Prim.Native.Nat.{ℕ}
 use lib.Dec.{eqb}
-use Rattle.laws.specs.Ascii.{ascii}
 use Rattle.laws.specs.Pick.{pick}
+use Rattle.laws.specs.Utf8.{utf8}
 use Rattle.numbers.specs.Decimal.{readDecimal}
 use Rattle.sentence.specs.Sentence.{head, inLanguage}
 use Rattle.sentence.specs.Table.{Row, reasons, sorts}
@@ -39,7 +39,7 @@ opening k = head (k .language) (k .row)
 
 -- what it goes on with: the word of a sort, or for sort 0, which has none, the end
 unfoldable pub word : Key → List ℕ
-word k = pick (eqb (k .row .number) 0) (ascii ".") (inLanguage (k .language) (k .row))
+word k = pick (eqb (k .row .number) 0) (utf8 ".") (inLanguage (k .language) (k .row))
 
 unfoldable pub readBack : List ℕ → Told
 readBack s =

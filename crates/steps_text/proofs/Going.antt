@@ -5,10 +5,10 @@ use Prim.Native.Nat.{_+_, _-_, _<_, _≤_, ℕ}
 use native.Mathlib.Omega.{arith}
 use lib.ListN.{length, length-append}
 use Rattle.laws.proofs.Puts.{puts-append}
-use Rattle.laws.specs.Ascii.{ascii, characterBytes}
 use Rattle.laws.specs.Out.{done, refused}
 use Rattle.laws.specs.Pick.{pick}
 use Rattle.laws.specs.Puts.{puts}
+use Rattle.laws.specs.Utf8.{characterBytes, utf8}
 use Rattle.laws.specs.declared.Refusal.{Refusal}
 use Rattle.image.specs.Format.{sizeOut}
 use Rattle.image.specs.declared.size.Size.{Size}
@@ -35,7 +35,7 @@ going-start s i k =
     (record { bounded = j .bounded; within = omega arith; rest = j .entries; left = ap (λ n. entriesAt n s (i .chain .first)) z ∙ j .read }, text-read s i k)
 
 pub heading-lines : (s lines : List ℕ) → textOf s ≡ heading ++ lines → 23 + length lines ≡ length (textOf s)
-unfolding heading ascii characterBytes pick
+unfolding heading utf8 characterBytes pick
 heading-lines s lines e = sym (ap length e ∙ length-append heading lines)
 
 -- an entry that is left stands there

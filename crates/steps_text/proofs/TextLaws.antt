@@ -9,10 +9,10 @@ use lib.Dec.{lit<}
 use Rattle.laws.proofs.Order.{apart, by-order, mul-below}
 use Rattle.laws.proofs.Out.{andThen-done, done-answers, done-same, fitted-room, fitted-short, not-done}
 use Rattle.laws.proofs.Puts.{puts-append}
-use Rattle.laws.specs.Ascii.{ascii, characterBytes}
 use Rattle.laws.specs.Out.{Out, andThen, answerOf, done, fitted, reason, refused, written}
 use Rattle.laws.specs.Pick.{pick}
 use Rattle.laws.specs.Puts.{puts}
+use Rattle.laws.specs.Utf8.{characterBytes, utf8}
 use Rattle.laws.specs.declared.Answer.the-variants.{Wrote}
 use Rattle.laws.specs.declared.Refusal.{Refusal}
 use Rattle.numbers.proofs.Decimal.{decimal-few, decimal-short}
@@ -76,7 +76,7 @@ length-line i kind z =
     omega (arith, length-field i 32, length-field kind 32, length-field (z .width) 32, length-field (z .height) 10)
 
 pub length-refusal : (e : Refusal) → length (refusalText e) ≡ length (decimal (e .number)) + 9
-unfolding refusalText refusedWord ascii characterBytes pick
+unfolding refusalText refusedWord utf8 characterBytes pick
 length-refusal e = omega (arith, length-append refusedWord (fieldText (e .number) 10), length-field (e .number) 10)
 
 pub length-refused : (i kind : ℕ) (e : Refusal) → length (refusedLine i kind e) ≡ length (decimal i) + length (decimal kind) + 2 + length (refusalText e)
@@ -192,7 +192,7 @@ steps-read s t e =
     (omega (arith, chain-few s (b .1) (c .0) (c .1), ap (λ x. length (x .entries)) q), rw (ap (λ x. x .size) q) at (judged-sound (a .0) (b .0) (d .0) (d .1)))
 
 pub text-short : (s : List ℕ) → length (textOf s) ≤ 11287
-unfolding textOf outText heading ascii characterBytes pick
+unfolding textOf outText heading utf8 characterBytes pick
 text-short s = go (stepsOf s) refl
   where
     go : (o : Out Steps) → stepsOf s ≡ o → length (outText o) ≤ 11287

@@ -2,8 +2,8 @@
 use mathlib.Core.List.{List, [], _++_, _∷_}
 use Prim.Native.Char.{code}
 use Prim.Native.Nat.{_+_, ℕ}
-use Rattle.laws.specs.Ascii.{ascii}
 use Rattle.laws.specs.Out.{Out, done, refused}
+use Rattle.laws.specs.Utf8.{utf8}
 use Rattle.laws.specs.declared.Refusal.{Refusal}
 use Rattle.numbers.specs.Decimal.{decimal}
 use Rattle.props.specs.Entry.{kindOf}
@@ -13,10 +13,10 @@ use Rattle.image.specs.declared.size.Size.{Size}
 use Rattle.steps_text.specs.Input.{Steps, stepsOf}
 
 unfoldable pub heading : List ℕ
-heading = ascii "step kind width height\n"
+heading = utf8 "step kind width height\n"
 
 unfoldable pub refusedWord : List ℕ
-refusedWord = ascii "refused "
+refusedWord = utf8 "refused "
 
 -- a number in decimal and what stands after it: a space or the end of the line
 unfoldable pub fieldText : ℕ → ℕ → List ℕ

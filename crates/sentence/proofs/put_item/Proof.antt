@@ -4,8 +4,8 @@ use native.Mathlib.Omega.{arith}
 use borrow.Author.Needs.{needs}
 use denote.Ref.{now}
 use Rattle.laws.proofs.Writing.{Writing, writing-begin, writing-fits, writing-last, writing-none, writing-run}
-use Rattle.laws.specs.Ascii.{ascii, characterBytes}
 use Rattle.laws.specs.Pick.{pick}
+use Rattle.laws.specs.Utf8.{characterBytes, utf8}
 use Rattle.numbers.specs.Decimal.{decimal}
 use Rattle.sentence.proofs.RunLaws.{item-none, item-some}
 use Rattle.sentence.proofs.put_item.Statement.{statement}
@@ -23,21 +23,21 @@ Stored start d i left = Writing (now (start .args .out)) (start .args .at) (item
 
 w1 : (c : tie.Else1)
     → let start = c .before .before in
-    Stored start (now (start .args .out)) (start .args .at) (textAt (start .args .sort) (start .args .language) ++ (decimal (start .args .index) ++ ascii ")"))
+    Stored start (now (start .args .out)) (start .args .at) (textAt (start .args .sort) (start .args .language) ++ (decimal (start .args .index) ++ utf8 ")"))
 w1 c =
     let start = c .before .before in
     writing-begin _ _ _ _ (item-some (start .args .sort) (start .args .index) (start .args .language) (c .if1 .left)) (start .pre .2)
 
 w2 : (c : tie.After-put-text)
     → let start = c .before .before .before .before in
-    Stored start (c .put-text .last .0) (c .put-text .result) (decimal (start .args .index) ++ ascii ")")
+    Stored start (c .put-text .last .0) (c .put-text .result) (decimal (start .args .index) ++ utf8 ")")
 w2 c =
     let start = c .before .before .before .before in
     writing-run (textAt (start .args .sort) (start .args .language)) (w1 (c .before .before)) (c .put-text .ensures .0) (c .put-text .ensures .1)
 
 w3 : (c : tie.After-write-long-decimal)
     → let start = c .before .before .before .before .before .before .before .before in
-    Stored start (c .write-long-decimal .last .0) (c .write-long-decimal .result) (ascii ")")
+    Stored start (c .write-long-decimal .last .0) (c .write-long-decimal .result) (utf8 ")")
 w3 c =
     let start = c .before .before .before .before .before .before .before .before in
     writing-run (decimal (start .args .index)) (w2 (c .before .before .before .before)) (c .write-long-decimal .ensures .0) (c .write-long-decimal .ensures .1)
@@ -59,14 +59,14 @@ slice-aggregate-copy-row : tie.Need-slice-aggregate-copy-row
 slice-aggregate-copy-row c = search needs
 
 copy-row-requires : tie.Need-copy-row-requires
-unfolding ascii characterBytes pick
+unfolding utf8 characterBytes pick
 copy-row-requires c κs = w3 (c .before .before .before .before) .room
 
 same-length : tie.Need-same-length
 same-length c = search needs
 
 returns-2 : tie.Need-returns-2
-unfolding ascii characterBytes pick
+unfolding utf8 characterBytes pick
 returns-2 c =
     writing-last (w3 (c .before .before .before .before .before .before .before)) (c .before .before .copy-row .ensures .0) (c .before .before .copy-row .ensures .1)
 

@@ -3,8 +3,8 @@ use mathlib.Core.List.{List, [], _++_}
 use Prim.Native.Nat.{_+_, _≤_, ℕ}
 use lib.Dec.{eqb}
 use lib.ListN.{getD}
-use Rattle.laws.specs.Ascii.{ascii}
 use Rattle.laws.specs.Pick.{pick}
+use Rattle.laws.specs.Utf8.{utf8}
 use Rattle.numbers.specs.Decimal.{decimal}
 use Rattle.sentence.specs.Sentence.{inLanguage}
 use Rattle.sentence.specs.Table.{Row, reasons, sorts}
@@ -27,11 +27,11 @@ unfoldable pub textAt : ℕ → ℕ → List ℕ
 textAt k language = inLanguage language (getD (sorts ++ reasons) k noRow)
 
 unfoldable pub itemAt : ℕ → ℕ → ℕ → List ℕ
-itemAt sort index language = pick (eqb sort 0) [] (textAt sort language ++ (decimal index ++ ascii ")"))
+itemAt sort index language = pick (eqb sort 0) [] (textAt sort language ++ (decimal index ++ utf8 ")"))
 
 unfoldable pub sentenceAt : ℕ → ℕ → ℕ → ℕ → List ℕ
 sentenceAt number sort index language =
-    decimal number ++ (ascii ": " ++ (textAt (number + lastSort) language ++ (itemAt sort index language ++ ascii ".")))
+    decimal number ++ (utf8 ": " ++ (textAt (number + lastSort) language ++ (itemAt sort index language ++ utf8 ".")))
 
 -- there is a sentence of them
 pub record Known (number sort language : ℕ) : Type 0 where

@@ -2,8 +2,8 @@ use native.Mathlib.Omega.{arith}
 use denote.Ref.{now}
 use borrow.Author.Needs.{needs}
 use Rattle.laws.proofs.Writing.{Writing, writing-last, writing-run, writing-start}
-use Rattle.laws.specs.Ascii.{ascii, characterBytes}
 use Rattle.laws.specs.Pick.{pick}
+use Rattle.laws.specs.Utf8.{characterBytes, utf8}
 use Rattle.steps_text.proofs.TextLaws.{length-refusal}
 use Rattle.steps_text.specs.Text.{fieldText, refusalText, refusedWord}
 use Rattle.steps_text.proofs.line.put_refusal.Statement.{statement}
@@ -17,7 +17,7 @@ w1 : (c : tie.After-copy-row)
     → let start = c .before .before .before .before in
     Writing (now (start .args .out)) (start .args .at) (refusalText (start .args .e)) (c .copy-row .last .0) (c .copy-row .result)
     (fieldText (start .args .e .number) 10)
-unfolding refusalText refusedWord ascii characterBytes pick
+unfolding refusalText refusedWord utf8 characterBytes pick
 w1 c = writing-run refusedWord (writing-start _ _ _ (c .before .before .before .before .pre)) (c .copy-row .ensures .0) (c .copy-row .ensures .1)
 
 slice-aggregate-copy-row : tie.Need-slice-aggregate-copy-row

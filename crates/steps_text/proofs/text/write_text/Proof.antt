@@ -5,8 +5,8 @@ use native.Mathlib.Omega.{arith}
 use denote.Ref.{now}
 use borrow.Author.Needs.{needs}
 use Rattle.laws.proofs.Writing.{Writing, writing-as, writing-done, writing-fits, writing-last, writing-run, writing-start}
-use Rattle.laws.specs.Ascii.{ascii, characterBytes}
 use Rattle.laws.specs.Pick.{pick}
+use Rattle.laws.specs.Utf8.{characterBytes, utf8}
 use Rattle.image.specs.Format.{sizeOut}
 use Rattle.steps_text.proofs.Going.{Going, going-end, going-next, going-refused, going-stands, going-start, heading-lines, text-stored}
 use Rattle.steps_text.specs.Text.{heading, lineText, linesFrom, refusedLine, textOf}
@@ -91,7 +91,7 @@ same-length c =
     c .before .before .put-refused-line .kept .0 ∙ loop .inv .3 .long ∙ copy-row .kept .0
 
 returns : tie.Need-returns Inv-loop μ-loop
-unfolding heading ascii characterBytes pick
+unfolding heading utf8 characterBytes pick
 returns c =
     let at-loop = c .before .before .before .before .before .before .before .before .before in
     let loop = at-loop .loop in
@@ -133,7 +133,7 @@ same-length-2 : tie.Need-same-length-2 Inv-loop μ-loop
 same-length-2 c = c .before .loop .inv .3 .long ∙ c .before .before .before .before .copy-row .kept .0
 
 returns-2 : tie.Need-returns-2 Inv-loop μ-loop
-unfolding heading ascii characterBytes pick
+unfolding heading utf8 characterBytes pick
 returns-2 c =
     let copy-row = c .before .before .before .before .copy-row in
     text-stored _ _ _ _ _ _ _ (c .before .loop .inv .1) (copy-row .ensures .0) (copy-row .ensures .1)

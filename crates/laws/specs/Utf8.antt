@@ -1,4 +1,4 @@
--- Texts in definitions: the bytes of a quoted text.
+-- Texts in definitions: the bytes of a quoted text, in UTF-8.
 use mathlib.Core.List.{List, [], _++_, _∷_}
 use Prim.Native.Char.{code}
 use Prim.Native.Nat.{_%_, _+_, _/_, ℕ}
@@ -12,6 +12,6 @@ unfoldable pub characterBytes : ℕ → List ℕ
 characterBytes c = pick (ltb c 128) (c ∷ []) ((192 + c / 64) ∷ (128 + c % 64) ∷ [])
 
 -- a text, character by character
-unfoldable pub ascii : String → List ℕ
-ascii S.[] = []
-ascii (S._∷_ c s) = characterBytes (code c) ++ ascii s
+unfoldable pub utf8 : String → List ℕ
+utf8 S.[] = []
+utf8 (S._∷_ c s) = characterBytes (code c) ++ utf8 s
