@@ -1,7 +1,7 @@
 -- Rows by a table and rows by a fixed step are the rows that the rule draws.
 use mathlib.Core.Bool.{Bool, _&&_, false, true}
-use mathlib.Core.List.{List, _++_}
-use mathlib.Core.Path.{_∙_, _≡_, ap, ap₂, refl, subst, sym}
+use mathlib.Core.List.{List}
+use mathlib.Core.Path.{_∙_, _≡_, ap, ap₂, subst, sym}
 use Prim.Native.Nat.{_%_, _*_, _+_, _-_, _/_, _<_, _^_, _≤_, ℕ}
 use native.Mathlib.Nat.{div-add-mod, div-le-self, le-trans, mul-assoc, mul-div-cancel, mul-zero}
 use native.Mathlib.Omega.{arith}
@@ -11,22 +11,17 @@ use lib.Pow.{pow-mono, pow-pos}
 use lib.Seq.{getD-set-other, getD-set-same}
 use borrow.Author.Tests.{eqb-true, le-ltb, lt-ltb}
 use Rattle.laws.proofs.Order.{and-true, by-equal, by-order, mul-below, pick-false, pick-true}
-use Rattle.laws.proofs.Span.{span-cong, span-step}
-use Rattle.laws.proofs.Writing.{Writing, writing-as, writing-fits, writing-run}
-use Rattle.laws.specs.Puts.{puts}
+use Rattle.laws.proofs.Span.{span-cong}
 use Rattle.laws.specs.Span.{span}
 use Rattle.laws.specs.Pick.{pick}
 use Rattle.image.specs.Format.{topAt}
-use Rattle.planes.proofs.ByteLaws.{length-sampleBytes, length-samplesOf}
+use Rattle.planes.proofs.ByteLaws.{length-samplesOf}
 use Rattle.planes.specs.Bytes.{sampleAt, sampleBytes, sampleIn, samplesOf}
 use Rattle.turns.specs.inner.Stepped.{SteppedFits, stepTo, stepped}
-use Rattle.sampling.proofs.DepthLaws.{level-mono, level-top}
-use Rattle.sampling.proofs.FootLaws.{min-le}
-use Rattle.sampling.proofs.RedrawLaws.{length-rasterRow}
-use Rattle.sampling.proofs.PlaceLaws.{level-other, level-same, near-in, near-same}
+use Rattle.sampling.proofs.DepthLaws.{level-above}
+use Rattle.sampling.proofs.PlaceLaws.{level-same, near-in, near-same}
 use Rattle.sampling.specs.Depth.{levelOf}
 use Rattle.sampling.specs.Nearest.{nearPlace}
-use Rattle.sampling.specs.Rounded.{rounded}
 use Rattle.sampling.specs.declared.area.Foot.{Foot}
 use Rattle.sampling.specs.declared.depth.Depths.{Depths}
 use Rattle.sampling.specs.declared.raster.Axis.{Axis}
@@ -40,20 +35,12 @@ use Rattle.sampling.specs.inner.Redraw.{RasterFits, RuleFits, RuleRowFits, hasS
 
 -- ---- a table
 
--- a sample above the old top becomes the new one
-above-top : (k : Depths) → DepthsFit k → (k .old ≡ k .new → ⊥) → (v : ℕ) → topAt (k .old) ≤ v → topAt (k .new) ≡ levelOf (k .old) (k .new) v
-above-top k f h v l =
-    let a = level-mono (k .old) (k .new) (f .oldLow) (f .oldHigh) (topAt (k .old)) v l in
-    let t = level-top (k .old) (k .new) (f .oldLow) (f .oldHigh) in
-    let o = level-other (k .old) (k .new) v h in
-    omega (arith, a, t, o, min-le (rounded (v * topAt (k .new)) (topAt (k .old))) (topAt (k .new)) .1)
-
 look-level : (t : List ℕ) (k : Depths) (n top : ℕ) → DepthsFit k → (k .old ≡ k .new → ⊥) → Levels t k n → n ≡ topAt (k .old) + 1 → top ≡ topAt (k .new) → (v : ℕ) → lookOf t n top v ≡ levelOf (k .old) (k .new) v
 unfolding lookOf Levels
 look-level t k n top f h g e q v =
     by-order v n
     (λ l. pick-true _ _ _ (lt-ltb v n l) ∙ g v l)
-    (λ l. pick-false _ _ _ (le-ltb v n l) ∙ q ∙ above-top k f h v (omega (arith, l, e)))
+    (λ l. pick-false _ _ _ (le-ltb v n l) ∙ q ∙ level-above k f h v (omega (arith, l, e)))
 
 pub looked-row : (d : List ℕ) (r : Raster) (k : Depths) (t : List ℕ) (n top y : ℕ) → RasterFits d r → DepthsFit k → HasTable r k → Levels t k n → n ≡ topAt (k .old) + 1 → top ≡ topAt (k .new)
     → lookedRow d r t n top y ≡ rasterRow d r (rowOf (Rule.Near k) (r .down) y)
@@ -141,19 +128,6 @@ levels-all t k v n g l u h = g u (omega (arith, h, l))
 abbrev pub lookedItem : List ℕ → ℕ → ℕ → ℕ → List ℕ → ℕ → ℕ → ℕ → ℕ → List ℕ
 lookedItem d bytes stride to t n top y x = sampleBytes to (lookOf t n top (sampleIn d bytes stride x y))
 
-module _ (b : ℕ) (f : ℕ → ℕ) (columns : ℕ) (some : 1 ≤ b) (few : b ≤ 2) {d₀ all d : List ℕ} {i₀ i x : ℕ} (w : Writing d₀ i₀ all d i (span (λ u. sampleBytes b (f u)) x columns)) (l : x < columns) where
-  long-item : length (sampleBytes b (f x)) ≡ b
-  long-item = length-sampleBytes b (f x) some few
-
-  parted : Writing d₀ i₀ all d i (sampleBytes b (f x) ++ span (λ u. sampleBytes b (f u)) (x + 1) columns)
-  parted = writing-as w (span-step (λ u. sampleBytes b (f u)) x columns l)
-
-  pub samples-room : i + b ≤ length d
-  samples-room = rw (← long-item) (writing-fits (sampleBytes b (f x)) _ parted)
-
-  pub samples-more : (v i′ : ℕ) (d′ : List ℕ) → i′ ≡ i + b → d′ ≡ puts d i (sampleBytes b v) → v ≡ f x → Writing d₀ i₀ all d′ i′ (span (λ u. sampleBytes b (f u)) (x + 1) columns)
-  samples-more v i′ d′ e q z = writing-run (sampleBytes b (f x)) parted (e ∙ ap (λ (k : ℕ). i + k) (sym long-item)) (q ∙ ap (λ (k : ℕ). puts d i (sampleBytes b k)) z)
-
 pub looked-inside : (d : List ℕ) (r : Raster) (x y : ℕ) → RasterFits d r → r .across .from ≡ r .across .to → y < r .down .from → x < r .across .to → (1 ≤ r .bytes) × (r .bytes ≤ 2) × (y * r .stride + x * r .bytes + r .bytes ≤ length d)
 looked-inside d r x y f e h l = (f .positive, f .bounded, f .inside x y (omega (arith, e, l)) h)
 
@@ -165,24 +139,6 @@ near-fits k rule across down e f = subst (λ (z : Rule). RuleFits z across down)
 
 pub table-small : (k : Depths) → k .old ≤ 12 → topAt (k .old) + 1 ≤ 4096
 table-small k h = omega (arith, pow-mono h, pow-pos (k .old))
-
-module _ (d : List ℕ) (r : Raster) (f : RasterFits d r) {d₀ all e : List ℕ} {i₀ i y : ℕ}
-    (w : Writing d₀ i₀ all e i (span (λ v. rasterRow d r (rowOf (r .rule) (r .down) v)) y (r .down .to))) (l : y < r .down .to) where
-  abbrev rowY : List ℕ
-  rowY = rasterRow d r (rowOf (r .rule) (r .down) y)
-
-  long-row : length rowY ≡ r .across .to * r .«to_bytes»
-  long-row = length-rasterRow d r _ f
-
-  parted-rows : Writing d₀ i₀ all e i (rowY ++ span (λ v. rasterRow d r (rowOf (r .rule) (r .down) v)) (y + 1) (r .down .to))
-  parted-rows = writing-as w (span-step (λ v. rasterRow d r (rowOf (r .rule) (r .down) v)) y (r .down .to) l)
-
-  pub raster-room : i + r .across .to * r .«to_bytes» ≤ length e
-  raster-room = rw (← long-row) (writing-fits rowY _ parted-rows)
-
-  pub raster-more : (bs : List ℕ) (i′ : ℕ) (e′ : List ℕ) → i′ ≡ i + r .across .to * r .«to_bytes» → e′ ≡ puts e i bs → bs ≡ rowY
-      → Writing d₀ i₀ all e′ i′ (span (λ v. rasterRow d r (rowOf (r .rule) (r .down) v)) (y + 1) (r .down .to))
-  raster-more bs i′ e′ p q z = writing-run rowY parted-rows (p ∙ ap (λ (k : ℕ). i + k) (sym long-row)) (q ∙ ap (puts e i) z)
 
 pub near-row : (k : NearRow) (row : RowRule) (across : Axis) (rows : ℕ) → row ≡ RowRule.Near k → RuleRowFits row across rows → RuleRowFits (RowRule.Near k) across rows
 near-row k row across rows e f = subst (λ (z : RowRule). RuleRowFits z across rows) e f

@@ -10,6 +10,8 @@ use Rattle.sampling.proofs.FootLaws.{min-case, min-le, min-left}
 use Rattle.sampling.proofs.PlaceLaws.{level-other, level-same}
 use Rattle.sampling.specs.Depth.{levelOf}
 use Rattle.sampling.specs.Rounded.{rounded}
+use Rattle.sampling.specs.declared.depth.Depths.{Depths}
+use Rattle.sampling.specs.inner.Depths.{DepthsFit}
 
 div-mono : (n m d : ℕ) → 0 < d → n ≤ m → n / d ≤ m / d
 div-mono n m d z h = le-div-iff-mul-le z .1 (le-trans (div-mul-le-self n d) h)
@@ -52,3 +54,11 @@ module _ (old new : ℕ) (low : 8 ≤ old) (high : old ≤ 16) where
       by-equal old new
       (λ e. rw (← e) (rw (level-same old v, level-same old w) h))
       (λ e. rw (level-other old new v e, level-other old new w e) (min-mono _ _ (topAt new) (rises (topAt new) (topAt old) some v w h)))
+
+-- a sample above the old top becomes the new one
+pub level-above : (k : Depths) → DepthsFit k → (k .old ≡ k .new → ⊥) → (v : ℕ) → topAt (k .old) ≤ v → topAt (k .new) ≡ levelOf (k .old) (k .new) v
+level-above k f h v l =
+    let a = level-mono (k .old) (k .new) (f .oldLow) (f .oldHigh) (topAt (k .old)) v l in
+    let t = level-top (k .old) (k .new) (f .oldLow) (f .oldHigh) in
+    let o = level-other (k .old) (k .new) v h in
+    omega (arith, a, t, o, min-le (rounded (v * topAt (k .new)) (topAt (k .old))) (topAt (k .new)) .1)

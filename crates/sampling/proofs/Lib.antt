@@ -2,6 +2,7 @@ pub mod FootLaws
 pub mod PlaceLaws
 pub mod DepthLaws
 pub mod RedrawLaws
+pub mod RowLaws
 pub mod AgreeLaws
 pub mod SmallLaws
 pub mod SameLaws

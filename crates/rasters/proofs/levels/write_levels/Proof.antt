@@ -7,7 +7,8 @@ use borrow.Author.Needs.{needs}
 use Rattle.laws.proofs.Span.{span-end}
 use Rattle.laws.proofs.Writing.{Writing, writing-as, writing-done, writing-start}
 use Rattle.laws.specs.Span.{span}
-use Rattle.rasters.proofs.LevelLaws.{looked-row, raster-more, raster-room, table-small}
+use Rattle.sampling.proofs.RowLaws.{raster-more, raster-room}
+use Rattle.rasters.proofs.LevelLaws.{looked-row, table-small}
 use Rattle.sampling.proofs.RedrawLaws.{length-rasterBytes}
 use Rattle.rasters.proofs.levels.write_levels.Statement.{statement}
 use Rattle.sampling.specs.inner.Redraw.{rasterBytes, rasterRow, rowOf}

@@ -6,7 +6,8 @@ use Rattle.laws.proofs.Span.{span-end}
 use Rattle.laws.proofs.Writing.{Writing, writing-as, writing-done, writing-start}
 use Rattle.laws.specs.Span.{span}
 use Rattle.planes.specs.Bytes.{sampleIn, samplesOf}
-use Rattle.rasters.proofs.LevelLaws.{length-lookedRow, looked-inside, lookedItem, samples-more, samples-room}
+use Rattle.sampling.proofs.RowLaws.{samples-more, samples-room}
+use Rattle.rasters.proofs.LevelLaws.{length-lookedRow, looked-inside, lookedItem}
 use Rattle.rasters.proofs.levels.write_looked.Statement.{statement}
 use Rattle.rasters.specs.inner.Levels.{lookOf, lookedRow}
 use Rattle.rasters.proofs.levels.write_looked.Tie as tie
