@@ -30,6 +30,7 @@ use Rattle.sampling.specs.declared.raster.Raster.{Raster}
 use Rattle.sampling.specs.declared.raster.RowRule.{RowRule}
 use Rattle.sampling.specs.declared.raster.Rule.{Rule}
 use Rattle.sampling.specs.inner.Depths.{DepthsFit}
+use Rattle.ten_to_eight.specs.inner.Table.{tenToEight}
 use Rattle.rasters.specs.inner.Levels.{HasTable, Levels, lookOf, lookedRow}
 use Rattle.sampling.specs.inner.Redraw.{RasterFits, RuleFits, RuleRowFits, hasSteps, rasterAt, rasterRow, rowAt, rowOf}
 
@@ -134,6 +135,12 @@ looked-inside d r x y f e h l = (f .positive, f .bounded, f .inside x y (omega (
 pub near-fits : (k : Depths) (rule : Rule) (across down : Axis) → rule ≡ Rule.Near k → RuleFits rule across down → DepthsFit k
 unfolding RuleFits
 near-fits k rule across down e f = subst (λ (z : Rule). RuleFits z across down) e f
+
+-- the rule for planes that go from depth 10 to 8
+pub ten-rule : (k : Depths) (rule : Rule) (b : Bool) → rule ≡ Rule.Near k → b ≡ (eqb (k .old) 10 && eqb (k .new) 8) → b ≡ true → rule ≡ Rule.Near tenToEight
+ten-rule k rule b e h t =
+    let a = and-true (eqb (k .old) 10) (eqb (k .new) 8) (sym h ∙ t) in
+    e ∙ ap₂ (λ (old new : ℕ). Rule.Near (record { old = old; new = new })) (eqb-true _ _ (a .0)) (eqb-true _ _ (a .1))
 
 -- ---- the rows
 

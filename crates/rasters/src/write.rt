@@ -124,6 +124,9 @@ pub fn write_rows(out: &mut [u8], at: usize, plane: &[u8], r: Raster) -> usize
     let rule = r.rule;
     match rule {
         Rule::Near(depths) => {
+            if image::both(depths.old == 10, depths.new == 8) {
+                return ten_to_eight::write_rows(out, at, plane, r);
+            }
             if crate::levels::has_table(r, depths) {
                 return crate::levels::write_levels(out, at, plane, r, depths);
             }
