@@ -6,13 +6,15 @@ use model::Work;
 /// A call of the composer, on a lent output.
 pub type Call = Box<dyn Fn(&mut [u8])>;
 
-/// One piece of work: the composer's call on a lent output of `room` bytes, and the same as the
-/// crate `compose` and the published Rust do it.
+/// One piece of work: the composer's call on a lent output of `room` bytes, and the same as an
+/// earlier library, the crate `compose` and the published Rust do it.
 pub struct Case {
     pub room: usize,
     /// How many of the table's unit it has.
     pub units: usize,
     pub call: Call,
+    /// The same call of an earlier library, where one is open that has it.
+    pub before: Option<Call>,
     pub work: Work,
 }
 

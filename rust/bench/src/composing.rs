@@ -73,6 +73,7 @@ fn grid_case(side: u32, across: u32) -> Case {
         call: Box::new(move |output| {
             answered(Linked.grid(&body, &tray, output));
         }),
+        before: None,
         work: Work::Grid(grid, tiles),
     }
 }
@@ -106,6 +107,7 @@ fn scene_case(side: u32, entries: Vec<Entry>) -> Case {
             };
             answered(Linked.grid_scene(&parts, output, &mut spare.borrow_mut()));
         }),
+        before: None,
         work: Work::Scene(grid, tiles, entries),
     }
 }
@@ -168,6 +170,7 @@ fn session_case(side: u32) -> Case {
             }
             answered(Linked.canvas_call(&expected::Call::Finish, &mut state, buffer));
         }),
+        before: None,
         work: Work::Session(grid, tiles),
     }
 }
@@ -245,6 +248,7 @@ impl Laid {
             call: Box::new(move |output| {
                 answered(Linked.overlay(&body, &tray, &list, None, output));
             }),
+            before: None,
             work: Work::Overlay(overlay, inputs, None),
         }
     }

@@ -1,8 +1,10 @@
-//! `bench [--rounds N] [--table] [--beside FILE] [TEXT..]`: times the composer, the published Rust
-//! and a plain copy of as many bytes, on the same pictures, in turns. With texts, only the tables
-//! whose title and the rows whose name has one of them. `--table` prints the tables that
-//! docs/PERFORMANCE.md keeps; `--beside` puts the ratios of the tables in a file beside them.
+//! `bench [--rounds N] [--table] [--beside FILE] [--before LIBRARY] [TEXT..]`: times the composer,
+//! the published Rust and a plain copy of as many bytes, on the same pictures, in turns. With texts,
+//! only the tables whose title and the rows whose name has one of them. `--table` prints the tables
+//! that docs/PERFORMANCE.md keeps; `--beside` puts the ratios of the tables in a file beside them;
+//! `--before` times the calls of an earlier library in the same turns.
 
+mod before;
 mod case;
 mod clock;
 mod composing;
@@ -40,6 +42,7 @@ impl Request {
             rounds: None,
             layout: Layout {
                 markdown: false,
+                before: false,
                 earlier: None,
             },
             texts: Vec::new(),
@@ -57,6 +60,10 @@ impl Request {
                     let text = fs::read_to_string(&file);
                     let text = text.map_err(|error| format!("{file}: {error}"))?;
                     request.layout.earlier = Some(Earlier::read(&text));
+                }
+                "--before" => {
+                    before::open(&words.next().ok_or("--before takes a library")?)?;
+                    request.layout.before = true;
                 }
                 option if option.starts_with('-') => {
                     return Err(format!("{option} is no option"));
@@ -99,12 +106,16 @@ impl Output {
     }
 }
 
-/// Times a case: the call, into an output that is lent again and again; the crate `compose` on frames
-/// over records, and on frames of planes; the published Rust; a copy of as many bytes into that same
-/// output.
+/// Times a case: the call, into an output that is lent again and again, and the same call of an
+/// earlier library; the crate `compose` on frames over records, and on frames of planes; the
+/// published Rust; a copy of as many bytes into that same output.
 fn time(case: Case, rounds: Option<usize>) -> Times {
     let output = RefCell::new(Output::new(case.room));
     let mut call = || (case.call)(output.borrow_mut().lend());
+    let lent = &output;
+    let mut before = case
+        .before
+        .map(|call| move || call(lent.borrow_mut().lend()));
     let planes = frames::ready::<HeifFrame>(case.work.clone());
     let mut planes = || drop(black_box(planes()));
     let records = frames::ready::<RecordFrame>(case.work.clone());
@@ -113,16 +124,18 @@ fn time(case: Case, rounds: Option<usize>) -> Times {
     let mut theirs = theirs.map(|run| move || run());
     let from = vec![1u8; case.room];
     let mut copy = || output.borrow_mut().lend().copy_from_slice(black_box(&from));
-    let jobs: [Option<Job>; 5] = [
+    let jobs: [Option<Job>; 6] = [
         Some(&mut call),
+        before.as_mut().map(|call| call as Job),
         Some(&mut records),
         Some(&mut planes),
         theirs.as_mut().map(|run| run as Job),
         (case.room > 0).then_some(&mut copy),
     ];
-    let [call, records, planes, theirs, copy] = least(jobs, rounds);
+    let [call, before, records, planes, theirs, copy] = least(jobs, rounds);
     Times {
         call,
+        before,
         records,
         planes,
         theirs,
@@ -148,7 +161,9 @@ fn main() -> ExitCode {
         Ok(request) => request,
         Err(complaint) => {
             eprintln!("bench: {complaint}");
-            eprintln!("usage: bench [--rounds N] [--table] [--beside FILE] [TEXT..]");
+            eprintln!(
+                "usage: bench [--rounds N] [--table] [--beside FILE] [--before LIBRARY] [TEXT..]"
+            );
             return ExitCode::from(2);
         }
     };

@@ -1,6 +1,7 @@
 //! Operations on one picture.
 
-use crate::case::{Case, Row, answered};
+use crate::before;
+use crate::case::{Call, Case, Row, answered};
 use differential::generate::{self, Form};
 use differential::ours::{Composer, Linked};
 use differential::rng::Rng;
@@ -34,6 +35,17 @@ fn depth_after(depth: u8, operation: &Operation) -> u8 {
     }
 }
 
+/// An operation as the earlier library does it, where one is open that has it.
+fn before(record: &[u8], operation: &Operation) -> Option<Call> {
+    let (library, record) = (before::opened()?, record.to_vec());
+    match *operation {
+        Operation::Depth(depth) => Some(Box::new(move |output| {
+            library.rescale_depth(&record, depth, output);
+        })),
+        _ => None,
+    }
+}
+
 fn case(frame: &Frame, operation: Operation) -> Case {
     let record = frame.record();
     // Promotion at most doubles it, and twice the sides is four times the picture.
@@ -42,6 +54,7 @@ fn case(frame: &Frame, operation: Operation) -> Case {
     Case {
         room,
         units: samples(room, depth_after(frame.depth, &operation)),
+        before: before(&record, &operation),
         call: Box::new(move |output| {
             answered(Linked.operation(&record, &operation, output));
         }),
@@ -54,6 +67,40 @@ pub fn operation(name: &str, depth: u8, side: u32, operation: Operation) -> Row 
     Row::new(named(name, depth, side), move || {
         case(&picture(depth, side), operation)
     })
+}
+
+fn attach_case(side: u32, alpha_side: u32) -> Case {
+    let form = Form {
+        chroma: Chroma::Mono,
+        depth: 10,
+        alpha: 0,
+    };
+    let master = picture(8, side);
+    let alpha = generate::even(&mut Rng::new(10), (alpha_side, alpha_side), form);
+    let records = [master.record(), alpha.record()];
+    let mut ample = vec![0; 2 * records[0].len() + 64];
+    let room = answered(Linked.attach(&records[0], &records[1], &mut ample));
+    let before = before::opened().map(|library| -> Call {
+        let [master, alpha] = records.clone();
+        Box::new(move |output| {
+            library.attach_alpha(&master, &alpha, output);
+        })
+    });
+    Case {
+        room,
+        units: samples(room, 8),
+        call: Box::new(move |output| {
+            answered(Linked.attach(&records[0], &records[1], output));
+        }),
+        before,
+        work: Work::Attach(master, alpha),
+    }
+}
+
+/// An alpha plane of 10 bits for a picture of 8, its side given.
+pub fn attach(side: u32, alpha_side: u32) -> Row {
+    let name = format!("attach, alpha of 10 bits, {alpha_side} × {alpha_side}");
+    Row::new(named(&name, 8, side), move || attach_case(side, alpha_side))
 }
 
 /// The half of a picture's sides from an edge on, along both.

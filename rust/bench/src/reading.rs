@@ -18,6 +18,7 @@ fn one(call: impl Fn() + 'static, work: Work) -> Case {
         room: 0,
         units: 1,
         call: Box::new(move |_| call()),
+        before: None,
         work,
     }
 }
@@ -89,6 +90,7 @@ pub fn overlay_body(inputs: u32) -> Row {
             room: 32 * inputs as usize,
             units: inputs as usize,
             call: Box::new(move |_| call()),
+            before: None,
             work: Work::OverlayBody(body, inputs as usize),
         }
     })

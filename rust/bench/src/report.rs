@@ -7,6 +7,8 @@ use std::collections::HashMap;
 /// The times of a row in seconds; none where a side is not there.
 pub struct Times {
     pub call: Option<f64>,
+    /// The call of an earlier library.
+    pub before: Option<f64>,
     /// The crate on frames over records, and on frames of planes.
     pub records: Option<f64>,
     pub planes: Option<f64>,
@@ -40,9 +42,13 @@ fn ratio(ours: Option<f64>, theirs: Option<f64>) -> String {
     }
 }
 
+/// A time as it is told.
+fn time(time: Option<f64>) -> String {
+    time.map_or("–".into(), span)
+}
+
 impl Times {
     fn cells(&self) -> Vec<String> {
-        let time = |time: Option<f64>| time.map_or("–".into(), span);
         let each = self.call.map(|call| call / self.units as f64 * 1e9);
         vec![
             time(self.call),
@@ -56,6 +62,11 @@ impl Times {
             ratio(self.planes, self.theirs),
             each.map_or("–".into(), number),
         ]
+    }
+
+    /// What an earlier library adds.
+    fn cells_before(&self) -> [String; 2] {
+        [time(self.before), ratio(self.call, self.before)]
     }
 }
 
@@ -92,9 +103,11 @@ impl Earlier {
     }
 }
 
-/// How lines look, and an earlier run whose ratios stand beside.
+/// How lines look, whether an earlier library is timed too, and an earlier run whose ratios stand
+/// beside.
 pub struct Layout {
     pub markdown: bool,
+    pub before: bool,
     pub earlier: Option<Earlier>,
 }
 
@@ -113,6 +126,9 @@ impl Layout {
         let mut names: Vec<String> = times.map(String::from).into();
         names.extend(RATIOS.map(String::from));
         names.push(format!("ns / {}", table.unit));
+        if self.before {
+            names.extend(["before", "call / before"].map(String::from));
+        }
         if self.earlier.is_some() {
             names.extend(RATIOS.map(|name| format!("{name} before")));
         }
@@ -126,6 +142,9 @@ impl Layout {
 
     pub fn row(&self, name: &str, times: &Times) -> String {
         let mut cells = times.cells();
+        if self.before {
+            cells.extend(times.cells_before());
+        }
         if let Some(earlier) = &self.earlier {
             cells.extend(earlier.ratios(name));
         }
@@ -140,6 +159,7 @@ mod tests {
 
     const TIMES: Times = Times {
         call: Some(0.003),
+        before: Some(0.006),
         records: Some(0.0015),
         planes: Some(0.002),
         theirs: Some(0.001),
@@ -147,9 +167,10 @@ mod tests {
         units: 1_000,
     };
 
-    fn markdown(earlier: Option<Earlier>) -> String {
+    fn markdown(before: bool, earlier: Option<Earlier>) -> String {
         let layout = Layout {
             markdown: true,
+            before,
             earlier,
         };
         let table = Table {
@@ -162,11 +183,11 @@ mod tests {
 
     #[test]
     fn a_table_is_read_back() {
-        let first = markdown(None);
+        let first = markdown(false, None);
         let row =
             "| name | 3.00 ms | 1.50 ms | 2.00 ms | 1.00 ms | – | 3.00 | – | 1.50 | 2.00 | 3000 |";
         assert_eq!(first.lines().last(), Some(row));
-        let second = markdown(Some(Earlier::read(&first)));
+        let second = markdown(false, Some(Earlier::read(&first)));
         assert!(
             second.ends_with("| 3000 | 3.00 | – | 1.50 | 2.00 |"),
             "{second}"
@@ -174,13 +195,20 @@ mod tests {
     }
 
     #[test]
+    fn an_earlier_library_has_columns_of_its_own() {
+        let beside = markdown(true, None);
+        assert!(beside.contains("| ns / sample | before | call / before |"));
+        assert!(beside.ends_with("| 3000 | 6.00 ms | 0.50 |"), "{beside}");
+    }
+
+    #[test]
     fn what_the_earlier_run_had_not_has_dashes() {
-        let other = markdown(None).replace("| name |", "| other |");
-        let beside = markdown(Some(Earlier::read(&other)));
+        let other = markdown(false, None).replace("| name |", "| other |");
+        let beside = markdown(false, Some(Earlier::read(&other)));
         assert!(beside.ends_with("| 3000 | – | – | – | – |"), "{beside}");
         // A column that the earlier run had not.
-        let earlier = markdown(None).replace("records / Rust", "crate / Rust");
-        let beside = markdown(Some(Earlier::read(&earlier)));
+        let earlier = markdown(false, None).replace("records / Rust", "crate / Rust");
+        let beside = markdown(false, Some(Earlier::read(&earlier)));
         assert!(
             beside.ends_with("| 3000 | 3.00 | – | – | 2.00 |"),
             "{beside}"

@@ -2,7 +2,7 @@
 
 use crate::case::{Row, Table};
 use crate::composing::{Laid, grid, mirrors, overlay, overlay_by_inputs, scene, session, turns};
-use crate::operations::{every, operation, scaled};
+use crate::operations::{attach, every, operation, scaled};
 use crate::reading::{fill, grid_body, overlay_body, record, resolve, scale};
 use model::{Colour, Operation};
 
@@ -76,6 +76,18 @@ fn sizes(side: u32) -> Vec<Row> {
     rows
 }
 
+/// From depth 10 to 8: pictures of few samples and of many, and alpha planes of 10 bits for a picture
+/// of 8, of its size and of half of it (document 02, A3).
+fn ten_to_eight(side: u32) -> Vec<Row> {
+    let sides = [side / 128, side / 32, side / 8, side].map(|side| side.max(4));
+    let to_eight = Operation::Depth(8);
+    let mut rows: Vec<Row> = sides
+        .map(|side| operation("depth 10 to 8", 10, side, to_eight))
+        .into();
+    rows.extend([side, side / 2].map(|alpha_side| attach(side, alpha_side)));
+    rows
+}
+
 /// Inputs of two by two pixels, more and more.
 fn inputs(side: u32) -> Vec<Row> {
     let counts = [1, 16, 256, 4_096, 32_768, 65_536];
@@ -106,6 +118,7 @@ pub fn all(side: u32) -> Vec<Table> {
         table("Composing", "sample", composing(side)),
         table("Reading", "answer", reading(side)),
         table("Growth with the picture", "sample", sizes(side)),
+        table("Depth 10 to 8", "sample", ten_to_eight(side)),
         table("Growth with the inputs", "input", inputs(side)),
         table("Growth with the tiles", "tile", tiles(side)),
         table("Growth with the chain", "entry", chains(side / 2)),
@@ -126,6 +139,7 @@ mod tests {
             let case = (row.make)();
             let mut output = vec![0; case.room];
             (case.call)(&mut output);
+            assert!(case.before.is_none(), "no earlier library is open");
             let planes = frames::ready::<HeifFrame>(case.work.clone())();
             let over = frames::ready::<RecordFrame>(case.work.clone())();
             assert_eq!(planes.is_some(), over.is_some(), "{}", row.name);

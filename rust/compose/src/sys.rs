@@ -1,5 +1,6 @@
 //! The library's C functions (`crates/capi`, which has their contracts), each as a safe function
-//! on slices. The only unsafe code of the workspace is here, but for the clock of `bench`.
+//! on slices. The only unsafe code of the workspace is here, but for the clock of `bench` and the
+//! earlier library that it can open.
 
 #![allow(unsafe_code)]
 #![allow(clippy::too_many_arguments)]
