@@ -1,5 +1,5 @@
--- Whether one of many passes a test, and which is the first.
-use mathlib.Core.Bool.{Bool, _||_, false}
+-- Whether one of many passes a test, which is the first, and whether all do.
+use mathlib.Core.Bool.{Bool, _&&_, _||_, false, true}
 use mathlib.Core.List.{List, [], _∷_}
 use Prim.Native.Nat.{_+_, suc, zero, ℕ}
 use Rattle.laws.specs.Pick.{pick}
@@ -18,3 +18,8 @@ firstAt t (a ∷ rest) = pick (t a) 0 (1 + firstAt t rest)
 unfoldable pub anyBelow : ℕ → (ℕ → Bool) → Bool
 anyBelow zero t = false
 anyBelow (suc n) t = t n || anyBelow n t
+
+-- every number below n
+unfoldable pub allBelow : ℕ → (ℕ → Bool) → Bool
+allBelow zero t = true
+allBelow (suc n) t = t n && allBelow n t

@@ -10,7 +10,7 @@ use Rattle.laws.specs.declared.Refusal.{Refusal}
 use Rattle.laws.specs.Any.{any, firstAt}
 use Rattle.laws.specs.Pick.{pick}
 
--- the refusal of document 01's number, of no item
+-- the refusal of a number, of no item
 abbrev pub reason : ℕ → Refusal
 reason n = record { number = n; sort = 0; index = 0 }
 

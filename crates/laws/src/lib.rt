@@ -2,8 +2,8 @@
 ghost use mathlib.Core.Path.{_≡_};
 ghost use Rattle.laws.specs.Out.{ownReason};
 
-// Why a call refuses: document 01's number, and where it is an item's own refusal (document 02, A2), the list that the item stands in
-// and its index there, from 0. Sort 0: of no item, and then the index is 0.
+// Why a call refuses: its number, document 01's or, from 19 on, document 02's; and where it is an item's own refusal (document 02, A2), the
+// list that the item stands in and its index there, from 0. Sort 0: of no item, and then the index is 0.
 pub struct Refusal {
     pub number: u8,
     pub sort: u8,
@@ -121,6 +121,12 @@ impl Refusal {
     // No point answer.
     pub const POINT: Refusal = Refusal {
         number: 18,
+        sort: 0,
+        index: 0,
+    };
+    // Rows or columns of tiles outside 1 to 256 (document 02, A4).
+    pub const TILING: Refusal = Refusal {
+        number: 19,
         sort: 0,
         index: 0,
     };

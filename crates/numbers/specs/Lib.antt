@@ -1,3 +1,4 @@
 pub mod Number
 pub mod Field
 pub mod Decimal
+pub mod inner

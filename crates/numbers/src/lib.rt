@@ -4,7 +4,8 @@ ghost use Prim.Native.Nat.{_+_, _-_, _<_, _≤_, _^_, max, min};
 ghost use lib.ListN.{length};
 ghost use Rattle.laws.specs.Puts.{puts};
 ghost use Rattle.numbers.specs.Number.{readNumber, numberBytes};
-ghost use Rattle.numbers.specs.Field.{fieldAt, signedOf, offsetOf};
+ghost use Rattle.numbers.specs.Field.{bigEndianBytes, fieldAt, offsetOf, signedOf};
+ghost use Rattle.numbers.specs.inner.Length.{FieldLength};
 ghost use Rattle.numbers.specs.Decimal.{decimal};
 
 // A house number (document 01, "What is handed in"): one to five bytes of seven bits each, the lowest group first, the top
@@ -130,6 +131,23 @@ impl Cursor {
             next: Cursor { at: at + bytes },
         }
     }
+}
+
+// Writes the lowest two or four bytes of a number at `at`, the highest of them first, and returns the place past them.
+pub fn write_field(out: &mut [u8], at: usize, bytes: usize, value: u32) -> usize
+    requires { ⌜ FieldLength bytes × (at + length (bigEndianBytes bytes value) ≤ length (now out)) ⌝ }
+    ensures { λ r. ⌜ (r ≡ at + length (bigEndianBytes bytes value)) × (now (out .exit) ≡ puts (now (out .entry)) at (bigEndianBytes bytes value)) ⌝ }
+{
+    if bytes < 4 {
+        out[at] = (value / 0x100 % 256) as u8;
+        out[at + 1] = (value % 256) as u8;
+        return at + 2;
+    }
+    out[at] = (value / 0x100_0000) as u8;
+    out[at + 1] = (value / 0x1_0000 % 256) as u8;
+    out[at + 2] = (value / 0x100 % 256) as u8;
+    out[at + 3] = (value % 256) as u8;
+    at + 4
 }
 
 // A signed number: ahead - behind, and one of the two is 0.
