@@ -187,9 +187,9 @@ pub record Promises : Type 0 where
       × (sentenceRun 13 1 4 1 192 ≡ done (utf8 "13: A tile is not the same size as the first one (record 4)."))
       × (sentenceRun 10 2 255 1 192 ≡ done (utf8 "10: A side would be too long after scaling (entry 255)."))
   -- "Both languages have a sentence for every refusal number", with every sort; 192 bytes are room enough
-  pub sentenceThere : (number sort index language room : ℕ) → 1 ≤ number → number ≤ 18 → sort ≤ 2 → language ≤ 1 → 192 ≤ room → isDone (sentenceRun number sort index language room) ≡ true
+  pub sentenceThere : (number sort index language room : ℕ) → 1 ≤ number → number ≤ 19 → sort ≤ 2 → language ≤ 1 → 192 ≤ room → isDone (sentenceRun number sort index language room) ≡ true
   -- "It refuses 5 for a number or language that has no sentence": nothing else has one
-  pub sentenceKnown : (number sort index language room : ℕ) (bs : List ℕ) → sentenceRun number sort index language room ≡ done bs → (1 ≤ number) × (number ≤ 18) × (sort ≤ 2) × (language ≤ 1)
+  pub sentenceKnown : (number sort index language room : ℕ) (bs : List ℕ) → sentenceRun number sort index language room ≡ done bs → (1 ≤ number) × (number ≤ 19) × (sort ≤ 2) × (language ≤ 1)
   -- "From a sentence alone, language, number, index and sort can be read back", for every index of 64 bits; sort 0 has none
   pub sentenceReadBack : (number sort index language room : ℕ) (bs : List ℕ) → index < 2 ^ 64 → sentenceRun number sort index language room ≡ done bs
       → readBack bs ≡ told language number sort (pick (eqb sort 0) 0 index)

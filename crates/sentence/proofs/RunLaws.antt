@@ -120,14 +120,14 @@ module _ (number sort index language room : ℕ) where
   -- ---- WHAT HAS A SENTENCE
 
   -- both languages have one for every number with every sort, and 192 bytes are room enough
-  pub sentence-fits : 1 ≤ number → number ≤ 18 → sort ≤ 2 → language ≤ 1 → 192 ≤ room → isDone (sentenceRun number sort index language room) ≡ true
+  pub sentence-fits : 1 ≤ number → number ≤ 19 → sort ≤ 2 → language ≤ 1 → 192 ≤ room → isDone (sentenceRun number sort index language room) ≡ true
   sentence-fits a b s l h =
       let known : Known number sort language = record { least = a; most = b; listed = s; spoken = l } in
       done-yes _ _
       (run-known number sort index language known room ∙ fitted-room room _ (omega (arith, sentence-short number sort index language known)))
 
   -- and nothing else has
-  pub sentence-known : (bs : List ℕ) → sentenceRun number sort index language room ≡ done bs → (1 ≤ number) × (number ≤ 18) × (sort ≤ 2) × (language ≤ 1)
+  pub sentence-known : (bs : List ℕ) → sentenceRun number sort index language room ≡ done bs → (1 ≤ number) × (number ≤ 19) × (sort ≤ 2) × (language ≤ 1)
   unfolding sentenceRun
   sentence-known bs e =
       let a = andThen-done _ _ bs e in

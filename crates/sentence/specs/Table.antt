@@ -33,6 +33,7 @@ reasons =
     ∷ line 16 "Ein Alphawert liegt über dem höchsten erlaubten Wert" "An alpha value is above the highest one allowed"
     ∷ line 17 "Ein bereitgestellter Puffer ist zu kurz" "A lent buffer is too short"
     ∷ line 18 "Zu dieser Stelle lässt sich kein Bildpunkt nennen, weil sie außerhalb liegt oder weil Alpha oder eine Skalierung es verhindert" "No spot can be named for this place, because it lies outside or because alpha or scaling prevents it"
+    ∷ line 19 "Ein Raster hat weniger als 1 oder mehr als 256 Zeilen oder Spalten" "A grid has fewer than 1 or more than 256 rows or columns"
     ∷ []
 
 -- by the item's sort: none, a record of the tray, an entry of the chain

@@ -15,7 +15,7 @@ mod table;
 // The last sort and the last number that have a row.
 const LAST_SORT: u8 = 2;
 
-const LAST_NUMBER: u32 = 18;
+const LAST_NUMBER: u32 = 19;
 
 // Writes the word of an item's sort and its index at `at`, nothing for sort 0, and returns the place past them.
 fn put_item(out: &mut [u8], at: usize, sort: u8, index: u64, language: u8) -> usize

@@ -5,8 +5,8 @@ ghost use lib.ListN.{length};
 ghost use Rattle.laws.specs.Puts.{puts};
 ghost use Rattle.sentence.specs.inner.Texts.{rowCount, textAt};
 
-// The rows of sorts 0 to 2, then those of the reasons 1 to 18, each in German, then in English, in UTF-8. Sort 0 has no words.
-const TEXTS: [u8; 1926] = *b"\
+// The rows of sorts 0 to 2, then those of the reasons 1 to 19, each in German, then in English, in UTF-8. Sort 0 has no words.
+const TEXTS: [u8; 2048] = *b"\
     \x20(Bild \
     \x20(record \
     \x20(Eintrag \
@@ -46,10 +46,12 @@ const TEXTS: [u8; 1926] = *b"\
     Ein bereitgestellter Puffer ist zu kurz\
     A lent buffer is too short\
     Zu dieser Stelle l\xc3\xa4sst sich kein Bildpunkt nennen, weil sie au\xc3\x9ferhalb liegt oder weil Alpha oder eine Skalierung es verhindert\
-    No spot can be named for this place, because it lies outside or because alpha or scaling prevents it";
+    No spot can be named for this place, because it lies outside or because alpha or scaling prevents it\
+    Ein Raster hat weniger als 1 oder mehr als 256 Zeilen oder Spalten\
+    A grid has fewer than 1 or more than 256 rows or columns";
 
 // Of each row where it begins, where its German text ends, and where its English text does.
-const ENDS: [[usize; 3]; 21] = [
+const ENDS: [[usize; 3]; 22] = [
     [0, 0, 0],
     [0, 7, 16],
     [16, 26, 34],
@@ -71,6 +73,7 @@ const ENDS: [[usize; 3]; 21] = [
     [1532, 1586, 1633],
     [1633, 1672, 1698],
     [1698, 1826, 1926],
+    [1926, 1992, 2048],
 ];
 
 // Writes a row's text in a language at `at`, and returns the place past it.

@@ -14,10 +14,10 @@ abbrev pub lastSort : ℕ
 lastSort = 2
 
 abbrev pub lastNumber : ℕ
-lastNumber = 18
+lastNumber = 19
 
 abbrev pub rowCount : ℕ
-rowCount = 21
+rowCount = 22
 
 unfoldable pub noRow : Row
 noRow = record { number = 0; german = ""; english = "" }
