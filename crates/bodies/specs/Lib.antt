@@ -1,0 +1,4 @@
+pub mod Form
+pub mod Grid
+pub mod Overlay
+pub mod inner
