@@ -13,3 +13,4 @@ mod scaling;
 mod scenes;
 mod sentences;
 mod spots;
+mod writing;

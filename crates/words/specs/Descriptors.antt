@@ -7,8 +7,16 @@ use Rattle.laws.specs.Span.{span}
 use Rattle.derived.specs.Grid.{gridOf}
 use Rattle.derived.specs.Overlay.{overlayOf, placementAt}
 use Rattle.derived.specs.declared.grid.GridDescriptor.{GridDescriptor}
+use Rattle.derived.specs.declared.overlay.Fill.{Fill}
 use Rattle.derived.specs.declared.overlay.OverlayDescriptor.{OverlayDescriptor}
 use Rattle.derived.specs.declared.overlay.Placement.{Placement}
+
+-- a grid and a fill by their four fields (document 02, A4)
+unfoldable pub gridBy : ℕ → ℕ → ℕ → ℕ → GridDescriptor
+gridBy rows columns width height = record { rows = rows; columns = columns; «output_width» = width; «output_height» = height }
+
+unfoldable pub fillBy : ℕ → ℕ → ℕ → ℕ → Fill
+fillBy red green blue alpha = record { red = red; green = green; blue = blue; alpha = alpha }
 
 unfoldable pub gridFields : GridDescriptor → List ℕ
 gridFields g = g .rows ∷ g .columns ∷ g .«output_width» ∷ g .«output_height» ∷ []
