@@ -19,6 +19,8 @@ use Rattle.fill.specs.Fill.{fillOf}
 use Rattle.fill.specs.declared.Colour.{Colour}
 use Rattle.fill.specs.declared.Ycbcr.{Ycbcr}
 use Rattle.derived.proofs.OffsetLaws.{offset-is}
+use Rattle.bodies.proofs.AgainLaws.{grid-rewritten, overlay-rewritten, words-there}
+use Rattle.bodies.proofs.BackLaws.{grid-back, words-back}
 use Rattle.sizes.proofs.ApertureLaws.{resolve-exact, resolve-margins, resolve-taken}
 use Rattle.sizes.proofs.MarginLaws.{around-between, between-around}
 use Rattle.props.proofs.SizeLaws.{chain-sound}
@@ -77,6 +79,11 @@ kept = record {
   houseNumberReadBack = round-trip;
   houseNumberShortest = shortest;
   offsetSplit = offset-is;
+  gridBodyReadBack = grid-back;
+  overlayBodyReadBack = words-back;
+  gridBodyRewritten = grid-rewritten;
+  overlayBodyRewritten = overlay-rewritten;
+  overlayBodyWords = words-there;
   clapTaken = resolve-taken;
   clapExact = resolve-exact;
   clapMargins = resolve-margins;

@@ -3,7 +3,7 @@
 use mathlib.Core.Bool.{Bool, false, true}
 use mathlib.Core.List.{List, [], _++_, _∷_}
 use mathlib.Core.Path.{_≡_}
-use Prim.Native.Nat.{_*_, _+_, _-_, _<_, _^_, _≤_, ℕ}
+use Prim.Native.Nat.{_*_, _+_, _-_, _/_, _<_, _^_, _≤_, ℕ}
 use lib.Dec.{eqb, ltb}
 use lib.IntN.{subℕ, ℤ}
 use lib.ListN.{drop, getD, length, take}
@@ -32,8 +32,15 @@ use Rattle.figures.specs.Figure.{AllWithin, figuresOf}
 use Rattle.fill.specs.Fill.{fillOf}
 use Rattle.fill.specs.declared.Colour.{Colour}
 use Rattle.fill.specs.declared.Ycbcr.{Ycbcr}
+use Rattle.derived.specs.Canvas.{fieldBytes}
 use Rattle.derived.specs.Grid.{gridOf}
+use Rattle.derived.specs.Overlay.{overlayOf}
 use Rattle.derived.specs.declared.grid.GridDescriptor.{GridDescriptor}
+use Rattle.derived.specs.declared.overlay.Fill.{Fill}
+use Rattle.derived.specs.declared.overlay.OverlayDescriptor.{OverlayDescriptor}
+use Rattle.bodies.specs.Form.{flagsOf, narrowCanvas}
+use Rattle.bodies.specs.Grid.{gridBodyRun}
+use Rattle.bodies.specs.Overlay.{FillSmall, OverlayFields, SameFields, fieldsIn, fieldsOf, narrowOverlay, overlayBodyRun}
 use Rattle.sizes.specs.Aperture.{ExactRect, resolveOf}
 use Rattle.sizes.specs.Margins.{Around, between}
 use Rattle.sizes.specs.Sound.{Inside}
@@ -138,6 +145,22 @@ pub record Promises : Type 0 where
   pub houseNumberShortest : (s : List ℕ) (at v next : ℕ) → Bytes s → readNumber s at ≡ Number v next → take (next - at) (drop at s) ≡ numberBytes v
   -- "32-bit sizes and offsets": an offset that is answered as two numbers, how far ahead and how far behind, is their difference
   pub offsetSplit : (z : ℤ) → subℕ (offsetOf z .ahead) (offsetOf z .behind) ≡ z
+  -- ---- document 02, A4: bodies written
+
+  -- "Parsing the written body gives the fields back", whatever bytes stand behind it
+  pub gridBodyReadBack : (g : GridDescriptor) (room : ℕ) (bs rest : List ℕ) → gridBodyRun g room ≡ done bs → gridOf (bs ++ rest) ≡ done g
+  pub overlayBodyReadBack : (fill : Fill) (width height : ℕ) (words : List ℕ) (room : ℕ) (bs rest : List ℕ) → FillSmall fill → ((k : ℕ) → getD words k 0 < 2 ^ 32)
+      → overlayBodyRun (fieldsIn fill width height words) room ≡ done bs
+      → (d : OverlayDescriptor) × (overlayOf (bs ++ rest) (length words / 2) ≡ done d) × SameFields (fieldsOf (bs ++ rest) d) (fieldsIn fill width height words)
+  -- "a parsed body with flags 0 or 1, an overlay's with an input, is rewritten to the same bytes when it had no trailing bytes and its form was
+  -- the one this rule picks"
+  pub gridBodyRewritten : (body : List ℕ) (g : GridDescriptor) (room : ℕ) → Bytes body → gridOf body ≡ done g → getD body 1 0 ≤ 1 → length body ≡ 4 + 2 * fieldBytes (getD body 1 0)
+      → fieldBytes (getD body 1 0) ≡ fieldBytes (flagsOf (narrowCanvas (g .«output_width») (g .«output_height»))) → gridBodyRun g room ≡ fitted room body
+  pub overlayBodyRewritten : (body : List ℕ) (n : ℕ) (d : OverlayDescriptor) (o : OverlayFields) (room : ℕ) → Bytes body → overlayOf body n ≡ done d → 1 ≤ n → getD body 1 0 ≤ 1
+      → length body ≡ d .offsets + d .count * (2 * d .bytes) → d .bytes ≡ fieldBytes (flagsOf (narrowOverlay (fieldsOf body d))) → SameFields o (fieldsOf body d) → overlayBodyRun o room ≡ fitted room body
+  -- the fields of every overlay's body that was parsed can be handed in as words
+  pub overlayBodyWords : (body : List ℕ) (n : ℕ) (d : OverlayDescriptor) → Bytes body → overlayOf body n ≡ done d
+      → (words : List ℕ) × ((k : ℕ) → getD words k 0 < 2 ^ 32) × SameFields (fieldsIn (d .«canvas_fill») (d .«output_width») (d .«output_height») words) (fieldsOf body d)
   -- ---- "clap", "iscl", and sizes along a chain
 
   -- "Size is n / d; edge is ((input − size) × offset d + 2 × offset n) / (2 × offset d)": a rectangle is taken just where both are exact
