@@ -1,7 +1,7 @@
 //! Descriptor bodies (document 01, "What is handed in"; ISO/IEC 23008-12, 6.6.2), big-endian.
 
 use crate::oracle::{Grid, Overlay};
-use crate::record::MAX_PIXELS;
+use crate::record::hold_size;
 use crate::refusal::{self, Refusal};
 
 /// The most inputs that an overlay may have.
@@ -45,12 +45,7 @@ impl Fields<'_> {
     /// The canvas's sides.
     fn canvas(&mut self, bytes: usize) -> Result<(u32, u32), Refusal> {
         let (width, height) = (self.number(bytes)?, self.number(bytes)?);
-        if width == 0 || height == 0 {
-            return Err(refusal::ZERO_SIDE);
-        }
-        if u64::from(width) * u64::from(height) > MAX_PIXELS {
-            return Err(refusal::LIMIT);
-        }
+        hold_size((width, height))?;
         Ok((width, height))
     }
 }

@@ -3,7 +3,7 @@
 
 use crate::chain::{Clap, Iscl};
 use crate::oracle::Rectangle;
-use crate::record::{Chroma, Frame, MAX_PIXELS};
+use crate::record::{Chroma, Frame, MAX_PIXELS, hold_size};
 use crate::refusal::{self, Refusal};
 use crate::steps::Size;
 
@@ -334,12 +334,7 @@ fn nearest(frame: &Frame, (width, height): (u32, u32)) -> Result<Frame, Refusal>
     if (width, height) == (frame.width, frame.height) {
         return Ok(frame.clone());
     }
-    if width == 0 || height == 0 {
-        return Err(refusal::ZERO_SIDE);
-    }
-    if u64::from(width) * u64::from(height) > MAX_PIXELS {
-        return Err(refusal::LIMIT);
-    }
+    hold_size((width, height))?;
     let form = Frame::empty((width, height), frame.chroma, frame.depth, frame.alpha);
     Ok(tabulate(form, |form, plane, x, y| {
         let (from, to) = (frame.plane_size(plane), form.plane_size(plane));

@@ -2,9 +2,21 @@
 
 use crate::number::{Reader, number_bytes, push_number};
 use crate::refusal::{self, Refusal};
+use crate::steps::Size;
 
 /// The pixel limit L of document 01.
 pub(crate) const MAX_PIXELS: u64 = 1 << 30;
+
+/// Holds the size of a picture or a canvas to its range: 3 a side 0, 4 above L.
+pub(crate) fn hold_size((width, height): Size) -> Result<(), Refusal> {
+    if width == 0 || height == 0 {
+        return Err(refusal::ZERO_SIDE);
+    }
+    if u64::from(width) * u64::from(height) > MAX_PIXELS {
+        return Err(refusal::LIMIT);
+    }
+    Ok(())
+}
 
 /// Chroma sampling, in the order of its record number.
 #[derive(Clone, Copy, Debug, PartialEq, Eq)]
@@ -237,12 +249,7 @@ impl Frame {
         if !(8..=16).contains(&depth) {
             return Err(refusal::DEPTH);
         }
-        if width == 0 || height == 0 {
-            return Err(refusal::ZERO_SIDE);
-        }
-        if u64::from(width) * u64::from(height) > MAX_PIXELS {
-            return Err(refusal::LIMIT);
-        }
+        hold_size((width, height))?;
         Ok(Self::empty(
             (width, height),
             chroma,

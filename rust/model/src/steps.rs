@@ -2,8 +2,8 @@
 
 use crate::chain::{Entry, Property, parse_chain};
 use crate::number::Reader;
-use crate::record::MAX_PIXELS;
-use crate::refusal::{self, Refusal};
+use crate::record::hold_size;
+use crate::refusal::Refusal;
 
 /// A width and a height.
 pub type Size = (u32, u32);
@@ -15,12 +15,7 @@ pub fn parse_steps(input: &[u8]) -> Result<(Size, Vec<Entry>), Refusal> {
     let (width, height) = (reader.number()?, reader.number()?);
     let chain = parse_chain(reader.rest());
     let chain = chain.map_err(|refusal| Refusal::new(refusal.number))?;
-    if width == 0 || height == 0 {
-        return Err(refusal::ZERO_SIDE);
-    }
-    if u64::from(width) * u64::from(height) > MAX_PIXELS {
-        return Err(refusal::LIMIT);
-    }
+    hold_size((width, height))?;
     Ok(((width, height), chain))
 }
 
