@@ -9,7 +9,7 @@ use differential::ours::{Composer, Linked};
 use differential::rng::Rng;
 use model::{
     Chroma, Entry, Frame, Grid, Overlay, OverlayInput, Property, SceneParts, Work, chain_bytes,
-    tray_bytes,
+    grid_bytes, overlay_bytes, tray_bytes,
 };
 use std::cell::RefCell;
 
@@ -38,7 +38,7 @@ impl Tiled {
             width: side,
             height: side,
         };
-        let body = generate::grid_body(&grid, true);
+        let body = grid_bytes(&grid, true);
         let tray = tray_bytes(&tiles);
         // Odd tiles are promoted.
         let mut ample = vec![0; 3 * (side * side) as usize + 64];
@@ -237,7 +237,7 @@ impl Laid {
             height: self.side,
             offsets: (0..self.inputs).map(|at| self.offset(at)).collect(),
         };
-        let body = generate::overlay_body(&overlay, true);
+        let body = overlay_bytes(&overlay, true);
         let frames: Vec<Frame> = inputs.iter().map(|input| input.frame.clone()).collect();
         let (tray, list) = (tray_bytes(&frames), vec![0; inputs.len()]);
         let mut ample = vec![0; 6 * (self.side * self.side) as usize + 64];

@@ -10,8 +10,9 @@ use crate::rooms;
 use model::{
     Clap, Colour, Crop, Entry, Frame, Grid, Iscl, Item, Marks, Named, Operation, Oracle, Outcome,
     Overlay, OverlayInput, Point, Property, Reader, Refusal, Scene, SceneParts, Sighted, Size,
-    chain_bytes, fill_samples, number_bytes, parse_chain, parse_grid, parse_overlay, parse_record,
-    parse_steps, parse_tray, read_sentence, refusal, steps_text, tray_bytes,
+    chain_bytes, fill_samples, grid_bytes, number_bytes, overlay_bytes, parse_chain, parse_grid,
+    parse_overlay, parse_record, parse_steps, parse_tray, read_sentence, refusal, steps_text,
+    tray_bytes,
 };
 use std::collections::HashSet;
 use std::fmt::Debug;
@@ -295,7 +296,7 @@ fn wide_body(rng: &mut Rng, overlay: bool, inputs: usize) -> Vec<u8> {
             height: size.1,
             offsets: (0..inputs).map(|_| (offset(rng), offset(rng))).collect(),
         };
-        return generate::overlay_body(&overlay, rng.flag());
+        return overlay_bytes(&overlay, rng.flag());
     }
     let grid = Grid {
         rows: rng.number(1..=256) as u16,
@@ -303,7 +304,7 @@ fn wide_body(rng: &mut Rng, overlay: bool, inputs: usize) -> Vec<u8> {
         width: size.0,
         height: size.1,
     };
-    generate::grid_body(&grid, rng.flag())
+    grid_bytes(&grid, rng.flag())
 }
 
 /// A body: valid, loosened, with known faults or damaged, and the inputs that an overlay's is read
@@ -319,9 +320,9 @@ fn descriptor_input(rng: &mut Rng, overlay: bool) -> Input {
         1 if overlay => {
             let scene = generate::overlay_scene(rng).0;
             inputs = scene.offsets.len();
-            body = generate::overlay_body(&scene, rng.flag());
+            body = overlay_bytes(&scene, rng.flag());
         }
-        1 => body = generate::grid_body(&generate::grid_scene(rng).0, rng.flag()),
+        1 => body = grid_bytes(&generate::grid_scene(rng).0, rng.flag()),
         _ => {
             inputs = match rng.below(50) {
                 0 => rng.below(400),
@@ -747,7 +748,7 @@ fn grid_draft(rng: &mut Rng, scales: bool) -> SceneDraft {
     let (grid, tiles) = generate::grid_scene(rng);
     let chain = generate::entries(rng, (grid.width, grid.height), scales);
     SceneDraft {
-        body: generate::grid_body(&grid, rng.flag()),
+        body: grid_bytes(&grid, rng.flag()),
         tray: tray_bytes(&tiles),
         chain: chain_bytes(&chain),
         premultiplied: None,
@@ -765,7 +766,7 @@ fn overlay_draft(rng: &mut Rng, scales: bool, shines: bool) -> SceneDraft {
     }
     let chain = generate::entries(rng, (overlay.width, overlay.height), scales);
     SceneDraft {
-        body: generate::overlay_body(&overlay, rng.flag()),
+        body: overlay_bytes(&overlay, rng.flag()),
         tray: tray_bytes(&frames_of(&inputs)),
         chain: chain_bytes(&chain),
         premultiplied: Some(list_of(rng, &inputs)),
@@ -1105,7 +1106,7 @@ fn session_input(rng: &mut Rng) -> Input {
     }
     calls.extend([FINISH, 0, 0]);
     Input::new()
-        .with_bytes("body", generate::grid_body(&grid, rng.flag()))
+        .with_bytes("body", grid_bytes(&grid, rng.flag()))
         .with_bytes("tray", tray_bytes(&tiles))
         .with_bytes("stranger", damage::any_record(rng))
         .with_bytes("calls", calls)

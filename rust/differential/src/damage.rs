@@ -5,7 +5,8 @@ use crate::generate;
 use crate::rng::Rng;
 use model::{
     Chroma, Clap, Colour, Crop, Entry, Frame, Grid, Iscl, Item, MAX_ENTRIES, Marks, Overlay,
-    Property, Rectangle, Refusal, SceneParts, Size, chain_bytes, number_bytes, refusal,
+    Property, Rectangle, Refusal, SceneParts, Size, chain_bytes, grid_bytes, number_bytes,
+    overlay_bytes, refusal,
 };
 use std::ops::Range;
 
@@ -925,7 +926,7 @@ pub fn faulty_scene(rng: &mut Rng, faults: &[SceneFault], overlay: bool) -> Scen
             height,
             offsets,
         };
-        generate::overlay_body(&overlay, true)
+        overlay_bytes(&overlay, true)
     } else {
         let grid = Grid {
             rows: 2,
@@ -933,7 +934,7 @@ pub fn faulty_scene(rng: &mut Rng, faults: &[SceneFault], overlay: bool) -> Scen
             width,
             height,
         };
-        generate::grid_body(&grid, true)
+        grid_bytes(&grid, true)
     };
     let fields = if overlay { 18 } else { 12 };
     if has(SceneFault::OffsetsShort) {

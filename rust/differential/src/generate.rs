@@ -1,4 +1,4 @@
-//! Seeded inputs: frames, scenes, chains and descriptor bodies, valid and at the borders.
+//! Seeded inputs: frames, scenes, chains and descriptors, valid and at the borders.
 //! `damage.rs` breaks them.
 
 use crate::rng::Rng;
@@ -534,40 +534,6 @@ pub fn entries(rng: &mut Rng, size: (u32, u32), scales: bool) -> Vec<Entry> {
             made
         })
         .collect()
-}
-
-/// Appends a size or an offset, 32-bit or 16-bit.
-fn push_field(body: &mut Vec<u8>, wide: bool, field: u32) {
-    let bytes = field.to_be_bytes();
-    body.extend_from_slice(if wide { &bytes } else { &bytes[2..] });
-}
-
-/// A grid's body; 16-bit sizes are cut to 16 bits.
-pub fn grid_body(grid: &Grid, wide: bool) -> Vec<u8> {
-    let mut body = vec![
-        0,
-        u8::from(wide),
-        (grid.rows - 1) as u8,
-        (grid.columns - 1) as u8,
-    ];
-    push_field(&mut body, wide, grid.width);
-    push_field(&mut body, wide, grid.height);
-    body
-}
-
-/// An overlay's body; 16-bit sizes and offsets are cut to 16 bits.
-pub fn overlay_body(overlay: &Overlay, wide: bool) -> Vec<u8> {
-    let mut body = vec![0, u8::from(wide)];
-    for channel in overlay.fill {
-        body.extend_from_slice(&channel.to_be_bytes());
-    }
-    push_field(&mut body, wide, overlay.width);
-    push_field(&mut body, wide, overlay.height);
-    for &(across, down) in &overlay.offsets {
-        push_field(&mut body, wide, across.cast_unsigned());
-        push_field(&mut body, wide, down.cast_unsigned());
-    }
-    body
 }
 
 /// Other flag bits and bytes after the last field, which a parser must pass over.

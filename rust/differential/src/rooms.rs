@@ -9,7 +9,10 @@ use crate::expected;
 use crate::generate::{self, Form};
 use crate::ours;
 use crate::rng::Rng;
-use model::{Frame, Operation, Overlay, Size, chain_bytes, parse_grid, parse_overlay, tray_count};
+use model::{
+    Frame, Operation, Overlay, Size, chain_bytes, overlay_bytes, parse_grid, parse_overlay,
+    tray_count,
+};
 
 /// A record and a chain that follows its size; now and then either is of any sort or damaged.
 pub(crate) fn transforms_input(rng: &mut Rng) -> Input {
@@ -139,7 +142,7 @@ pub(crate) fn room_input(rng: &mut Rng, overlay: bool) -> Input {
             height,
             ..read
         };
-        part(&mut input, "body", generate::overlay_body(&body, true));
+        part(&mut input, "body", overlay_bytes(&body, true));
     }
     let size = canvas_of(&input).unwrap_or((8, 8));
     let chain = chain_bytes(&generate::wide_chain(rng, size));

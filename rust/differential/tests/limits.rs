@@ -11,7 +11,7 @@ use differential::rng::Rng;
 use differential::shaped::{clap, grid_descriptor, heif, iscl};
 use differential::{generate, ours};
 use model::refusal::LIMIT;
-use model::{Frame, SceneParts, chain_bytes, tray_bytes};
+use model::{Frame, SceneParts, chain_bytes, grid_bytes, overlay_bytes, tray_bytes};
 
 /// Nothing may be made.
 const NOTHING: Limits = Limits::new().with_max_pixels(0).with_max_bytes(0);
@@ -125,7 +125,7 @@ fn grids_ask_for_what_they_write() {
     let mut rng = Rng::new(32);
     for _ in 0..1_000 {
         let (grid, tiles) = generate::grid_scene(&mut rng);
-        let (body, tray) = (generate::grid_body(&grid, rng.flag()), tray_bytes(&tiles));
+        let (body, tray) = (grid_bytes(&grid, rng.flag()), tray_bytes(&tiles));
         hold("grid", || composite::grid(&body, &tray));
         let chain = generate::chain(&mut rng, (grid.width, grid.height));
         let chain = chain_bytes(&chain);
@@ -149,7 +149,7 @@ fn overlays_ask_for_what_they_write() {
         let (overlay, inputs) = generate::overlay_scene(&mut rng);
         let frames: Vec<Frame> = inputs.iter().map(|input| input.frame.clone()).collect();
         let list: Vec<u8> = inputs.iter().map(|one| one.premultiplied.into()).collect();
-        let body = generate::overlay_body(&overlay, true);
+        let body = overlay_bytes(&overlay, true);
         let tray = tray_bytes(&frames);
         hold("overlay", || {
             composite::overlay(&body, &tray, &list, Some(&Colr::MIAF_DEFAULT))

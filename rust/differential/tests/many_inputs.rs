@@ -3,10 +3,13 @@
 //! own canvases are smaller than a stripe.
 
 use differential::compare::Sides;
-use differential::generate::{Form, frame_of, overlay_body};
+use differential::generate::{Form, frame_of};
 use differential::ours::{Composer, Linked};
 use differential::rng::Rng;
-use model::{Chroma, Frame, Overlay, OverlayInput, composite_overlay, parse_record, tray_bytes};
+use model::{
+    Chroma, Frame, Overlay, OverlayInput, composite_overlay, overlay_bytes, parse_record,
+    tray_bytes,
+};
 
 /// An overlay of so many inputs with alpha, and now and then one without, on a canvas of that size;
 /// the inputs' sides are at most `side`, and their corners lie in its `spread` first columns and rows.
@@ -44,7 +47,7 @@ fn scene(
 
 /// What the composer makes of a scene, from its body and its tray.
 fn ours(overlay: &Overlay, inputs: &[OverlayInput], room: usize) -> Frame {
-    let body = overlay_body(overlay, true);
+    let body = overlay_bytes(overlay, true);
     let frames: Vec<Frame> = inputs.iter().map(|input| input.frame.clone()).collect();
     let list: Vec<u8> = inputs
         .iter()

@@ -14,8 +14,8 @@ use differential::rng::Rng;
 use differential::shaped;
 use model::refusal::{LIMIT, MALFORMED};
 use model::{
-    Clap, Entry, Grid, Iscl, Overlay, Property, Refusal, chain_bytes, parse_chain, parse_grid,
-    parse_overlay, steps_text,
+    Clap, Entry, Grid, Iscl, Overlay, Property, Refusal, chain_bytes, grid_bytes, overlay_bytes,
+    parse_chain, parse_grid, parse_overlay, steps_text,
 };
 
 /// What `compose` reads of a grid's body, held to the model: the number of its refusal.
@@ -160,10 +160,10 @@ fn bodies_cut_and_changed_anywhere() {
         height: 32_768,
     };
     for wide in [false, true] {
-        let body = generate::grid_body(&grid, wide);
+        let body = grid_bytes(&grid, wide);
         assert_eq!(read_grid(&body), None);
         each_damage(&body, read_grid);
-        let body = generate::overlay_body(&overlay, wide);
+        let body = overlay_bytes(&overlay, wide);
         for inputs in 0..=4 {
             let number = if inputs > 3 { Some(1) } else { None };
             assert_eq!(read_overlay(&body, inputs), number);
@@ -197,7 +197,7 @@ fn the_most_inputs() {
         height: 1,
         offsets: (0..65_536).map(|at| (at, -at)).collect(),
     };
-    let mut body = generate::overlay_body(&overlay, true);
+    let mut body = overlay_bytes(&overlay, true);
     assert_eq!(read_overlay(&body, 65_536), None);
     for inputs in [65_537, u32::MAX as usize, usize::MAX] {
         assert_eq!(read_overlay(&body, inputs), Some(4));

@@ -15,8 +15,8 @@ use differential::rng::Rng;
 use model::refusal::{DEPTH, LIMIT, MALFORMED, OUTSIDE, ROOM, ZERO_DENOMINATOR, ZERO_SIDE};
 use model::{
     Chroma, Clap, Colour, Crop, Entry, Frame, Grid, Iscl, Marks, Operation, Overlay, Property,
-    Rectangle, Refusal, Scene, SceneParts, chain_bytes, grid_room, overlay_room, parse_chain,
-    parse_record, record_size, tray_bytes,
+    Rectangle, Refusal, Scene, SceneParts, chain_bytes, grid_bytes, grid_room, overlay_bytes,
+    overlay_room, parse_chain, parse_record, record_size, tray_bytes,
 };
 
 /// Every chroma, depth and alpha.
@@ -103,7 +103,7 @@ fn a_records_size_is_what_operations_write() {
 /// A grid that cuts its one tile, overlays of one input with alpha and without, and chains.
 fn compose_all(rng: &mut Rng, record: &[u8], (width, height): (u32, u32)) {
     let tray = [&[1], record].concat();
-    let grid = generate::grid_body(&Grid::row(1, width.div_ceil(2), height), true);
+    let grid = grid_bytes(&Grid::row(1, width.div_ceil(2), height), true);
     let grid_written = written(|output| Linked.grid(&grid, &tray, output));
     assert_sized("grid", &grid_written);
     for alpha in [0, 65_535] {
@@ -113,7 +113,7 @@ fn compose_all(rng: &mut Rng, record: &[u8], (width, height): (u32, u32)) {
             height,
             offsets: vec![(1, 0)],
         };
-        let body = generate::overlay_body(&overlay, true);
+        let body = overlay_bytes(&overlay, true);
         let wrote = written(|output| Linked.overlay(&body, &tray, &[0], None, output));
         assert_sized("overlay", &wrote);
     }
@@ -242,7 +242,7 @@ fn drawn_draft(rng: &mut Rng, overlay: bool) -> SceneDraft {
     if !overlay {
         let (grid, tiles) = generate::grid_scene(rng);
         return SceneDraft {
-            body: generate::grid_body(&grid, true),
+            body: grid_bytes(&grid, true),
             tray: tray_bytes(&tiles),
             chain: chain_bytes(&small_chain(rng, (grid.width, grid.height))),
             premultiplied: None,
@@ -251,7 +251,7 @@ fn drawn_draft(rng: &mut Rng, overlay: bool) -> SceneDraft {
     let (overlay, inputs) = generate::overlay_scene(rng);
     let frames: Vec<Frame> = inputs.into_iter().map(|input| input.frame).collect();
     SceneDraft {
-        body: generate::overlay_body(&overlay, true),
+        body: overlay_bytes(&overlay, true),
         tray: tray_bytes(&frames),
         chain: chain_bytes(&small_chain(rng, (overlay.width, overlay.height))),
         premultiplied: Some(rng.bytes(frames.len())),
@@ -496,7 +496,7 @@ const BY_A_GRID: Spoiler = Spoiler(|record, chain, essential_only, output, spare
     };
     let grid = Grid::row(1, frame.width, frame.height);
     let parts = SceneParts {
-        body: &generate::grid_body(&grid, true),
+        body: &grid_bytes(&grid, true),
         tray: &[&[1], record].concat(),
         chain,
         essential_only,

@@ -17,7 +17,7 @@ use model::refusal::{ALPHA, FORM, MALFORMED, POINT, ROOM, SIDE_OVERFLOW};
 use model::{
     Chroma, Crop, Entry, Frame, Iscl, Marks, Named, Operation, Oracle, Overlay, OverlayInput,
     Point, Property, Rectangle, Refusal, Scene, SceneParts, Sight, Sighted, Size, chain_bytes,
-    grid_scene, overlay_scene, parse_chain, parse_record, tray_bytes,
+    grid_bytes, grid_scene, overlay_bytes, overlay_scene, parse_chain, parse_record, tray_bytes,
 };
 
 /// What the model makes of a draft, with the flag or without.
@@ -171,7 +171,7 @@ fn overlays_of_every_depth_and_alpha() {
     for at in 0..pixels.len().pow(3) {
         let inputs = [at / 36, at / 6 % 6, at % 6].map(|at| pixels[at]);
         let draft = SceneDraft {
-            body: generate::overlay_body(&overlay, false),
+            body: overlay_bytes(&overlay, false),
             tray: tray_bytes(&inputs.map(frame)),
             chain: vec![0],
             premultiplied: Some(vec![0; 3]),
@@ -195,7 +195,7 @@ fn plain_scene(rng: &mut Rng) -> SceneDraft {
         let (grid, tiles) = generate::grid_scene(rng);
         let chain = generate::entries(rng, (grid.width, grid.height), false);
         return SceneDraft {
-            body: generate::grid_body(&grid, true),
+            body: grid_bytes(&grid, true),
             tray: tray_bytes(&tiles),
             chain: chain_bytes(&chain),
             premultiplied: None,
@@ -210,7 +210,7 @@ fn plain_scene(rng: &mut Rng) -> SceneDraft {
     let frames: Vec<Frame> = inputs.iter_mut().map(opaque).collect();
     let chain = generate::entries(rng, (overlay.width, overlay.height), false);
     SceneDraft {
-        body: generate::overlay_body(&overlay, true),
+        body: overlay_bytes(&overlay, true),
         tray: tray_bytes(&frames),
         chain: chain_bytes(&chain),
         premultiplied: Some(rng.bytes(frames.len())),

@@ -50,6 +50,46 @@ impl Fields<'_> {
     }
 }
 
+/// Appends the lowest bytes of a number, the highest of them first; of a negative one its two's
+/// complement.
+fn push(body: &mut Vec<u8>, bytes: usize, number: impl Into<i64>) {
+    let number = number.into().to_be_bytes();
+    body.extend_from_slice(&number[number.len() - bytes..]);
+}
+
+/// The start of a body in one of its two forms, and how many bytes a size or an offset has there.
+fn started(wide: bool) -> (Vec<u8>, usize) {
+    (vec![0, u8::from(wide)], if wide { 4 } else { 2 })
+}
+
+/// A grid's body, of 32-bit sizes where it is `wide`, else of 16-bit ones, to which they are cut.
+pub fn grid_bytes(grid: &Grid, wide: bool) -> Vec<u8> {
+    let (mut body, bytes) = started(wide);
+    for tiles in [grid.rows, grid.columns] {
+        push(&mut body, 1, i64::from(tiles) - 1);
+    }
+    for side in [grid.width, grid.height] {
+        push(&mut body, bytes, side);
+    }
+    body
+}
+
+/// An overlay's body, its sizes and offsets as [`grid_bytes`] has them.
+pub fn overlay_bytes(overlay: &Overlay, wide: bool) -> Vec<u8> {
+    let (mut body, bytes) = started(wide);
+    for channel in overlay.fill {
+        push(&mut body, 2, channel);
+    }
+    for side in [overlay.width, overlay.height] {
+        push(&mut body, bytes, side);
+    }
+    for (across, down) in &overlay.offsets {
+        push(&mut body, bytes, *across);
+        push(&mut body, bytes, *down);
+    }
+    body
+}
+
 /// What a grid's body says; bytes after the last field are ignored.
 pub fn parse_grid(body: &[u8]) -> Result<Grid, Refusal> {
     let mut fields = Fields(body);

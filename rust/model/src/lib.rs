@@ -27,7 +27,7 @@ mod steps;
 
 pub use chain::{Clap, Entry, Iscl, MAX_ENTRIES, Property, chain_bytes, parse_chain};
 pub use composite::{composite_grid, composite_overlay};
-pub use derived::{parse_grid, parse_overlay};
+pub use derived::{grid_bytes, overlay_bytes, parse_grid, parse_overlay};
 pub use fill::fill_samples;
 pub use number::{Reader, number_bytes, push_number};
 pub use operation::{Crop, Margins, Operation};
