@@ -1,8 +1,11 @@
-//! Descriptor bodies (document 01, "What is handed in"; ISO/IEC 23008-12, 6.6.2), big-endian.
+//! Descriptor bodies (document 01, "What is handed in"; ISO/IEC 23008-12, 6.6.2), big-endian, read, and
+//! written from their fields (document 02, A4).
 
 use crate::oracle::{Grid, Overlay};
 use crate::record::hold_size;
 use crate::refusal::{self, Refusal};
+use crate::room::put;
+use crate::steps::Size;
 
 /// The most inputs that an overlay may have.
 const MAX_INPUTS: usize = 65_536;
@@ -126,4 +129,61 @@ pub fn parse_overlay(body: &[u8], inputs: usize) -> Result<Overlay, Refusal> {
         height,
         offsets,
     })
+}
+
+/// Whether a body is of the 32-bit form: a size is above 65,535, or an offset lies outside −32,768 to
+/// 32,767.
+fn is_wide((width, height): Size, offsets: &[(i32, i32)]) -> bool {
+    let long = |offset: i32| !(-32_768..=32_767).contains(&offset);
+    let far = |(across, down): &(i32, i32)| long(*across) || long(*down);
+    width > 65_535 || height > 65_535 || offsets.iter().any(far)
+}
+
+/// A number of rows or columns of tiles: 19 outside 1 to 256.
+fn tiles(count: u32) -> Result<u16, Refusal> {
+    match count {
+        1..=256 => Ok(count as u16),
+        _ => Err(refusal::TILING),
+    }
+}
+
+/// The body of a grid of so many rows and columns: 19, 3, 4.
+pub fn grid_body([rows, columns]: [u32; 2], size: Size) -> Result<Vec<u8>, Refusal> {
+    let grid = Grid {
+        rows: tiles(rows)?,
+        columns: tiles(columns)?,
+        width: size.0,
+        height: size.1,
+    };
+    hold_size(size)?;
+    Ok(grid_bytes(&grid, is_wide(size, &[])))
+}
+
+/// The body of an overlay: 3, 4, 4 above 65,536 inputs, 15 without inputs.
+pub fn overlay_body(overlay: &Overlay) -> Result<Vec<u8>, Refusal> {
+    let size = (overlay.width, overlay.height);
+    hold_size(size)?;
+    match overlay.offsets.len() {
+        0 => Err(refusal::MISSING),
+        1..=MAX_INPUTS => Ok(overlay_bytes(overlay, is_wide(size, &overlay.offsets))),
+        _ => Err(refusal::LIMIT),
+    }
+}
+
+/// The offsets that words stand for: of each input in turn two, the unsigned patterns of signed
+/// numbers. A last word without a partner is not looked at.
+pub fn offsets_of(words: &[u32]) -> Vec<(i32, i32)> {
+    let (inputs, _) = words.as_chunks();
+    let signed = |[across, down]: &[u32; 2]| (across.cast_signed(), down.cast_signed());
+    inputs.iter().map(signed).collect()
+}
+
+/// Writes the body of a grid to a lent buffer and answers its length: as [`grid_body`], then 17.
+pub fn write_grid(tiles: [u32; 2], size: Size, out: &mut [u8]) -> Result<usize, Refusal> {
+    put(&grid_body(tiles, size)?, out)
+}
+
+/// Writes the body of an overlay to a lent buffer and answers its length: as [`overlay_body`], then 17.
+pub fn write_overlay(overlay: &Overlay, out: &mut [u8]) -> Result<usize, Refusal> {
+    put(&overlay_body(overlay)?, out)
 }

@@ -1,7 +1,7 @@
 //! Document 01, with what document 02 changes, as plain Rust: house numbers, frame records, trays,
-//! chains and descriptor bodies, with the refusals of each; the operations on one record, fill
-//! colours, grids and overlays, scenes and points, chains on one record, room, the text of the steps
-//! program, and the sentences of refusals.
+//! chains and descriptor bodies, with the refusals of each, and bodies written; the operations on one
+//! record, fill colours, grids and overlays, scenes and points, chains on one record, room, the text of
+//! the steps program, and the sentences of refusals.
 //! All of it is written from the paper and shares nothing with the composer or with the published
 //! Rust, so that both can be held against it.
 //!
@@ -27,7 +27,10 @@ mod steps;
 
 pub use chain::{Clap, Entry, Iscl, MAX_ENTRIES, Property, chain_bytes, parse_chain};
 pub use composite::{composite_grid, composite_overlay};
-pub use derived::{grid_bytes, overlay_bytes, parse_grid, parse_overlay};
+pub use derived::{
+    grid_body, grid_bytes, offsets_of, overlay_body, overlay_bytes, parse_grid, parse_overlay,
+    write_grid, write_overlay,
+};
 pub use fill::fill_samples;
 pub use number::{Reader, number_bytes, push_number};
 pub use operation::{Crop, Margins, Operation};

@@ -130,6 +130,10 @@ pub trait Oracle: Sync {
     // derived.rs
     fn parse_grid(&self, body: &[u8]) -> Outcome<Grid>;
     fn parse_overlay(&self, body: &[u8], inputs: usize) -> Outcome<Overlay>;
+    /// `GridDescriptor::to_bytes`.
+    fn write_grid(&self, grid: &Grid) -> Outcome<Vec<u8>>;
+    /// `OverlayDescriptor::to_bytes`.
+    fn write_overlay(&self, overlay: &Overlay) -> Outcome<Vec<u8>>;
 
     // props.rs
     fn resolve_clap(&self, clap: &Clap, width: u32, height: u32) -> Outcome<Rectangle>;

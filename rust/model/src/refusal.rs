@@ -1,5 +1,5 @@
-//! The refusals of document 01 ("Refusals in order") by name, and the items that have their own
-//! (document 02, A2).
+//! The refusals of document 01 ("Refusals in order") and of document 02 by name, and the items that
+//! have their own (document 02, A2).
 
 /// A refusal.
 #[derive(Clone, Copy, Debug, PartialEq, Eq)]
@@ -89,3 +89,5 @@ pub const ALPHA: Refusal = Refusal::new(16);
 pub const ROOM: Refusal = Refusal::new(17);
 /// What the point call does not answer.
 pub const POINT: Refusal = Refusal::new(18);
+/// Rows or columns of tiles outside 1 to 256 (document 02, A4).
+pub const TILING: Refusal = Refusal::new(19);

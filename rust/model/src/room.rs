@@ -1,13 +1,22 @@
 //! Room (document 01, "The scene call" and *Scene*, 17): the length of a tight record, and the longest
-//! of the records that a scene or a chain makes. It is worked out from forms; nothing is drawn.
+//! of the records that a scene or a chain makes, worked out from forms without drawing; and 17 for what
+//! is written to one lent buffer.
 
 use crate::chain::{Entry, Property, parse_chain};
 use crate::composite::{grid_form, overlay_form};
 use crate::number::number_bytes;
 use crate::operation::promotes;
 use crate::record::{Chroma, Frame, parse_record};
-use crate::refusal::Refusal;
+use crate::refusal::{self, Refusal};
 use crate::scene::{SceneParts, read_grid, read_overlay};
+
+/// Writes bytes at the start of a lent buffer, whose bytes past them stay, and answers how many they
+/// are: 17 where it is shorter.
+pub(crate) fn put(bytes: &[u8], out: &mut [u8]) -> Result<usize, Refusal> {
+    let start = out.get_mut(..bytes.len()).ok_or(refusal::ROOM)?;
+    start.copy_from_slice(bytes);
+    Ok(bytes.len())
+}
 
 impl Frame {
     /// The length of the tight record of this form: the numbers of its header, then of each plane

@@ -1,10 +1,11 @@
 //! The sentence of a refusal in German and English (document 02, A2), and what one says.
 
 use crate::refusal::{self, Item, Refusal};
+use crate::room::put;
 use std::str::FromStr;
 
 /// The reasons by number, from 1: German, English.
-const REASONS: [[&str; 2]; 18] = [
+const REASONS: [[&str; 2]; 19] = [
     [
         "Die Bildbeschreibung ist leer oder zu kurz",
         "The picture's description is empty or too short",
@@ -79,6 +80,10 @@ const REASONS: [[&str; 2]; 18] = [
         "No spot can be named for this place, because it lies outside or because alpha or scaling \
          prevents it",
     ],
+    [
+        "Ein Raster hat weniger als 1 oder mehr als 256 Zeilen oder Spalten",
+        "A grid has fewer than 1 or more than 256 rows or columns",
+    ],
 ];
 
 /// What an item is called, by its sort, from 1: German, English.
@@ -102,8 +107,7 @@ pub fn sentence(number: u32, sort: u8, index: u64, language: u8) -> Result<Strin
     ))
 }
 
-/// Writes the sentence at the start of a lent buffer, whose bytes past it stay, and answers its
-/// length: 5 as [`sentence`], then 17 where the buffer is shorter.
+/// Writes the sentence to a lent buffer and answers its length: 5 as [`sentence`], then 17.
 pub fn write_sentence(
     number: u32,
     sort: u8,
@@ -112,9 +116,7 @@ pub fn write_sentence(
     out: &mut [u8],
 ) -> Result<usize, Refusal> {
     let sentence = sentence(number, sort, index, language)?;
-    let start = out.get_mut(..sentence.len()).ok_or(refusal::ROOM)?;
-    start.copy_from_slice(sentence.as_bytes());
-    Ok(sentence.len())
+    put(sentence.as_bytes(), out)
 }
 
 /// A number in decimal, as it is written: no sign, no zero in front.

@@ -264,6 +264,14 @@ impl Oracle for Published {
         })
     }
 
+    fn write_grid(&self, grid: &Grid) -> Outcome<Vec<u8>> {
+        infallible(|| descriptor(grid).to_bytes())
+    }
+
+    fn write_overlay(&self, overlay: &Overlay) -> Outcome<Vec<u8>> {
+        infallible(|| overlay_descriptor(overlay).to_bytes())
+    }
+
     fn resolve_clap(&self, fields: &Clap, width: u32, height: u32) -> Outcome<Rectangle> {
         attempt(|| clap(fields).resolve(width, height)).map(|rectangle| Rectangle {
             x: rectangle.x,
