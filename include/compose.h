@@ -19,7 +19,7 @@ extern "C" {
 
 /* The version of these calls: major * 10000 + minor * 100 + patch, as the crate's in rust/Cargo.toml is. It grows when a
  * call is added or changed. */
-#define COMPOSE_API_VERSION 500
+#define COMPOSE_API_VERSION 600
 
 /* Every call answers a number of 64 bits. Below 2^63 it is a length, a count, or 0 where there is none; from there on
  * it is a refusal, and then nothing was written: 2^63, and in bits 0 to 7 its number, in bits 8 to 15 the sort of the item
@@ -34,7 +34,7 @@ extern "C" {
 #define COMPOSE_SORT(answer) ((int)((answer) >> 8 & 0xff))
 #define COMPOSE_INDEX(answer) ((uint64_t)(answer) >> 16 & UINT64_C(0xffffffffff))
 
-/* The refusals (document 01, "Refusals in order"). */
+/* The refusals (document 01, "Refusals in order"; document 02, A4, for 19). */
 enum compose_refusal {
     COMPOSE_SHORT = 1,      /* a descriptor body is empty or cut short */
     COMPOSE_VERSION = 2,    /* a descriptor's version is not 0 */
@@ -53,7 +53,8 @@ enum compose_refusal {
     COMPOSE_MISSING = 15,   /* no inputs, nothing placed, or a cell missing */
     COMPOSE_OPACITY = 16,   /* an alpha sample above top */
     COMPOSE_ROOM = 17,      /* a lent buffer that is too short */
-    COMPOSE_POINT = 18      /* no point answer */
+    COMPOSE_POINT = 18,     /* no point answer */
+    COMPOSE_TILING = 19     /* rows or columns of tiles outside 1 to 256 */
 };
 
 /* The sorts of items. A call on a tray (compose_tray; grids, overlays, their scenes, room and points) says which record it
@@ -107,6 +108,23 @@ uint64_t compose_overlay_offset(const uint8_t *body, size_t body_len, uint32_t c
  * Refusals: the body's; 17 an answer below 4 * count words. */
 uint64_t compose_overlay_offsets(const uint8_t *body, size_t body_len, uint32_t count, uint64_t *answer,
                                  size_t answer_len);
+
+/* A descriptor body written from its fields (document 02, A4), at the start of `out`; what is past it stays. Sizes and
+ * offsets have 16 bits where every size is at most 65,535 and every offset lies from -32,768 to 32,767, else 32. Each
+ * answers the body's length. 17, the last refusal of each: `out` is shorter than the body. */
+
+/* The body of a grid, of 8 or 12 bytes. Refusals: 19 rows or columns outside 1 to 256; 3 a side 0; 4 above 2^30 pixels;
+ * 17. */
+uint64_t compose_write_grid(uint32_t rows, uint32_t columns, uint32_t width, uint32_t height, uint8_t *out,
+                            size_t out_len);
+
+/* The body of an overlay, of 14 + 4 * inputs or 18 + 8 * inputs bytes: its fill, its canvas, and of each input in turn two
+ * words of `offsets`, how far right of and how far below the canvas's corner it goes, each the unsigned pattern of a signed
+ * number. A last word without a partner is not looked at. Refusals: 3 a side 0; 4 above 2^30 pixels; 4 above 65,536 inputs;
+ * 15 no inputs; 17. */
+uint64_t compose_write_overlay(uint16_t red, uint16_t green, uint16_t blue, uint16_t alpha, uint32_t width,
+                               uint32_t height, const uint32_t *offsets, size_t offsets_len, uint8_t *out,
+                               size_t out_len);
 
 /* How many entries a chain has. Refusals: the chain's. */
 uint64_t compose_chain(const uint8_t *chain, size_t chain_len);

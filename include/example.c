@@ -1,5 +1,5 @@
-/* Joins two tiles, turns the picture, prints it, and asks what its top left place shows; then asks for a place outside,
- * and how many records a tray has that is cut short, and says why both are refused.
+/* Writes a grid's body, joins two tiles by it, turns the picture, prints it, and asks what its top left place shows; then
+ * asks for a place outside, and how many records a tray has that is cut short, and says why both are refused.
  *
  *     cc -I include include/example.c target/staticlib/libcapi.a -o target/example && target/example
  */
@@ -7,8 +7,9 @@
 #include <stdio.h>
 #include <stdlib.h>
 
-/* One row of two tiles, on a canvas of 4 x 2. */
-static const uint8_t body[] = {0, 0, 0, 1, 0, 4, 0, 2};
+/* The body of a grid, which is at most 12 bytes long. */
+static uint8_t body[12];
+static size_t body_len;
 
 /* Two records. Each is 2 x 2, mono, depth 8, no alpha; one plane of stride 2 and 4 bytes. */
 static const uint8_t tray[] = {2, 2, 2, 0, 8, 0, 2, 4, 1, 2, 3, 4, 2, 2, 0, 8, 0, 2, 4, 5, 6, 7, 8};
@@ -46,7 +47,7 @@ static void ask(uint32_t column, uint32_t row)
 {
     uint32_t words[10];
     printf("(%d, %d): ", (int)column, (int)row);
-    uint64_t answer = compose_grid_point(body, sizeof body, tray, sizeof tray, chain, sizeof chain, 0, column, row,
+    uint64_t answer = compose_grid_point(body, body_len, tray, sizeof tray, chain, sizeof chain, 0, column, row,
                                          words, 10);
     if (!refused(answer))
         printf("tile %d at (%d, %d)\n", (int)words[1], (int)words[2], (int)words[3]);
@@ -54,14 +55,19 @@ static void ask(uint32_t column, uint32_t row)
 
 int main(void)
 {
+    /* One row of two tiles, on a canvas of 4 x 2. */
+    uint64_t written = compose_write_grid(1, 2, 4, 2, body, sizeof body);
+    if (refused(written))
+        return 1;
+    body_len = (size_t)written;
     /* Output and spare must have room for the longest of the composed record and the turned one. */
-    uint64_t room = compose_grid_scene_room(body, sizeof body, tray, sizeof tray, chain, sizeof chain, 0);
+    uint64_t room = compose_grid_scene_room(body, body_len, tray, sizeof tray, chain, sizeof chain, 0);
     if (refused(room))
         return 1;
     uint8_t *output = (uint8_t *)malloc(room), *spare = (uint8_t *)malloc(room);
     if (!output || !spare)
         return 1;
-    uint64_t length = compose_grid_scene(body, sizeof body, tray, sizeof tray, chain, sizeof chain, 0, output, room,
+    uint64_t length = compose_grid_scene(body, body_len, tray, sizeof tray, chain, sizeof chain, 0, output, room,
                                          spare, room);
     if (refused(length))
         return 1;

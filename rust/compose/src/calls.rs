@@ -55,6 +55,9 @@ fn parts() -> Vec<(&'static str, Vec<u8>)> {
     ]
 }
 
+/// The words of two inputs' offsets, which are read.
+const OFFSETS: [u32; 4] = [0, 0, u32::MAX, 2];
+
 /// The parts that are written: type, name and length.
 const WRITTEN: [(&str, &str, usize); 8] = [
     ("uint64_t", "words_u64", 32),
@@ -143,6 +146,8 @@ fn program() -> String {
         let bytes: Vec<String> = bytes.iter().map(u8::to_string).collect();
         text += &format!("static const uint8_t {name}[] = {{{}}};\n", bytes.join(","));
     }
+    let offsets = OFFSETS.map(|word| format!("{word}u")).join(",");
+    text += &format!("static const uint32_t offsets[] = {{{offsets}}};\n");
     for (of, name, length) in WRITTEN {
         text += &format!("static {of} {name}[{length}];\n");
     }

@@ -86,7 +86,7 @@ pub(crate) fn overlay_of<'a, F: Recorded + 'a>(
     inputs: impl ExactSizeIterator<Item = (&'a F, bool)> + Clone,
     colr: Option<&Colr>,
 ) -> Result<Vec<u8>> {
-    let body = desc.body(inputs.len())?;
+    let body = desc.body_for(inputs.len())?;
     let list: Vec<u8> = inputs.clone().map(|(_, alpha)| alpha.into()).collect();
     let tray = tray_of(inputs.map(|(frame, _)| frame))?;
     let made = overlay(&body, &tray, &list, colr);
@@ -144,10 +144,8 @@ mod tests {
     /// As many inputs as there may be, each one pixel, laid over a canvas of 256 × 256; and one more.
     #[test]
     fn an_overlay_of_65536_inputs() {
-        let body = |inputs: i32| {
-            let offsets = (0..inputs).map(|at| (at % 256, at / 256 % 256)).collect();
-            OverlayDescriptor::new([0, 0, 0, 65_535], 256, 256, offsets).to_bytes()
-        };
+        let offsets = (0..65_536).map(|at| (at % 256, at / 256)).collect();
+        let mut body = OverlayDescriptor::new([0, 0, 0, 65_535], 256, 256, offsets).to_bytes();
         let tray = |inputs: u32| {
             let mut tray = Vec::new();
             push_number(&mut tray, inputs);
@@ -156,10 +154,12 @@ mod tests {
             }
             tray
         };
-        let made = overlay(&body(65_536), &tray(65_536), &[0; 65_536], None).expect("a record");
+        let made = overlay(&body, &tray(65_536), &[0; 65_536], None).expect("a record");
         let samples = &made[made.len() - 65_536..];
         assert!((0..65_536).all(|at| samples[at] == (at % 251) as u8));
-        let refusal = overlay(&body(65_537), &tray(65_537), &[0; 65_537], None).unwrap_err();
+        // No body of more is written, but a file may hold one.
+        body.extend([0; 4]);
+        let refusal = overlay(&body, &tray(65_537), &[0; 65_537], None).unwrap_err();
         assert_eq!(refusal, Refusal::LIMIT);
     }
 }

@@ -13,11 +13,16 @@
 //!
 //! let refusal = OverlayDescriptor::parse(&overlay.to_bytes(), 2).unwrap_err();
 //! assert_eq!((refusal.number(), refusal.name()), (1, "short"));
+//!
+//! // Fields that no body has.
+//! let refusal = GridDescriptor::new(257, 1, 4, 2).body().unwrap_err();
+//! assert_eq!((refusal.number(), refusal.name()), (19, "tiling"));
 //! # Ok::<(), compose::Refusal>(())
 //! ```
 
 use crate::lend::narrow;
-use crate::{Refusal, Result, sys};
+use crate::sys::{self, Fresh};
+use crate::{Refusal, Result};
 
 /// The most inputs of one overlay.
 pub const MAX_DERIVATION_INPUTS: usize = 1 << 16;
@@ -57,10 +62,12 @@ fn inputs(count: usize) -> u32 {
     u32::try_from(count).unwrap_or(u32::MAX)
 }
 
-/// A size or an offset of 32 bits or 16.
-fn push_field(body: &mut Vec<u8>, large: bool, field: u32) {
-    let bytes = field.to_be_bytes();
-    body.extend_from_slice(if large { &bytes } else { &bytes[2..] });
+/// The body of a grid (document 02, A4), with sizes of 16 bits where both fit, else of 32. Refusals: 19
+/// rows or columns outside 1 to 256; 3 a side 0; 4 above 2^30 pixels.
+pub fn grid_body(rows: u32, columns: u32, width: u32, height: u32) -> Result<Vec<u8>> {
+    // As long as one of 32-bit sizes is.
+    let room = 12;
+    Fresh::compose_write_grid(rows, columns, width, height, room)
 }
 
 /// A grid's descriptor (ISO/IEC 23008-12, 6.6.2.3.2).
@@ -107,31 +114,20 @@ impl GridDescriptor {
         usize::from(self.rows) * usize::from(self.columns)
     }
 
-    /// The body, judged before it is handed on: rows and columns that it has no room for are
-    /// refused as its sides are. Refusals: 3 no rows, no columns or a side 0; 4 above 2^30 pixels, or
-    /// above 256 rows or columns.
+    /// The body, as [`grid_body`] writes it. Refusals: 19, 3, 4.
     pub fn body(&self) -> Result<Vec<u8>> {
-        if self.rows == 0 || self.columns == 0 {
-            return Err(Refusal::EMPTY);
-        }
-        let body = self.to_bytes();
-        let held = Self::parse(&body)?;
-        match held == *self {
-            true => Ok(body),
-            false => Err(Refusal::LIMIT),
-        }
+        let [rows, columns] = [self.rows, self.columns].map(u32::from);
+        grid_body(rows, columns, self.output_width, self.output_height)
     }
 
-    /// The body, with sizes of 16 bits where they fit. It holds rows and columns from 1 to 256, and
-    /// of others what is left mod 256; [`GridDescriptor::body`] refuses them.
+    /// As [`body`](Self::body), in oxideav-heif's shape.
+    ///
+    /// # Panics
+    ///
+    /// Where [`body`](Self::body) refuses.
     pub fn to_bytes(&self) -> Vec<u8> {
-        let large = self.output_width > 0xffff || self.output_height > 0xffff;
-        let less = |tiles: u16| tiles.wrapping_sub(1) as u8;
-        let mut body = vec![0, u8::from(large), less(self.rows), less(self.columns)];
-        for side in [self.output_width, self.output_height] {
-            push_field(&mut body, large, side);
-        }
-        body
+        self.body()
+            .unwrap_or_else(|refusal| panic!("a grid's body: {refusal}"))
     }
 }
 
@@ -180,41 +176,49 @@ impl OverlayDescriptor {
         })
     }
 
-    /// The body for so many inputs, judged before it is handed on. Refusals: 3 a side 0; 4 above
-    /// 2^30 pixels; 4 above 65,536 inputs; 15 none; 11 another number of offsets.
-    pub(crate) fn body(&self, count: usize) -> Result<Vec<u8>> {
-        let body = self.to_bytes();
-        match sys::compose_overlay_descriptor(&body, inputs(count), &mut [0; 6]) {
-            // The fields are all there: it is the offsets that are fewer.
-            Err(refusal) if refusal.is(Refusal::SHORT) => return Err(Refusal::COUNT),
-            judged => judged?,
-        };
-        if count == 0 {
-            return Err(Refusal::MISSING);
+    /// The body (document 02, A4), with sizes and offsets of 16 bits where all fit, else of 32. Refusals:
+    /// 3 a side 0; 4 above 2^30 pixels; 4 above 65,536 inputs; 15 no inputs.
+    pub fn body(&self) -> Result<Vec<u8>> {
+        self.body_for(self.offsets.len())
+    }
+
+    /// The body for so many inputs. Refusals: as [`body`](Self::body); then 11 another number of
+    /// offsets.
+    pub(crate) fn body_for(&self, count: usize) -> Result<Vec<u8>> {
+        // One above the most stands for all above it.
+        let inputs = count.min(MAX_DERIVATION_INPUTS + 1);
+        let mut words = Vec::with_capacity(2 * inputs);
+        for (x, y) in self.offsets.iter().take(inputs) {
+            words.extend([x.cast_unsigned(), y.cast_unsigned()]);
         }
+        // Inputs without an offset count here, too: that they have none is judged last.
+        words.resize(2 * inputs, 0);
+        // As long as one of 32-bit sizes and offsets is.
+        let room = 18 + 8 * inputs;
+        let [red, green, blue, alpha] = self.canvas_fill;
+        let body = Fresh::compose_write_overlay(
+            red,
+            green,
+            blue,
+            alpha,
+            self.output_width,
+            self.output_height,
+            &words,
+            room,
+        )?;
         match count == self.offsets.len() {
             true => Ok(body),
             false => Err(Refusal::COUNT),
         }
     }
 
-    /// The body, with sizes and offsets of 16 bits where all fit.
+    /// As [`body`](Self::body), in oxideav-heif's shape.
+    ///
+    /// # Panics
+    ///
+    /// Where [`body`](Self::body) refuses.
     pub fn to_bytes(&self) -> Vec<u8> {
-        let long = |offset: i32| i16::try_from(offset).is_err();
-        let large = self.output_width > 0xffff
-            || self.output_height > 0xffff
-            || self.offsets.iter().any(|(x, y)| long(*x) || long(*y));
-        let mut body = vec![0, u8::from(large)];
-        for channel in self.canvas_fill {
-            body.extend_from_slice(&channel.to_be_bytes());
-        }
-        for side in [self.output_width, self.output_height] {
-            push_field(&mut body, large, side);
-        }
-        for (x, y) in &self.offsets {
-            push_field(&mut body, large, x.cast_unsigned());
-            push_field(&mut body, large, y.cast_unsigned());
-        }
-        body
+        self.body()
+            .unwrap_or_else(|refusal| panic!("an overlay's body: {refusal}"))
     }
 }

@@ -1,5 +1,5 @@
-//! The names of oxideav-heif's module `error`. What went wrong is a [`Refusal`] here, one of
-//! document 01's numbers with its sentence, in place of a class and a text.
+//! The names of oxideav-heif's module `error`. What went wrong is a [`Refusal`] here, a number
+//! with its sentence, in place of a class and a text.
 
 pub use crate::{Refusal, Result};
 

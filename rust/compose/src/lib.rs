@@ -1,8 +1,8 @@
 //! The composer of document 01: one planar picture from tiles and marks, as safe calls.
 //!
 //! The code behind the calls is proved; `crates/capi` has the contract of each. A call takes any
-//! bytes and any frame: what it does not take it refuses, with one of document 01's numbers
-//! ([`Refusal`]), and then nothing is written.
+//! bytes and any frame: what it does not take it refuses, with a number ([`Refusal`]), and then nothing
+//! is written.
 //!
 //! # In place of oxideav-heif
 //!

@@ -1,5 +1,5 @@
-//! Why a call refuses (document 01, "Refusals in order"), and the sentence that says it (document 02,
-//! A2).
+//! Why a call refuses (document 01, "Refusals in order"; document 02, A4, for 19), and the sentence that
+//! says it (document 02, A2).
 
 use crate::limits::{Ceiling, Excess};
 use crate::sys::Fresh;
@@ -49,7 +49,7 @@ pub(crate) const LONGEST_SENTENCE: usize = 192;
 /// The greatest index that an answer has room for.
 const LAST_INDEX: u64 = (1 << 40) - 1;
 
-/// Why a call refused: one of document 01's numbers, and where it is an item's own refusal, the item.
+/// Why a call refused: its number, and where it is an item's own refusal, the item.
 ///
 /// Two are equal where all of it is; [`is`](Self::is) compares the numbers alone. It is displayed as
 /// its English sentence.
@@ -125,6 +125,7 @@ refusals! {
     16 OPACITY "opacity" "an alpha sample above top"
     17 ROOM "room" "a lent buffer that is too short"
     18 POINT "point" "no point answer"
+    19 TILING "tiling" "rows or columns of tiles outside 1 to 256"
 }
 
 impl Refusal {
@@ -196,7 +197,7 @@ impl Refusal {
         self.number == other.number
     }
 
-    /// Document 01's number.
+    /// Its number.
     pub fn number(self) -> u8 {
         self.number
     }
@@ -294,7 +295,7 @@ mod tests {
     fn refusals_have_number_and_name() {
         assert_eq!(Refusal::from_number(17), Some(Refusal::ROOM));
         assert_eq!(Refusal::from_number(0), None);
-        assert_eq!(Refusal::from_number(19), None);
+        assert_eq!(Refusal::from_number(20), None);
         assert_eq!(Refusal::from_number(256 + 5), None);
         let malformed = Refusal::MALFORMED;
         assert_eq!((malformed.number(), malformed.name()), (5, "malformed"));
@@ -381,7 +382,7 @@ mod tests {
             "13: A tile is not the same size as the first one (record ).",
             "13: A tile is not the same size as the first one (record -4).",
             "13: A tile is not the same size as the first one (record 4) (entry 4).",
-            "19: A tile is not the same size as the first one.",
+            "20: A tile is not the same size as the first one.",
             "refused 13",
         ] {
             assert_eq!(Refusal::from_sentence(text), None, "{text}");

@@ -39,7 +39,7 @@ macro_rules! safe {
             $($rest)*
         }
     };
-    // The last of a function that writes a record or a text: into a buffer of its own, too.
+    // The last of a function that writes a record, a body or a text: into a buffer of its own, too.
     ($head:tt ($($here:tt)*) ($($in_c:tt)*) ($($passes:tt)*) out: &mut [u8], $(,)?) => {
         fresh! { $head ($($here)*) ($($in_c)*) ($($passes)*) out }
         safe! { $head
@@ -153,6 +153,23 @@ library! {
     /// Where all inputs of an overlay go, in list order, in 4 words each, as
     /// [`compose_overlay_offset`] has them.
     fn compose_overlay_offsets(body: &[u8], count: u32, answer: &mut [u64]);
+
+    /// The descriptor body of a grid; answers its length, as the next one does.
+    fn compose_write_grid(rows: u32, columns: u32, width: u32, height: u32, out: &mut [u8]);
+
+    /// The descriptor body of an overlay, of whose inputs in turn `offsets` has two words each: the
+    /// unsigned patterns of the horizontal and the vertical offset. A last word without a partner is
+    /// not looked at.
+    fn compose_write_overlay(
+        red: u16,
+        green: u16,
+        blue: u16,
+        alpha: u16,
+        width: u32,
+        height: u32,
+        offsets: &[u32],
+        out: &mut [u8],
+    );
 
     /// How many entries a chain has.
     fn compose_chain(chain: &[u8]);
@@ -387,7 +404,7 @@ mod tests {
     fn words_that_no_call_answers() {
         for code in [
             0,
-            19,
+            20,
             255,
             13 + (3 << 8),
             13 + (1 << 16),

@@ -71,6 +71,20 @@ fn properties(scaling: bool) -> Vec<u8> {
     chain::join(&entries).expect("a chain")
 }
 
+/// Bodies, of either form.
+fn add_bodies(calls: &mut Calls) {
+    for side in [200, 70_000] {
+        let mut out = room();
+        calls.add("compose_write_grid", move || {
+            sys::compose_write_grid(3, 2, side, 160, &mut out)
+        });
+        let mut out = room();
+        calls.add("compose_write_overlay", move || {
+            sys::compose_write_overlay(1, 2, 3, 4, side, 160, &[0; 6], &mut out)
+        });
+    }
+}
+
 /// Records, bodies, chains and numbers that are read.
 fn add_reading(calls: &mut Calls) {
     for format in formats() {
@@ -299,6 +313,7 @@ fn add_sessions(calls: &mut Calls, format: HeifPixelFormat) {
 fn all() -> Vec<(&'static str, Ready)> {
     let mut calls = Calls(Vec::new());
     add_reading(&mut calls);
+    add_bodies(&mut calls);
     for format in formats() {
         add_operations(&mut calls, format);
         add_grids(&mut calls, format);

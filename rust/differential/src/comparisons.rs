@@ -1032,8 +1032,8 @@ pub fn agreement(frame: &Frame, sighted: &Sighted) -> Option<String> {
 /// A number, a sort, an index as its bit pattern and a language: known ones as a rule.
 fn sentence_input(rng: &mut Rng) -> Input {
     let number = match rng.below(8) {
-        0 => rng.pick(&[0, 19, 255, 256 + 5, u32::MAX]),
-        _ => rng.number(1..=18),
+        0 => rng.pick(&[0, 20, 255, 256 + 5, u32::MAX]),
+        _ => rng.number(1..=19),
     };
     let sort = match rng.below(8) {
         0 => rng.pick(&[3, 255]),

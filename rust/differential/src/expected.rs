@@ -102,6 +102,14 @@ pub fn tray(oracle: &dyn Oracle, bytes: &[u8]) -> Want<Vec<Frame>> {
     })
 }
 
+/// Rows and columns of tiles: 19 outside 1 to 256 (document 02, A4).
+pub(crate) fn hold_tiles(tiles: [u32; 2]) -> Want<()> {
+    match tiles {
+        [1..=256, 1..=256] => Ok(()),
+        _ => Err(Stop::Refused(refusal::TILING)),
+    }
+}
+
 /// The most that each number of an entry may be, by its kind: essential, then the fields.
 const ENTRIES: [&[u32]; 5] = [
     &[1],

@@ -1,7 +1,9 @@
 //! Pictures in oxideav-heif's shape, as the crate `compose` has it: frames of the model in that
 //! shape, legal or not, and what document 01 wants of the calls on them.
 
-use crate::expected::{Stop, Want, alpha_above_top, attach, compose_grid, hold_inputs, settle};
+use crate::expected::{
+    Stop, Want, alpha_above_top, attach, compose_grid, hold_inputs, hold_tiles, settle,
+};
 use crate::ours;
 use compose::{
     Chroma, GridDescriptor, HeifFrame, HeifPixelFormat, OverlayDescriptor, Plane, props,
@@ -107,17 +109,10 @@ fn canvas(width: u32, height: u32) -> Want<()> {
     Ok(())
 }
 
-/// A grid that may be out of range: rows and columns from 1 to 256 are what a body has room for, so
-/// that 0 of them is 3 and more of them are 4, where the canvas has these.
+/// A grid that may be out of range: 19, then the canvas's.
 pub fn grid(grid: &Grid) -> Want<()> {
-    if grid.rows == 0 || grid.columns == 0 {
-        return refused(refusal::ZERO_SIDE);
-    }
-    canvas(grid.width, grid.height)?;
-    if grid.rows > 256 || grid.columns > 256 {
-        return refused(refusal::LIMIT);
-    }
-    Ok(())
+    hold_tiles([grid.rows, grid.columns].map(u32::from))?;
+    canvas(grid.width, grid.height)
 }
 
 /// Frames whose records are judged in turn, each with its own refusal.

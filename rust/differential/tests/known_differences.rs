@@ -20,8 +20,12 @@
 //! | the size after an iscl | 1 × 1, iscl 65535/1, 65535/1 | 4 | `Iscl::output_size` and `ItemProperties::output_size` accept, 65,535 × 65,535; `apply_iscl` says "limit exceeded" | the same |
 //! | an area of a ratio that no iscl has | `resize_area` of 70,001 × 1 to 70,000 × 1 | 4 | accepts | accepts |
 //! | margins that are not a crop's own | crop of `0101000800010105` to 0, 0, 1, 1 with the margins 0, 0, 0, 1 | 9, by document 02 | has no margins: accepts the rectangle | the same |
-//! | 257 rows of tiles | `GridDescriptor::new(257, 1, 2, 2)`, 257 tiles of 2 × 2 | 4: a body has 256 at most | `composite_grid` accepts; `to_bytes` writes a body of one row | the same |
-//! | no rows of tiles | `GridDescriptor::new(0, 1, 2, 2)`, no tiles | 3 | `composite_grid` says "no tiles" | the same |
+//! | 257 rows of tiles | `GridDescriptor::new(257, 1, 2, 2)`, 257 tiles of 2 × 2 | 19, by document 02 | `composite_grid` accepts; `to_bytes` writes a body of one row | the same |
+//! | no rows of tiles | `GridDescriptor::new(0, 1, 2, 2)`, no tiles | 19, by document 02 | `composite_grid` says "no tiles"; `to_bytes` writes a body of 256 rows | "no tiles"; `to_bytes` panics at `self.rows - 1` (derived.rs:106) |
+//! | a body of a side 0 | `to_bytes` of a grid or an overlay of 0 × 2 | 3, by document 02 | writes one, which its `parse` refuses | the same |
+//! | a body above 2^30 pixels | the same of 32,768 × 32,769 | 4, by document 02 | writes one, which its `parse` refuses | the same |
+//! | a body of 65,537 inputs | `to_bytes` of an overlay of 1 × 1 and 65,537 offsets | 4, by document 02 | writes one, which its `parse` refuses | the same |
+//! | a body without inputs | `to_bytes` of an overlay of 1 × 1 without offsets | 15, by document 02 | writes one | the same |
 //! | no inputs for an offset | `OverlayDescriptor` of one offset, no inputs | 15 | "0 inputs for 1 offsets", which is 11 | the same |
 //!
 //! A premultiplied list of another length (11) has no counterpart: the Rust keeps the flag with
@@ -32,13 +36,14 @@
 mod common;
 
 use common::{bytes, on_each_build};
+use compose::Refusal;
 use differential::compare::Sides;
 use differential::ours::{Composer, Linked};
 use differential::shaped::{grid_descriptor, heif, overlay_descriptor};
 use model::refusal::{DEPTH, LIMIT, MALFORMED, OUTSIDE};
 use model::{
     Chroma, Colour, Crop, Entry, Frame, Grid, Iscl, Operation, Oracle, Outcome, Overlay,
-    OverlayInput, Plane, Property, chain_bytes, parse_tray, parse_untested,
+    OverlayInput, Plane, Property, attempt, chain_bytes, overlay_bytes, parse_tray, parse_untested,
 };
 
 /// Runs `plain` on the plain build and `checked` on the checked one, where they are present.
@@ -268,9 +273,9 @@ fn the_size_after_an_iscl() {
 fn an_area_of_a_ratio_that_no_iscl_has() {
     let frame = strip(70_001);
     let ours = compose::resize_area(&heif(&frame), 70_000, 1);
-    assert_eq!(ours, Err(compose::Refusal::LIMIT));
+    assert_eq!(ours, Err(Refusal::LIMIT));
     let ours = compose::resize_area(&heif(&frame), 35_000, 1);
-    assert_eq!(ours, Err(compose::Refusal::LIMIT));
+    assert_eq!(ours, Err(Refusal::LIMIT));
     on_each_build(|oracle| {
         let scaled = oracle.resize_area(&frame, 70_000, 1).done();
         assert_eq!(scaled, Some(strip(70_000)));
@@ -294,7 +299,7 @@ fn margins_that_are_not_a_crops_own() {
 /// Rows of tiles that no body holds: more than 256, and none.
 #[test]
 fn rows_that_no_body_holds() {
-    for (rows, refusal) in [(257, compose::Refusal::LIMIT), (0, compose::Refusal::EMPTY)] {
+    for rows in [257, 0] {
         let grid = Grid {
             rows,
             columns: 1,
@@ -304,12 +309,71 @@ fn rows_that_no_body_holds() {
         let tiles = vec![Frame::mono(2, 2, &[1, 2, 3, 4]); usize::from(rows)];
         let ours: Vec<compose::HeifFrame> = tiles.iter().map(heif).collect();
         let made = compose::composite_grid(&grid_descriptor(&grid), &ours);
-        assert_eq!(made, Err(refusal));
+        assert_eq!(made, Err(Refusal::TILING));
         on_each_build(|oracle| match oracle.composite_grid(&grid, &tiles) {
             Outcome::Done(picture) => assert_eq!((rows, picture), (257, tiles[0].clone())),
             Outcome::Error(text) => assert_eq!(text, "heif: invalid data: grid: no tiles"),
             Outcome::Panic(text) => panic!("{text}"),
         });
+    }
+}
+
+/// The crate's `body` refuses, and its `to_bytes`, which has no error, panics with the sentence.
+fn assert_unwritten(
+    refusal: Refusal,
+    body: compose::Result<Vec<u8>>,
+    to_bytes: impl FnOnce() -> Vec<u8>,
+) {
+    assert_eq!(body, Err(refusal));
+    let written = attempt(|| Ok::<_, String>(to_bytes()));
+    assert_panics(written, "", &format!("'s body: {refusal} (derived.rs:"));
+}
+
+#[test]
+fn grids_that_no_body_is_written_of() {
+    for (rows, width, height, refusal, body) in [
+        (257, 2, 2, Refusal::TILING, "0000 00 00 0002 0002"),
+        (0, 2, 2, Refusal::TILING, "0000 ff 00 0002 0002"),
+        (1, 0, 2, Refusal::EMPTY, "0000 00 00 0000 0002"),
+        (1, 32_768, 32_769, Refusal::LIMIT, "0000 00 00 8000 8001"),
+    ] {
+        let grid = Grid {
+            rows,
+            columns: 1,
+            width,
+            height,
+        };
+        let ours = grid_descriptor(&grid);
+        assert_unwritten(refusal, ours.body(), || ours.to_bytes());
+        let written = Outcome::Done(bytes(body));
+        on_the_builds(
+            |plain| assert_eq!(plain.write_grid(&grid), written),
+            |checked| match rows {
+                0 => assert_panics(checked.write_grid(&grid), SUBTRACT, "derived.rs"),
+                _ => assert_eq!(checked.write_grid(&grid), written),
+            },
+        );
+    }
+}
+
+#[test]
+fn overlays_that_no_body_is_written_of() {
+    for (width, height, inputs, refusal) in [
+        (0, 2, 1, Refusal::EMPTY),
+        (32_768, 32_769, 1, Refusal::LIMIT),
+        (1, 1, 65_537, Refusal::LIMIT),
+        (1, 1, 0, Refusal::MISSING),
+    ] {
+        let overlay = Overlay {
+            fill: [1, 2, 3, 4],
+            width,
+            height,
+            offsets: vec![(5, -6); inputs],
+        };
+        let ours = overlay_descriptor(&overlay);
+        assert_unwritten(refusal, ours.body(), || ours.to_bytes());
+        let written = Outcome::Done(overlay_bytes(&overlay, false));
+        on_each_build(|oracle| assert_eq!(oracle.write_overlay(&overlay), written));
     }
 }
 
@@ -322,7 +386,7 @@ fn no_inputs_for_an_offset() {
         offsets: vec![(0, 0)],
     };
     let made = compose::composite_overlay(&overlay_descriptor(&overlay), &[], None);
-    assert_eq!(made, Err(compose::Refusal::MISSING));
+    assert_eq!(made, Err(Refusal::MISSING));
     on_each_build(|oracle| {
         let refused = oracle.composite_overlay(&overlay, &[], None);
         let text = "heif: invalid data: iovl: 0 inputs for 1 offsets".to_string();

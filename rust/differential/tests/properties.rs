@@ -8,7 +8,6 @@ use differential::damage::{
     BodyFault, each_choice, faulty_body, faulty_chain, first_refusal, triples,
 };
 use differential::expected::{self, Stop};
-use differential::generate;
 use differential::ours::{Composer, Linked, fills, refusal, writes};
 use differential::rng::Rng;
 use differential::shaped;
@@ -204,30 +203,6 @@ fn the_most_inputs() {
     }
     body.pop();
     assert_eq!(read_overlay(&body, 65_536), Some(1));
-}
-
-/// Bodies that `compose` writes are read back as they were.
-#[test]
-fn bodies_are_written_back() {
-    let mut rng = Rng::new(4);
-    for _ in 0..2_000 {
-        let (width, height) = (generate::border(&mut rng), generate::border(&mut rng));
-        let inputs = rng.below(4);
-        let offset = |rng: &mut Rng| generate::border(rng).cast_signed();
-        let offsets = (0..inputs).map(|_| (offset(&mut rng), offset(&mut rng)));
-        let overlay = OverlayDescriptor::new([1, 2, 3, 4], width, height, offsets.collect());
-        let grid = GridDescriptor::new(256, 1, width, height);
-        let area = u64::from(width) * u64::from(height);
-        let read = OverlayDescriptor::parse(&overlay.to_bytes(), inputs);
-        match area {
-            0 => assert_eq!(read, Err(compose::Refusal::EMPTY)),
-            1..=0x4000_0000 => {
-                assert_eq!(read, Ok(overlay));
-                assert_eq!(GridDescriptor::parse(&grid.to_bytes()), Ok(grid));
-            }
-            _ => assert_eq!(read, Err(compose::Refusal::LIMIT)),
-        }
-    }
 }
 
 #[test]

@@ -64,7 +64,7 @@ fn every_sentence_is_read_back() {
         u64::MAX,
     ];
     let mut all = HashSet::new();
-    for (number, language) in (1..=18).flat_map(|number| [(number, 0), (number, 1)]) {
+    for (number, language) in (1..=19).flat_map(|number| [(number, 0), (number, 1)]) {
         let alone = sentence(number, 0, 0, language);
         for (sort, index) in indexes
             .iter()
@@ -81,7 +81,7 @@ fn every_sentence_is_read_back() {
             all.insert(bytes);
         }
     }
-    assert_eq!(all.len(), 18 * 2 * (1 + 2 * indexes.len()));
+    assert_eq!(all.len(), 19 * 2 * (1 + 2 * indexes.len()));
 }
 
 /// 5 before 17, and neither writes; the room that a sentence takes and no less serves.
@@ -94,7 +94,7 @@ fn refused_sentences_write_nothing() {
     };
     for unknown in [
         [0, 0, 0],
-        [19, 1, 1],
+        [20, 1, 1],
         [255, 2, 0],
         [256 + 5, 0, 0],
         [u32::MAX, 0, 1],
@@ -108,7 +108,7 @@ fn refused_sentences_write_nothing() {
             assert_eq!(call(unknown, room), refused, "{unknown:?}");
         }
     }
-    for known in [[1, 0, 0], [18, 2, 0], [18, 1, 1]] {
+    for known in [[1, 0, 0], [18, 2, 0], [18, 1, 1], [19, 0, 0]] {
         let (length, _) = call(known, 256);
         let length = length.expect("a sentence");
         for room in 0..length {
@@ -132,7 +132,7 @@ fn what_is_no_sentence_says_nothing() {
         // Another number's reason, another language's word, a word that is not known.
         "12: A tile is not the same size as the first one (record 4).",
         "0: A tile is not the same size as the first one.",
-        "19: A tile is not the same size as the first one.",
+        "20: A tile is not the same size as the first one.",
         "269: A tile is not the same size as the first one.",
         "13: A tile is not the same size as the first one (Bild 4).",
         "13: Eine Kachel ist nicht so groß wie die erste (entry 4).",

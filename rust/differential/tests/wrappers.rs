@@ -95,30 +95,30 @@ fn deep() -> HeifFrame {
     tile().with_format(tile().format.with_bit_depth(40))
 }
 
-/// Rows or columns that a body has no room for.
+/// Rows or columns that a body has no room for: 19, before a side 0 of the canvas.
 #[test]
 fn grids_that_no_body_holds() {
-    for (rows, columns, tiles, refusal) in [
-        (257, 1, 1, Refusal::LIMIT),
-        (257, 1, 257, Refusal::LIMIT),
-        (1, 257, 1, Refusal::LIMIT),
-        (65_535, 65_535, 1, Refusal::LIMIT),
-        (0, 1, 256, Refusal::EMPTY),
-        (0, 1, 0, Refusal::EMPTY),
-        (1, 0, 1, Refusal::EMPTY),
-        // A side 0 comes before what is above a limit.
-        (257, 0, 1, Refusal::EMPTY),
+    for (rows, columns, tiles) in [
+        (257, 1, 1),
+        (257, 1, 257),
+        (1, 257, 1),
+        (65_535, 65_535, 1),
+        (0, 1, 256),
+        (0, 1, 0),
+        (1, 0, 1),
+        (257, 0, 1),
     ] {
-        let desc = GridDescriptor::new(rows, columns, 2, 2);
-        let made = composite_grid(&desc, &vec![tile(); tiles]);
-        assert_eq!(made, Err(refusal), "{rows} rows, {columns} columns");
-        let mut canvas = GridCanvas::new(&desc);
-        assert_eq!(canvas.place(0, &tile()), Err(refusal));
-        assert_eq!(canvas.place_blank(0), Err(refusal));
-        assert_eq!(canvas.finish(), Err(refusal));
+        for width in [2, 0] {
+            let desc = GridDescriptor::new(rows, columns, width, 2);
+            let made = composite_grid(&desc, &vec![tile(); tiles]);
+            let refused = Refusal::TILING;
+            assert_eq!(made, Err(refused), "{rows} rows, {columns} columns");
+            let mut canvas = GridCanvas::new(&desc);
+            assert_eq!(canvas.place(0, &tile()), Err(refused));
+            assert_eq!(canvas.place_blank(0), Err(refused));
+            assert_eq!(canvas.finish(), Err(refused));
+        }
     }
-    let desc = GridDescriptor::new(257, 1, 0, 2);
-    assert_eq!(composite_grid(&desc, &[]), Err(Refusal::EMPTY));
     let desc = GridDescriptor::new(256, 1, 2, 2);
     assert!(composite_grid(&desc, &vec![tile(); 256]).is_ok());
 }

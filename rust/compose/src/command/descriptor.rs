@@ -1,9 +1,10 @@
-//! What descriptor bodies hold.
+//! Descriptor bodies: what they hold, and new ones.
 
 use super::files::{counted, read, say};
 use super::options::{FORCE, OUT};
 use super::words::Words;
 use super::{Command, Failure};
+use compose::derived::grid_body;
 use compose::{GridDescriptor, OverlayDescriptor};
 
 pub const DESCRIPTOR: Command = Command {
@@ -26,11 +27,14 @@ pub const BODY: Command = Command {
     options: &[OUT, FORCE],
     about: "a descriptor body",
     more: "\
-Writes the body of a grid, from rows and columns of tiles and the size of its canvas:
+Writes the body of a grid, from rows and columns of tiles, 1 to 256 of each (19), and the size of its
+canvas:
   compose body grid ROWS COLUMNS WIDTH HEIGHT -o OUT
 or of an overlay, from the size of its canvas, its fill (from 0 to 65535; an ALPHA of 65535 is
-opaque), and how far right of and below the canvas's corner each input goes:
-  compose body overlay WIDTH HEIGHT RED GREEN BLUE ALPHA [RIGHT BELOW].. -o OUT
+opaque), and how far right of and below the canvas's corner each input goes, of at least one (15):
+  compose body overlay WIDTH HEIGHT RED GREEN BLUE ALPHA RIGHT BELOW [RIGHT BELOW].. -o OUT
+Sizes and offsets have 16 bits where every size is at most 65535 and every offset from -32768 to 32767,
+else 32. compose descriptor shows what a body holds.
 ",
     run: run_body,
 };
@@ -39,9 +43,9 @@ fn run_body(words: &mut Words) -> Result<(), Failure> {
     let sort = words.next("grid or overlay")?;
     let body = match sort.as_str() {
         "grid" => {
-            let [rows, columns] = words.numbers(["ROWS", "COLUMNS"])?;
-            let [width, height] = words.numbers(["WIDTH", "HEIGHT"])?;
-            GridDescriptor::new(rows, columns, width, height).body()
+            let fields = words.numbers(["ROWS", "COLUMNS", "WIDTH", "HEIGHT"])?;
+            let [rows, columns, width, height] = fields;
+            grid_body(rows, columns, width, height)
         }
         "overlay" => {
             let [width, height] = words.numbers(["WIDTH", "HEIGHT"])?;
@@ -50,9 +54,7 @@ fn run_body(words: &mut Words) -> Result<(), Failure> {
             while !words.is_empty() {
                 offsets.push((words.number("RIGHT")?, words.number("BELOW")?));
             }
-            let count = offsets.len();
-            let body = OverlayDescriptor::new(fill, width, height, offsets).to_bytes();
-            OverlayDescriptor::parse(&body, count).map(|_| body)
+            OverlayDescriptor::new(fill, width, height, offsets).body()
         }
         _ => return Err(words.wrong(format!("it takes grid or overlay, not {sort}"))),
     };

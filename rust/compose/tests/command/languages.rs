@@ -54,7 +54,9 @@ fn an_option_of_every_command() {
         ("record grid.body", "grid.body: ", Refusal::DEPTH),
         ("tray grid.body", "grid.body: ", Refusal::MALFORMED),
         ("descriptor grid one.tray", "one.tray: ", Refusal::VERSION),
-        ("body grid 0 1 1 1 -o out.rec", "", Refusal::EMPTY),
+        ("body grid 1 1 0 1 -o out.rec", "", Refusal::EMPTY),
+        ("body grid 257 1 1 1 -o out.rec", "", Refusal::TILING),
+        ("body overlay 1 1 0 0 0 0 -o out.rec", "", Refusal::MISSING),
         ("fill 1 2 3 --depth 7", "", Refusal::DEPTH),
         ("resolve iscl 1 1 1 0 1 1", "", Refusal::ZERO),
         (
@@ -212,17 +214,17 @@ fn refusals_are_explained() {
     );
     for words in [
         "0",
-        "19",
+        "20",
         "255",
         "269",
         "4294967309",
-        "19 record 4",
+        "20 record 4",
         "0 entry 0",
     ] {
         folder.refuses(&format!("explain {words}"), "", Refusal::MALFORMED);
     }
     // No number, no such sort, an index of no item.
-    for code in [0, 19, 13 + (3 << 8), 13 + (1 << 16)] {
+    for code in [0, 20, 13 + (3 << 8), 13 + (1 << 16)] {
         let answer: u64 = (1 << 63) + code;
         folder.refuses(&format!("explain {answer}"), "", Refusal::MALFORMED);
     }

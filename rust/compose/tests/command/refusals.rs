@@ -65,8 +65,12 @@ fn what_is_refused_writes_nothing() {
             Refusal::LIMIT,
         ),
         ("grid a.rec a.rec -o new.rec", "a.rec: ", Refusal::VERSION),
-        ("body grid 0 1 4 4 -o new.rec", "", Refusal::EMPTY),
-        ("body grid 257 1 4 4 -o new.rec", "", Refusal::LIMIT),
+        ("body grid 0 1 4 4 -o new.rec", "", Refusal::TILING),
+        ("body grid 257 1 4 4 -o new.rec", "", Refusal::TILING),
+        ("body grid 1 70000 4 4 -o new.rec", "", Refusal::TILING),
+        ("body grid 1 0 0 4 -o new.rec", "", Refusal::TILING),
+        ("body overlay 4 4 0 0 0 0 -o new.rec", "", Refusal::MISSING),
+        ("body overlay 4 0 0 0 0 0 -o new.rec", "", Refusal::EMPTY),
         (
             "overlay one.body none.tray -o new.rec",
             "none.tray: ",
@@ -160,6 +164,10 @@ fn wrong_words_write_nothing() {
         (
             "body iden",
             "compose: body: it takes grid or overlay, not iden",
+        ),
+        (
+            "body grid 4294967296 1 4 4 -o new.rec",
+            "compose: body: ROWS is a number from 0 to 4294967295, not 4294967296",
         ),
         ("grid a.rec a.rec", "compose: grid: -o OUT is missing"),
         (

@@ -172,11 +172,46 @@ fn pictures_are_composed() {
         let laid = [3, 2, 0, 8, 0, 3, 6, 1, 2, white, 6, 4, white];
         assert_eq!(folder.get("out.rec"), laid, "{options}");
     }
-    folder.done("body overlay 70000 2 0 0 0 0 -o none.body");
-    assert_eq!(
-        folder.done("descriptor overlay none.body 0"),
-        "70000 × 2, fill 0 0 0, alpha 0, 0 inputs\n"
-    );
+}
+
+/// The 16-bit form up to its last size and offset, and the 32-bit form from the next on; a body shows
+/// what it was written from.
+#[test]
+fn bodies_are_written() {
+    let folder = Folder::new("bodies");
+    for (fields, length, reading, shown) in [
+        (
+            "grid 256 1 65535 2",
+            8,
+            "grid new.body",
+            "65535 × 2, rows 256, columns 1\n",
+        ),
+        (
+            "grid 1 256 2 65536",
+            12,
+            "grid new.body",
+            "2 × 65536, rows 1, columns 256\n",
+        ),
+        (
+            "overlay 65535 2 1 2 3 65535 -32768 32767",
+            18,
+            "overlay new.body 1",
+            "65535 × 2, fill 1 2 3, alpha 65535, 1 input\n    0  -32768 32767\n",
+        ),
+        (
+            "overlay 2 2 1 2 3 4 0 0 -32769 -1",
+            34,
+            "overlay new.body 2",
+            "2 × 2, fill 1 2 3, alpha 4, 2 inputs\n    0  0 0\n    1  -32769 -1\n",
+        ),
+    ] {
+        let said = folder.done(&format!("body {fields} -o new.body --force"));
+        assert!(
+            said.ends_with(&format!(" body, {length} bytes\n")),
+            "{said}"
+        );
+        assert_eq!(folder.done(&format!("descriptor {reading}")), shown);
+    }
 }
 
 /// Document 01's case: turned, the top row is 6 8, and (0, 0) is tile 1's (1, 0).
@@ -315,6 +350,11 @@ fn descriptors_are_shown() {
     assert_eq!(
         folder.done("descriptor overlay overlay 2"),
         "70000 × 2, fill 65535 0 1, alpha 2, 2 inputs\n    0  -1 0\n    1  7 -70000\n"
+    );
+    // Bytes after the last field are passed over.
+    assert_eq!(
+        folder.done("descriptor overlay overlay 0"),
+        "70000 × 2, fill 65535 0 1, alpha 2, 0 inputs\n"
     );
     for (words, part, refusal) in [
         ("overlay overlay 3", "overlay: ", Refusal::SHORT),

@@ -39,12 +39,12 @@ pub fn run() -> Result<Vec<HeifFrame>> {
 /// A canvas and a list of inputs above their limits, and an alpha of another size.
 pub fn turned_away() -> Vec<Option<Error>> {
     let side = u32::try_from(MAX_CANVAS_PIXELS.min(MAX_FRAME_PIXELS)).expect("a side");
-    let grid = GridDescriptor::new(1, 1, side, 2);
-    let overlay = OverlayDescriptor::new([0; 4], 1, 1, vec![(0, 0); MAX_DERIVATION_INPUTS + 1]);
+    let grid = [&[0, 1, 0, 0], &side.to_be_bytes()[..], &[0, 0, 0, 2]].concat();
+    let overlay = OverlayDescriptor::new([0; 4], 1, 1, vec![(0, 0)]);
     let mono = HeifPixelFormat::new(Chroma::Mono, 8, false).expect("a depth");
     let alpha = HeifFrame::zeroed(3, 1, mono).expect("a frame");
     vec![
-        GridDescriptor::parse(&grid.to_bytes()).err(),
+        GridDescriptor::parse(&grid).err(),
         OverlayDescriptor::parse(&overlay.to_bytes(), MAX_DERIVATION_INPUTS + 1).err(),
         row().expect("a frame").with_alpha_plane(&alpha).err(),
     ]
