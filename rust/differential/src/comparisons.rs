@@ -1,5 +1,6 @@
 //! The comparisons by name.
 
+use crate::bodies;
 use crate::compare::{Comparison, Input, Sides, Verdict};
 use crate::damage::{self, BodyFault, SceneDraft, SceneFault};
 use crate::expected::{self, Call, Stop, Want};
@@ -43,6 +44,16 @@ pub const ALL: &[Comparison] = &[
         name: "overlay-descriptor",
         generate: |rng| descriptor_input(rng, true),
         judge: overlay_descriptor,
+    },
+    Comparison {
+        name: "grid-body",
+        generate: bodies::grid_input,
+        judge: bodies::grid,
+    },
+    Comparison {
+        name: "overlay-body",
+        generate: bodies::overlay_input,
+        judge: bodies::overlay,
     },
     Comparison {
         name: "chain",
@@ -347,7 +358,7 @@ fn descriptor_input(rng: &mut Rng, overlay: bool) -> Input {
     input.with_numbers("inputs", vec![inputs as i64])
 }
 
-fn grid_descriptor(sides: &Sides, input: &Input) -> Verdict {
+pub(crate) fn grid_descriptor(sides: &Sides, input: &Input) -> Verdict {
     let body = input.bytes("body");
     let wants = sides.wants(|build| expected::settle(build.parse_grid(body)));
     agree(wants, |want| {
@@ -375,7 +386,7 @@ fn placed((across, down): &(i32, i32)) -> [u64; 4] {
 
 /// The descriptor, then all offsets, then each input's, then one index past them and the last there
 /// is.
-fn overlay_descriptor(sides: &Sides, input: &Input) -> Verdict {
+pub(crate) fn overlay_descriptor(sides: &Sides, input: &Input) -> Verdict {
     let body = input.bytes("body");
     let inputs = input.numbers("inputs")[0] as u32;
     let wants = sides.wants(|build| expected::settle(build.parse_overlay(body, inputs as usize)));
@@ -431,11 +442,11 @@ fn size_input(rng: &mut Rng) -> (u32, u32) {
     (generate::border(rng), generate::border(rng))
 }
 
-fn with_size(input: Input, (width, height): (u32, u32)) -> Input {
+pub(crate) fn with_size(input: Input, (width, height): (u32, u32)) -> Input {
     input.with_numbers("size", vec![i64::from(width), i64::from(height)])
 }
 
-fn size_of(input: &Input) -> (u32, u32) {
+pub(crate) fn size_of(input: &Input) -> (u32, u32) {
     let side = |at: usize| input.numbers("size")[at] as u32;
     (side(0), side(1))
 }

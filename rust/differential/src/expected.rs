@@ -110,6 +110,41 @@ pub(crate) fn hold_tiles(tiles: [u32; 2]) -> Want<()> {
     }
 }
 
+/// A body that was written; the published Rust's `read` of it must be the fields.
+fn read_back<T: PartialEq>(body: Vec<u8>, read: Outcome<T>, fields: &T) -> Want<Vec<u8>> {
+    match settle(read)? == *fields {
+        true => Ok(body),
+        false => Err(Stop::Broke("other fields are read back".into())),
+    }
+}
+
+/// The body of a grid: 19; then 3 and 4, with which the published Rust refuses to read what it wrote.
+pub fn grid_body(oracle: &dyn Oracle, tiles: [u32; 2], (width, height): Size) -> Want<Vec<u8>> {
+    hold_tiles(tiles)?;
+    let [rows, columns] = tiles.map(|count| count as u16);
+    let grid = Grid {
+        rows,
+        columns,
+        width,
+        height,
+    };
+    let body = settle(oracle.write_grid(&grid))?;
+    let read = oracle.parse_grid(&body);
+    read_back(body, read, &grid)
+}
+
+/// The body of an overlay: 3, 4 and 4 as [`grid_body`] has them; then 15, which the published Rust does
+/// not have here.
+pub fn overlay_body(oracle: &dyn Oracle, overlay: &Overlay) -> Want<Vec<u8>> {
+    let body = settle(oracle.write_overlay(overlay))?;
+    let read = oracle.parse_overlay(&body, overlay.offsets.len());
+    let body = read_back(body, read, overlay)?;
+    match overlay.offsets.is_empty() {
+        true => Err(Stop::Refused(refusal::MISSING)),
+        false => Ok(body),
+    }
+}
+
 /// The most that each number of an entry may be, by its kind: essential, then the fields.
 const ENTRIES: [&[u32]; 5] = [
     &[1],

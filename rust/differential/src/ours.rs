@@ -59,6 +59,22 @@ pub trait Composer: Sync {
         None
     }
 
+    /// The body of a grid of so many rows and columns, on a canvas of a size.
+    fn write_grid(&self, _tiles: [u32; 2], _: Size, _output: &mut [u8]) -> Option<Answer<usize>> {
+        None
+    }
+
+    /// The body of an overlay, of whose inputs in turn `_offsets` has two words each.
+    fn write_overlay(
+        &self,
+        _fill: [u16; 4],
+        _: Size,
+        _offsets: &[u32],
+        _output: &mut [u8],
+    ) -> Option<Answer<usize>> {
+        None
+    }
+
     /// The count of a chain.
     fn chain(&self, _chain: &[u8]) -> Option<Answer<u32>> {
         None
@@ -245,6 +261,28 @@ impl Composer for Linked {
 
     fn overlay_offsets(&self, body: &[u8], count: u32, words: &mut [u64]) -> Option<Answer<u64>> {
         answer(sys::compose_overlay_offsets(body, count, words))
+    }
+
+    fn write_grid(
+        &self,
+        [rows, columns]: [u32; 2],
+        (width, height): Size,
+        output: &mut [u8],
+    ) -> Option<Answer<usize>> {
+        let written = sys::compose_write_grid(rows, columns, width, height, output);
+        answer(written.map(|length| length as usize))
+    }
+
+    fn write_overlay(
+        &self,
+        [red, green, blue, alpha]: [u16; 4],
+        (width, height): Size,
+        offsets: &[u32],
+        output: &mut [u8],
+    ) -> Option<Answer<usize>> {
+        let written =
+            sys::compose_write_overlay(red, green, blue, alpha, width, height, offsets, output);
+        answer(written.map(|length| length as usize))
     }
 
     fn chain(&self, chain: &[u8]) -> Option<Answer<u32>> {

@@ -4,10 +4,10 @@ use differential::compare::{Comparison, Difference, Input, Sides, Verdict};
 use differential::comparisons::ALL;
 use differential::expected::Call;
 use differential::ours::{Answer, Composer, Linked};
-use model::refusal::{LIMIT, MALFORMED, NOT_WHOLE, ROOM};
+use model::refusal::{LIMIT, MALFORMED, MISSING, NOT_WHOLE, ROOM, TILING, ZERO_SIDE};
 use model::{
-    Clap, Colour, Crop, Iscl, Item, Layout, Marks, Operation, Rectangle, Refusal, SceneParts, Size,
-    parse_chain, parse_record,
+    Clap, Colour, Crop, Iscl, Item, Layout, Marks, Operation, Overlay, Rectangle, Refusal,
+    SceneParts, Size, offsets_of, parse_chain, parse_record,
 };
 
 /// The comparisons of calls that refuse records as their own.
@@ -230,16 +230,18 @@ const HASTY: Writer = Writer(|record, op, out| match out.len() {
     _ => other(record, op, out),
 });
 
-/// A byte past the record is written.
-const LONG: Writer = Writer(|record, op, out| {
-    let answer = other(record, op, out);
+/// The same answer, and a byte past what was written.
+fn spilt(answer: Option<Answer<usize>>, out: &mut [u8]) -> Option<Answer<usize>> {
     if let Some(Ok(length)) = answer
         && let Some(past) = out.get_mut(length)
     {
         *past = 0;
     }
     answer
-});
+}
+
+/// A byte past the record is written.
+const LONG: Writer = Writer(|record, op, out| spilt(other(record, op, out), out));
 
 /// A refused call writes.
 const SMEARED: Writer = Writer(|record, op, out| {
@@ -479,6 +481,8 @@ impl Composer for Misled {
         overlay_descriptor(body: &[u8], count: u32, words: &mut [u64]) -> u64;
         overlay_offset(body: &[u8], count: u32, index: u32, words: &mut [u64]) -> u64;
         overlay_offsets(body: &[u8], count: u32, words: &mut [u64]) -> u64;
+        write_grid(tiles: [u32; 2], size: Size, output: &mut [u8]) -> usize;
+        write_overlay(fill: [u16; 4], size: Size, words: &[u32], output: &mut [u8]) -> usize;
         chain(chain: &[u8]) -> u32;
         clap_resolve(clap: &Clap, size: Size, words: &mut [u32]) -> u64;
         iscl_size(iscl: &Iscl, size: Size, words: &mut [u32]) -> u64;
@@ -634,24 +638,145 @@ const SPEAKS_HASTILY: Speaker =
 /// A zero behind the sentence, as for C.
 const ENDED: Speaker = Speaker(|number, sort, index, language, output| {
     let answer = Linked.sentence(number, sort, index, language, output);
-    if let Some(Ok(length)) = answer
-        && let Some(past) = output.get_mut(length)
-    {
-        *past = 0;
+    spilt(answer, output)
+});
+
+/// A wrong body of a grid, of rows and columns and a canvas.
+type WritesGrid = fn([u32; 2], Size, &mut [u8]) -> Option<Answer<usize>>;
+
+/// Writes grids' bodies by a function of its own.
+struct GridScribe(WritesGrid);
+
+impl Composer for GridScribe {
+    fn write_grid(&self, tiles: [u32; 2], size: Size, output: &mut [u8]) -> Option<Answer<usize>> {
+        (self.0)(tiles, size, output)
+    }
+}
+
+const MODELLED_GRID: GridScribe =
+    GridScribe(|tiles, size, output| Some(model::write_grid(tiles, size, output)));
+
+/// A side of 65,536 is held to 16 bits.
+fn squeezed((width, height): Size) -> Size {
+    let held = |side| if side == 65_536 { 65_535 } else { side };
+    (held(width), held(height))
+}
+
+const SQUEEZED_GRID: GridScribe =
+    GridScribe(|tiles, size, output| Linked.write_grid(tiles, squeezed(size), output));
+
+/// Rows that are not less 1.
+const ALL_ROWS: GridScribe = GridScribe(|tiles, size, output| {
+    let answer = Linked.write_grid(tiles, size, output);
+    if let Some(Ok(_)) = answer {
+        output[2] = tiles[0] as u8;
     }
     answer
 });
 
-#[test]
-fn the_models_sentences_pass_in_the_composers_place() {
-    let Some(sides) = Sides::open() else { return };
-    let comparison = ALL.iter().find(|known| known.name == "sentence");
-    let modelled = Sides {
-        ours: &MODELLED,
-        ..sides
+/// Rows and columns of 16 bits.
+const SHORT_TILES: GridScribe = GridScribe(|tiles, size, output| {
+    Linked.write_grid(tiles.map(|many| many & 0xffff), size, output)
+});
+
+/// 3 before 19.
+const CANVAS_FIRST: GridScribe =
+    GridScribe(
+        |tiles, size, output| match Linked.write_grid(tiles, size, output) {
+            Some(Err(TILING)) if size.0 == 0 || size.1 == 0 => Some(Err(ZERO_SIDE)),
+            answer => answer,
+        },
+    );
+
+/// A byte past the body.
+const SPILT_GRID: GridScribe =
+    GridScribe(|tiles, size, output| spilt(Linked.write_grid(tiles, size, output), output));
+
+/// A wrong body of an overlay, of fill, canvas and the words of its offsets.
+type WritesOverlay = fn([u16; 4], Size, &[u32], &mut [u8]) -> Option<Answer<usize>>;
+
+/// Writes overlays' bodies by a function of its own.
+struct OverlayScribe(WritesOverlay);
+
+impl Composer for OverlayScribe {
+    fn write_overlay(
+        &self,
+        fill: [u16; 4],
+        size: Size,
+        words: &[u32],
+        output: &mut [u8],
+    ) -> Option<Answer<usize>> {
+        (self.0)(fill, size, words, output)
+    }
+}
+
+const MODELLED_OVERLAY: OverlayScribe = OverlayScribe(|fill, (width, height), words, output| {
+    let overlay = Overlay {
+        fill,
+        width,
+        height,
+        offsets: offsets_of(words),
     };
-    let report = comparison.expect("it").run(&modelled, 1_000, 2);
-    assert!(report.differences.is_empty(), "{report}");
+    Some(model::write_overlay(&overlay, output))
+});
+
+const SQUEEZED_OVERLAY: OverlayScribe = OverlayScribe(|fill, size, words, output| {
+    Linked.write_overlay(fill, squeezed(size), words, output)
+});
+
+/// The lowest 16 bits of -32,769, which are those of 32,767, for it.
+const FAR_LEFT: OverlayScribe = OverlayScribe(|fill, size, words, output| {
+    let short = |word: &u32| {
+        if word.cast_signed() == -32_769 {
+            32_767
+        } else {
+            *word
+        }
+    };
+    let words: Vec<u32> = words.iter().map(short).collect();
+    Linked.write_overlay(fill, size, &words, output)
+});
+
+/// A last word without a partner is an input's.
+const PARTNERLESS: OverlayScribe = OverlayScribe(|fill, size, words, output| {
+    let mut words = words.to_vec();
+    words.resize(words.len().next_multiple_of(2), 0);
+    Linked.write_overlay(fill, size, &words, output)
+});
+
+/// 15 before 4.
+const INPUTS_FIRST: OverlayScribe = OverlayScribe(|fill, size, words, output| {
+    match Linked.write_overlay(fill, size, words, output) {
+        Some(Err(LIMIT)) if words.len() < 2 => Some(Err(MISSING)),
+        answer => answer,
+    }
+});
+
+/// 17 before 15.
+const ROOM_FIRST: OverlayScribe = OverlayScribe(|fill, size, words, output| {
+    match Linked.write_overlay(fill, size, words, output) {
+        Some(Err(MISSING)) if output.len() < 14 => Some(Err(ROOM)),
+        answer => answer,
+    }
+});
+
+const SPILT_OVERLAY: OverlayScribe = OverlayScribe(|fill, size, words, output| {
+    spilt(Linked.write_overlay(fill, size, words, output), output)
+});
+
+#[test]
+fn the_model_passes_in_the_composers_place() {
+    let Some(sides) = Sides::open() else { return };
+    let models: [(&str, &'static dyn Composer); 3] = [
+        ("sentence", &MODELLED),
+        ("grid-body", &MODELLED_GRID),
+        ("overlay-body", &MODELLED_OVERLAY),
+    ];
+    for (name, ours) in models {
+        let comparison = ALL.iter().find(|known| known.name == name).expect(name);
+        let report = comparison.run(&Sides { ours, ..sides }, 1_000, 2);
+        assert!(report.differences.is_empty(), "{report}");
+    }
 }
 
 /// The names of the comparisons of the composer's calls.
@@ -664,7 +789,7 @@ fn every_call() -> Vec<&'static str> {
 fn a_wrong_composer_is_found() {
     let Some(sides) = Sides::open() else { return };
     let of_items = [&OF_RECORDS[..], &OF_ENTRIES].concat();
-    let wrong: [(&str, &'static dyn Composer, &[&str]); 34] = [
+    let wrong: [(&str, &'static dyn Composer, &[&str]); 45] = [
         ("judges every record malformed", &Stern, &["record"]),
         ("a plane too far, a tray's word", &Lax, &["record", "tray"]),
         ("turns clockwise", &CLOCKWISE, &["irot"]),
@@ -686,7 +811,13 @@ fn a_wrong_composer_is_found() {
         (
             "other fields, a longer chain",
             &Reader,
-            &["grid-descriptor", "overlay-descriptor", "chain"],
+            &[
+                "grid-descriptor",
+                "overlay-descriptor",
+                "grid-body",
+                "overlay-body",
+                "chain",
+            ],
         ),
         ("one offset for another", &Stacker, &["overlay-descriptor"]),
         ("a place turned", &Exchanger, &["overlay-descriptor"]),
@@ -711,6 +842,21 @@ fn a_wrong_composer_is_found() {
         ("a number of 8 bits", &SHORT_NUMBER, &["sentence"]),
         ("17 before 5", &SPEAKS_HASTILY, &["sentence"]),
         ("a sentence with an end", &ENDED, &["sentence"]),
+        ("65,536 in 16 bits", &SQUEEZED_GRID, &["grid-body"]),
+        ("rows not less 1", &ALL_ROWS, &["grid-body"]),
+        ("rows of 16 bits", &SHORT_TILES, &["grid-body"]),
+        ("3 before 19", &CANVAS_FIRST, &["grid-body"]),
+        ("a grid's body too far", &SPILT_GRID, &["grid-body"]),
+        ("65,536 in 16 bits", &SQUEEZED_OVERLAY, &["overlay-body"]),
+        ("-32,769 in 16 bits", &FAR_LEFT, &["overlay-body"]),
+        ("a word without a partner", &PARTNERLESS, &["overlay-body"]),
+        ("15 before 4", &INPUTS_FIRST, &["overlay-body"]),
+        ("17 before 15", &ROOM_FIRST, &["overlay-body"]),
+        (
+            "an overlay's body too far",
+            &SPILT_OVERLAY,
+            &["overlay-body"],
+        ),
     ];
     for (what, ours, names) in wrong {
         for name in names {
