@@ -63,6 +63,14 @@ pub fn ready<F: Shape>(work: Work) -> Ready<F> {
         Work::OverlayBody(body, inputs) => {
             figure(move || OverlayDescriptor::parse(black_box(&body), inputs))
         }
+        Work::WriteGrid(grid) => {
+            let grid = grid_descriptor(&grid);
+            figure(move || black_box(&grid).body())
+        }
+        Work::WriteOverlay(overlay) => {
+            let overlay = overlay_descriptor(&overlay);
+            figure(move || black_box(&overlay).body())
+        }
         Work::Resolve(fields, width, height) => {
             figure(move || black_box(clap(&fields)).resolve(width, height))
         }

@@ -15,6 +15,7 @@ mod report;
 mod shape;
 mod stopwatch;
 mod tables;
+mod writing;
 
 use case::{Case, Row, Table};
 use compose::{HeifFrame, RecordFrame};

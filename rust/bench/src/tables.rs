@@ -4,6 +4,7 @@ use crate::case::{Row, Table};
 use crate::composing::{Laid, grid, mirrors, overlay, overlay_by_inputs, scene, session, turns};
 use crate::operations::{attach, every, operation, scaled};
 use crate::reading::{fill, grid_body, overlay_body, record, resolve, scale};
+use crate::writing::{written_grid, written_overlay};
 use model::{Colour, Operation};
 
 fn operations(side: u32) -> Vec<Row> {
@@ -55,6 +56,11 @@ fn reading(side: u32) -> Vec<Row> {
         fill("no description", None),
         fill("matrix 9, studio range", Some(studio)),
     ]
+}
+
+/// Bodies, of an overlay in the 16-bit form and in the 32-bit form.
+fn writing() -> Vec<Row> {
+    vec![written_grid(), written_overlay(8), written_overlay(65_536)]
 }
 
 /// Pictures whose sides double.
@@ -117,6 +123,7 @@ pub fn all(side: u32) -> Vec<Table> {
         table("Operations", "sample", operations(side)),
         table("Composing", "sample", composing(side)),
         table("Reading", "answer", reading(side)),
+        table("Writing", "input", writing()),
         table("Growth with the picture", "sample", sizes(side)),
         table("Depth 10 to 8", "sample", ten_to_eight(side)),
         table("Growth with the inputs", "input", inputs(side)),

@@ -100,6 +100,10 @@ pub enum Work {
     GridBody(Vec<u8>),
     /// A body, and how many inputs it has.
     OverlayBody(Vec<u8>, usize),
+    /// `GridDescriptor::to_bytes`.
+    WriteGrid(Grid),
+    /// `OverlayDescriptor::to_bytes`.
+    WriteOverlay(Overlay),
     /// `Clap::resolve` on a size.
     Resolve(Clap, u32, u32),
     /// `Iscl::output_size` on a size.

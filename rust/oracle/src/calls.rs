@@ -177,6 +177,14 @@ impl Oracle for Published {
             Work::OverlayBody(body, inputs) => {
                 made(move || OverlayDescriptor::parse(black_box(&body), inputs))
             }
+            Work::WriteGrid(grid) => {
+                let grid = descriptor(&grid);
+                made(move || Ok(black_box(&grid).to_bytes()))
+            }
+            Work::WriteOverlay(overlay) => {
+                let overlay = overlay_descriptor(&overlay);
+                made(move || Ok(black_box(&overlay).to_bytes()))
+            }
             Work::Resolve(fields, width, height) => {
                 let clap = clap(&fields);
                 made(move || black_box(&clap).resolve(width, height))
