@@ -71,7 +71,7 @@ fn first_place(half: bool, c: usize) -> usize
 
 // A run of samples of a plane of the canvas, row after row: so many from the start-th on, in rows of so many columns, of places that
 // are halved or not.
-#[derive(Drop)]
+#[derive(Clone, Copy)]
 pub struct Stripe {
     pub columns: usize,
     pub half_across: bool,
@@ -81,7 +81,7 @@ pub struct Stripe {
 }
 
 // An input's samples and alpha: its format, the two planes' strides, and how it is laid.
-#[derive(Drop)]
+#[derive(Clone, Copy)]
 pub(crate) struct Source {
     format: PixelFormat,
     stride: usize,

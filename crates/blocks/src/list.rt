@@ -113,7 +113,7 @@ fn list_inputs(
 }
 
 // A block: so many samples, which so many inputs meet; where these are more than 1,024 they are not listed.
-#[derive(Drop)]
+#[derive(Clone, Copy)]
 pub struct Block {
     pub count: usize,
     pub inputs: usize,

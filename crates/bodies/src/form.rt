@@ -13,7 +13,7 @@ use image::{Size, SizeAnswer};
 use laws::Refusal;
 
 // Whether fields can be written, or why not.
-#[derive(Drop)]
+#[derive(Clone, Copy)]
 pub(crate) enum Judged {
     Taken,
     Refused(Refusal),

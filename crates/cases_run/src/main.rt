@@ -1,4 +1,5 @@
 // Runs document 01's cases that are not starred: clap 3/2 and 0/1 of a picture 64 wide, and fill red.
+#![tactic(auto)]
 use fill::{Colour, Filled, Nclx};
 use laws::Refusal;
 use libc::STDOUT_FILENO;

@@ -38,7 +38,7 @@ pub fn tile_form(promoted: bool, m: Form) -> Form
 
 // Where the samples of a part of a tile go in the canvas's record, and how many of them show. A cell that lies beyond the canvas
 // has none.
-#[derive(Drop)]
+#[derive(Clone, Copy)]
 pub struct Cell {
     pub at: usize,
     pub stride: usize,

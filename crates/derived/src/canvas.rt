@@ -7,27 +7,27 @@ use laws::Refusal;
 use numbers::{Cursor, FieldRead};
 
 // How many bytes a size or an offset has, and the place past the flags.
-#[derive(Drop)]
+#[derive(Clone, Copy)]
 pub(crate) struct Start {
     pub bytes: usize,
     pub next: Cursor,
 }
 
-#[derive(Drop)]
+#[derive(Clone, Copy)]
 pub(crate) enum StartRead {
     Read(Start),
     Refused(Refusal),
 }
 
 // The canvas's sides, and the place past them.
-#[derive(Drop)]
+#[derive(Clone, Copy)]
 pub(crate) struct Canvas {
     pub width: u32,
     pub height: u32,
     pub next: Cursor,
 }
 
-#[derive(Drop)]
+#[derive(Clone, Copy)]
 pub(crate) enum CanvasRead {
     Read(Canvas),
     Refused(Refusal),

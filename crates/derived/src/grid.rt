@@ -7,7 +7,7 @@ use laws::Refusal;
 use numbers::{Cursor, FieldRead};
 
 // The tiles down and across, each 1 to 256, and the canvas's sides.
-#[derive(Drop)]
+#[derive(Clone, Copy)]
 pub struct GridDescriptor {
     pub rows: u32,
     pub columns: u32,
@@ -15,7 +15,7 @@ pub struct GridDescriptor {
     pub output_height: u32,
 }
 
-#[derive(Drop)]
+#[derive(Clone, Copy)]
 pub enum GridRead {
     Read(GridDescriptor),
     Refused(Refusal),

@@ -9,7 +9,7 @@ use laws::Refusal;
 use numbers::{Cursor, FieldRead, Offset};
 
 // The colour and the opacity of the canvas, 0 to 65,535 each.
-#[derive(Drop)]
+#[derive(Clone, Copy)]
 pub struct Fill {
     pub red: u16,
     pub green: u16,
@@ -18,20 +18,20 @@ pub struct Fill {
 }
 
 // The fill and the place past it.
-#[derive(Drop)]
+#[derive(Clone, Copy)]
 struct FillAt {
     fill: Fill,
     next: Cursor,
 }
 
-#[derive(Drop)]
+#[derive(Clone, Copy)]
 enum FillRead {
     Read(FillAt),
     Refused(Refusal),
 }
 
 // The fill, the canvas's sides, how many inputs there are, and where in the body their offsets start, of so many bytes each.
-#[derive(Drop)]
+#[derive(Clone, Copy)]
 pub struct OverlayDescriptor {
     pub canvas_fill: Fill,
     pub output_width: u32,
@@ -41,14 +41,14 @@ pub struct OverlayDescriptor {
     pub bytes: usize,
 }
 
-#[derive(Drop)]
+#[derive(Clone, Copy)]
 pub enum OverlayRead {
     Read(OverlayDescriptor),
     Refused(Refusal),
 }
 
 // Where an input's top left corner lies on the canvas.
-#[derive(Drop)]
+#[derive(Clone, Copy)]
 pub struct Placement {
     pub horizontal: Offset,
     pub vertical: Offset,

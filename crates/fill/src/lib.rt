@@ -1,4 +1,5 @@
 // A fill colour in the samples of a picture (document 01, Fill; H.273), and the fill's alpha.
+#![tactic(auto)]
 ghost use Rattle.std.specs.Prelude.{◌≡◌, ◌≤◌};
 ghost use Rattle.fill.specs.Fill.{nclx_of, part_of, identity_of, weighted_of, filled_out, fill_of, fill_alpha_of};
 
@@ -11,28 +12,28 @@ use image::PixelFormat;
 use laws::Refusal;
 
 // An nclx colour description: H.273's matrix number, and whether samples have the full range.
-#[derive(Drop)]
+#[derive(Clone, Copy)]
 pub struct Nclx {
     pub matrix: u16,
     pub full_range: bool,
 }
 
 // A colour description, or none.
-#[derive(Drop)]
+#[derive(Clone, Copy)]
 pub enum Colour {
     None,
     Nclx(Nclx),
 }
 
 // A sample of each colour plane. Under matrix 0 they are green, blue and red.
-#[derive(Drop)]
+#[derive(Clone, Copy)]
 pub struct Ycbcr {
     pub y: u16,
     pub cb: u16,
     pub cr: u16,
 }
 
-#[derive(Drop)]
+#[derive(Clone, Copy)]
 pub enum Filled {
     Samples(Ycbcr),
     Refused(Refusal),

@@ -3,7 +3,7 @@ ghost use Rattle.std.specs.Prelude.{◌≡◌};
 ghost use Rattle.fill.specs.Fill.{weights_from, weights_of, luma_of, cb_of, cr_of};
 
 // The weights of red and blue, and green's worked from them.
-#[derive(Drop)]
+#[derive(Clone, Copy)]
 pub struct Weights {
     pub kr: f64,
     pub kb: f64,

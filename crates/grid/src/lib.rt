@@ -1,4 +1,5 @@
 // Grids: the tiles of a tray, each in its own cell of one canvas.
+#![tactic(auto)]
 mod compose;
 mod paint;
 

@@ -7,7 +7,7 @@ use crate::size::{Size, SizeAnswer};
 use laws::Refusal;
 
 // A plane by its part: where the picture is promoted, a mono picture's alpha keeps its part and not its number.
-#[derive(Drop)]
+#[derive(Clone, Copy)]
 pub enum Part {
     Luma,
     Cb,
@@ -16,28 +16,28 @@ pub enum Part {
 }
 
 // Chroma 0 mono, 1 4:2:0, 2 4:2:2, 3 4:4:4; bits a sample; alpha 0 where there is no alpha plane, 1 where there is one.
-#[derive(Drop)]
+#[derive(Clone, Copy)]
 pub struct PixelFormat {
     pub chroma: u32,
     pub depth: u32,
     pub alpha: u32,
 }
 
-#[derive(Drop)]
+#[derive(Clone, Copy)]
 pub enum FormatRead {
     Read(PixelFormat),
     Refused(Refusal),
 }
 
 // A picture's size and format: all that a record says but for its samples.
-#[derive(Drop)]
+#[derive(Clone, Copy)]
 pub struct Form {
     pub width: u32,
     pub height: u32,
     pub format: PixelFormat,
 }
 
-#[derive(Drop)]
+#[derive(Clone, Copy)]
 pub enum FormRead {
     Form(Form),
     Refused(Refusal),

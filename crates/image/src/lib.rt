@@ -1,4 +1,5 @@
 // Pixel formats, sizes, and a picture's form.
+#![tactic(auto)]
 mod format;
 mod size;
 

@@ -5,13 +5,13 @@ ghost use Rattle.image.specs.Format.{judged_size, size_out};
 use crate::format::PixelFormat;
 use laws::Refusal;
 
-#[derive(Drop)]
+#[derive(Clone, Copy)]
 pub struct Size {
     pub width: u32,
     pub height: u32,
 }
 
-#[derive(Drop)]
+#[derive(Clone, Copy)]
 pub enum SizeAnswer {
     Size(Size),
     Refused(Refusal),

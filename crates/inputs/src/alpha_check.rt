@@ -12,14 +12,14 @@ use laws::Refusal;
 use records::{FrameRead, Plane};
 
 // What holding alpha samples to top answers.
-#[derive(Drop)]
+#[derive(Clone, Copy)]
 pub enum AlphaRead {
     Within,
     Refused(Refusal),
 }
 
 // A record's alpha plane and the place past the record. Where there is no alpha, or no record, it has no rows.
-#[derive(Drop)]
+#[derive(Clone, Copy)]
 pub(crate) struct AlphaPlane {
     plane: Plane,
     bytes: usize,

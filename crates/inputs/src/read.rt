@@ -15,7 +15,7 @@ use numbers::Offset;
 use records::FrameRead;
 
 // An overlay that was read: its descriptor, where its first record stands, the composed form, and whether an input has alpha.
-#[derive(Drop)]
+#[derive(Clone, Copy)]
 pub struct Plan {
     pub descriptor: OverlayDescriptor,
     pub first: usize,
@@ -23,14 +23,14 @@ pub struct Plan {
     pub alpha: bool,
 }
 
-#[derive(Drop)]
+#[derive(Clone, Copy)]
 pub enum PlanRead {
     Read(Plan),
     Refused(Refusal),
 }
 
 // What the inputs so far come to.
-#[derive(Drop)]
+#[derive(Clone, Copy)]
 pub(crate) struct InputSummary {
     other_depth: bool,
     other_chroma: bool,

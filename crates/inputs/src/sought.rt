@@ -7,7 +7,7 @@ use image::{Form, Part};
 use records::FrameRead;
 
 // What a record is looked for by: another depth than that, or alpha.
-#[derive(Drop)]
+#[derive(Clone, Copy)]
 pub enum Sought {
     OtherDepth(u32),
     Alpha,

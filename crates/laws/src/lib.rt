@@ -1,10 +1,11 @@
 // What every call shares: why it refuses, and what it answers.
+#![tactic(auto)]
 ghost use Rattle.std.specs.Prelude.{◌≡◌};
 ghost use Rattle.laws.specs.Out.{own_reason};
 
 // Why a call refuses: its number, document 01's or, from 19 on, document 02's; and where it is an item's own refusal (document 02, A2), the
 // list that the item stands in and its index there, from 0. Sort 0: of no item, and then the index is 0.
-#[derive(Drop)]
+#[derive(Clone, Copy)]
 pub struct Refusal {
     pub number: u8,
     pub sort: u8,
@@ -145,7 +146,7 @@ impl Refusal {
 }
 
 // What a call that writes comes to: how many bytes it wrote, or why it refuses.
-#[derive(Drop)]
+#[derive(Clone, Copy)]
 pub enum Answer {
     Wrote(usize),
     Refused(Refusal),

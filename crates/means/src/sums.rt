@@ -12,14 +12,14 @@ ghost use Rattle.means.specs.inner.Columns.{stand_of, pace_of, foot_from, column
 use sampling::{Axis, Foot, Raster};
 
 // A quotient and its remainder.
-#[derive(Drop)]
+#[derive(Clone, Copy)]
 pub struct Stand {
     pub at: usize,
     pub rest: usize,
 }
 
 // Where the samples of an axis have their places: at first, and on by a step, all divided by one number.
-#[derive(Drop)]
+#[derive(Clone, Copy)]
 pub struct Pace {
     pub first: usize,
     pub step: usize,
@@ -27,7 +27,7 @@ pub struct Pace {
 }
 
 // The columns that are held: from, and up to but not including.
-#[derive(Drop)]
+#[derive(Clone, Copy)]
 pub struct Held {
     pub first: usize,
     pub past: usize,

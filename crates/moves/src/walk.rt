@@ -14,7 +14,7 @@ use records::Frame;
 use turns::Course;
 
 // Along one axis: from a place on, forward or back.
-#[derive(Drop)]
+#[derive(Clone, Copy)]
 pub struct Axis {
     pub from: usize,
     pub back: bool,
@@ -22,7 +22,7 @@ pub struct Axis {
 
 // A picture drawn from another: its form, whether the other is promoted first, and how its places run along the other's axes.
 // Where they are swapped, its columns run down and its rows across.
-#[derive(Drop)]
+#[derive(Clone, Copy)]
 pub struct Move {
     pub form: Form,
     pub promoted: bool,
@@ -32,7 +32,7 @@ pub struct Move {
 }
 
 // The same of one plane, by its own samples; a halved axis of a promoted plane is walked place by place.
-#[derive(Drop)]
+#[derive(Clone, Copy)]
 pub struct Walk {
     pub swapped: bool,
     pub across: Axis,

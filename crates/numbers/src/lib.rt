@@ -1,4 +1,5 @@
 // Numbers as bytes: house numbers, big-endian fields, decimal text.
+#![tactic(auto)]
 ghost use Rattle.std.specs.Prelude.{◌≡◌, ◌+◌, ◌-◌, ◌<◌, ◌≤◌, ◌^◌, max, min, length};
 ghost use Rattle.laws.specs.Puts.{puts};
 ghost use Rattle.numbers.specs.Number.{read_number, number_bytes};
@@ -8,7 +9,7 @@ ghost use Rattle.numbers.specs.Decimal.{decimal};
 
 // A house number (document 01, "What is handed in"): one to five bytes of seven bits each, the lowest group first, the top
 // bit set on all but the last, below 2^32, in the shortest form.
-#[derive(Drop)]
+#[derive(Clone, Copy)]
 pub enum NumberRead {
     Number { value: u32, next: usize },
     Malformed,
@@ -96,13 +97,13 @@ pub fn write_number(out: &mut [u8], at: usize, n: u32) -> usize
 }
 
 // A place in a body that is read field by field.
-#[derive(Drop)]
+#[derive(Clone, Copy)]
 pub struct Cursor {
     pub at: usize,
 }
 
 // A field and the place past it, or a body that ends before it does.
-#[derive(Drop)]
+#[derive(Clone, Copy)]
 pub enum FieldRead {
     Field { value: u32, next: Cursor },
     Short,
@@ -152,7 +153,7 @@ pub fn write_field(out: &mut [u8], at: usize, bytes: usize, value: u32) -> usize
 }
 
 // A signed number: ahead - behind, and one of the two is 0.
-#[derive(Drop)]
+#[derive(Clone, Copy)]
 pub struct Offset {
     pub ahead: u32,
     pub behind: u32,

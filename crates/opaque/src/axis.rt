@@ -18,7 +18,7 @@ fn before(half: bool, n: usize) -> usize
 }
 
 // The samples along an axis that an input of a side covers: from, and up to but not including.
-#[derive(Drop)]
+#[derive(Clone, Copy)]
 pub struct Stretch {
     pub from: usize,
     pub to: usize,
@@ -46,7 +46,7 @@ pub fn step_of(half: bool) -> usize
 }
 
 // The same within a plane of so many samples: the first that is covered, how many, and the input's place there.
-#[derive(Drop)]
+#[derive(Clone, Copy)]
 pub(crate) struct Window {
     pub at: usize,
     pub count: usize,

@@ -15,7 +15,7 @@ use paste::Source;
 use records::{Frame, FrameRead};
 
 // The rectangle that an input covers on a plane, in the canvas's record.
-#[derive(Drop)]
+#[derive(Clone, Copy)]
 pub(crate) struct Place {
     at: usize,
     stride: usize,

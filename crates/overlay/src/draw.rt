@@ -21,7 +21,7 @@ use image::Part;
 use inputs::Plan;
 
 // What the canvas starts from, and ends as where nothing covers it.
-#[derive(Drop)]
+#[derive(Clone, Copy)]
 pub(crate) struct Backdrop {
     pub colour: Ycbcr,
     pub alpha: u16,

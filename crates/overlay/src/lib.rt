@@ -1,4 +1,5 @@
 // Overlays composed (document 01, Overlay): a body, a tray and a premultiplied list become a tight record in a lent output.
+#![tactic(auto)]
 mod draw;
 mod stripes;
 

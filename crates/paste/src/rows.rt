@@ -9,7 +9,7 @@ ghost use Rattle.laws.specs.Puts.{puts};
 use planes::Line;
 
 // Where samples are read in a plane's bytes: the place of the first, and whether an axis is halved and so walked place by place.
-#[derive(Drop)]
+#[derive(Clone, Copy)]
 pub struct Source {
     pub bytes: usize,
     pub stride: usize,

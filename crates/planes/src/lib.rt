@@ -1,4 +1,5 @@
 // The planes of a picture: samples and rows, promotion, and the writer of tight records.
+#![tactic(auto)]
 mod samples;
 mod write;
 

@@ -131,7 +131,7 @@ pub fn fill_row(out: &mut [u8], at: usize, bytes: usize, v: u16, n: usize) -> us
 
 // A line of samples through a plane. Its k-th sample stands at origin + u × step bytes, where u is from + k or from - k
 // (forth and back are 1 and 0, or 0 and 1), or half of that (half is 1).
-#[derive(Drop)]
+#[derive(Clone, Copy)]
 pub struct Line {
     pub origin: usize,
     pub step: usize,

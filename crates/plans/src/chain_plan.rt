@@ -14,7 +14,7 @@ use laws::Refusal;
 use props::{Chain, EntryRead, Property, PropertyEntry};
 use stages::{form_after, is_held, is_move};
 
-#[derive(Drop)]
+#[derive(Clone, Copy)]
 pub struct ChainPlan {
     pub form: Form,
     pub longest: usize,
@@ -22,7 +22,7 @@ pub struct ChainPlan {
     pub shown: bool,
 }
 
-#[derive(Drop)]
+#[derive(Clone, Copy)]
 pub enum ChainPlanRead {
     ChainPlan(ChainPlan),
     Refused(Refusal),

@@ -13,7 +13,7 @@ use laws::Refusal;
 use props::Chain;
 use stages::Current;
 
-#[derive(Drop)]
+#[derive(Clone, Copy)]
 pub enum CurrentRead {
     Current(Current),
     Refused(Refusal),

@@ -1,4 +1,5 @@
 // The point calls (document 01, "Point call"): which input and which spot of it a final place shows.
+#![tactic(auto)]
 mod look;
 mod names;
 
@@ -12,7 +13,7 @@ use laws::Refusal;
 use sight::Sight;
 
 // A spot of an input: its number, a column and a row, from 0.
-#[derive(Drop)]
+#[derive(Clone, Copy)]
 pub struct Spot {
     pub input: u32,
     pub x: u32,
@@ -20,20 +21,20 @@ pub struct Spot {
 }
 
 // What a final place names.
-#[derive(Drop)]
+#[derive(Clone, Copy)]
 pub enum Named {
     Fill,
     Spot(Spot),
 }
 
 // The same, and the chain's rectangle in the composed picture and its turn.
-#[derive(Drop)]
+#[derive(Clone, Copy)]
 pub struct Point {
     pub named: Named,
     pub sight: Sight,
 }
 
-#[derive(Drop)]
+#[derive(Clone, Copy)]
 pub enum PointRead {
     Point(Point),
     Refused(Refusal),

@@ -16,27 +16,27 @@ use sight::{PlaceRead, Sight, SightRead};
 use tiles::{Tiles, TilesRead};
 
 // Everything before the place of a grid: the chain's rectangle and turn, and the tiles.
-#[derive(Drop)]
+#[derive(Clone, Copy)]
 pub struct GridLook {
     pub sight: Sight,
     pub tiles: Tiles,
 }
 
-#[derive(Drop)]
+#[derive(Clone, Copy)]
 pub enum GridLookRead {
     Look(GridLook),
     Refused(Refusal),
 }
 
 // Everything before the place of an overlay: the chain's rectangle and turn, the descriptor, and where the first record stands.
-#[derive(Drop)]
+#[derive(Clone, Copy)]
 pub struct OverlayLook {
     pub sight: Sight,
     pub descriptor: OverlayDescriptor,
     pub first: usize,
 }
 
-#[derive(Drop)]
+#[derive(Clone, Copy)]
 pub enum OverlayLookRead {
     Look(OverlayLook),
     Refused(Refusal),

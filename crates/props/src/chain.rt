@@ -8,13 +8,13 @@ use laws::Refusal;
 use numbers::NumberRead;
 
 // A chain that was judged: how many entries it has, and where the first stands.
-#[derive(Drop)]
+#[derive(Clone, Copy)]
 pub struct Chain {
     pub count: u32,
     pub first: usize,
 }
 
-#[derive(Drop)]
+#[derive(Clone, Copy)]
 pub enum ChainRead {
     Read(Chain),
     Refused(Refusal),

@@ -7,19 +7,19 @@ use numbers::NumberRead;
 use sizes::{Clap, Iscl};
 
 // Image rotation (ISO/IEC 23008-12, 6.5.10): angle mod 4 quarter turns anticlockwise.
-#[derive(Drop)]
+#[derive(Clone, Copy)]
 pub struct Irot {
     pub angle: u8,
 }
 
 // Image mirroring (ISO/IEC 23008-12, 6.5.12): axis mod 2, of which 0 exchanges top and bottom, 1 left and right.
-#[derive(Drop)]
+#[derive(Clone, Copy)]
 pub struct Imir {
     pub axis: u8,
 }
 
 // One of five properties; Other is any that is skipped.
-#[derive(Drop)]
+#[derive(Clone, Copy)]
 pub enum Property {
     Other,
     Clap(Clap),
@@ -28,60 +28,60 @@ pub enum Property {
     Iscl(Iscl),
 }
 
-#[derive(Drop)]
+#[derive(Clone, Copy)]
 pub struct PropertyEntry {
     pub essential: bool,
     pub property: Property,
 }
 
 // An entry and the place past it.
-#[derive(Drop)]
+#[derive(Clone, Copy)]
 pub struct EntryAt {
     pub entry: PropertyEntry,
     pub next: usize,
 }
 
-#[derive(Drop)]
+#[derive(Clone, Copy)]
 pub enum EntryRead {
     Read(EntryAt),
     Refused(Refusal),
 }
 
 // A property and the place past it.
-#[derive(Drop)]
+#[derive(Clone, Copy)]
 struct PropertyAt {
     property: Property,
     next: usize,
 }
 
-#[derive(Drop)]
+#[derive(Clone, Copy)]
 enum PropertyRead {
     Read(PropertyAt),
     Refused(Refusal),
 }
 
 // Two numbers and the place past them.
-#[derive(Drop)]
+#[derive(Clone, Copy)]
 struct Fraction {
     num: u32,
     den: u32,
     next: usize,
 }
 
-#[derive(Drop)]
+#[derive(Clone, Copy)]
 enum FractionRead {
     Read(Fraction),
     Malformed,
 }
 
 // A number up to 255 and the place past it.
-#[derive(Drop)]
+#[derive(Clone, Copy)]
 struct ByteAt {
     value: u8,
     next: usize,
 }
 
-#[derive(Drop)]
+#[derive(Clone, Copy)]
 enum ByteRead {
     Read(ByteAt),
     Malformed,

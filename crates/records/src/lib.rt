@@ -1,4 +1,5 @@
 // Frame records and trays of them, and where a record's planes stand.
+#![tactic(auto)]
 mod record;
 
 pub use crate::record::{

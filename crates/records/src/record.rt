@@ -11,34 +11,34 @@ use laws::Refusal;
 use numbers::NumberRead;
 
 // What a header says, and the place past it.
-#[derive(Drop)]
+#[derive(Clone, Copy)]
 pub struct Head {
     pub form: Form,
     pub next: usize,
 }
 
-#[derive(Drop)]
+#[derive(Clone, Copy)]
 pub(crate) enum HeadRead {
     Read(Head),
     Refused(Refusal),
 }
 
 // Where a plane's bytes stand in the slice that holds its record. A part that the picture has not has no bytes.
-#[derive(Drop)]
+#[derive(Clone, Copy)]
 pub struct Plane {
     pub start: usize,
     pub len: usize,
     pub stride: usize,
 }
 
-#[derive(Drop)]
+#[derive(Clone, Copy)]
 pub(crate) enum PlaneRead {
     Read(Plane),
     Refused(Refusal),
 }
 
 // A record that was taken: its form, its planes, and the place past it.
-#[derive(Drop)]
+#[derive(Clone, Copy)]
 pub struct Frame {
     pub form: Form,
     pub luma: Plane,
@@ -48,14 +48,14 @@ pub struct Frame {
     pub end: usize,
 }
 
-#[derive(Drop)]
+#[derive(Clone, Copy)]
 pub enum FrameRead {
     Read(Frame),
     Refused(Refusal),
 }
 
 // How many records a tray has.
-#[derive(Drop)]
+#[derive(Clone, Copy)]
 pub enum TrayRead {
     Read(u32),
     Refused(Refusal),

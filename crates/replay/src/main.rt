@@ -4,6 +4,7 @@
 // output and of spare are lent, ten fields), then the parts and the answer. Every number has four bytes, the highest first. A session
 // with all its calls is one such call: its parts are the body, the records and the script. A refused call must leave what it is lent.
 // `stdin.md` says how the file is made. For each operation the program prints how many calls are answered alike, and of how many.
+#![tactic(auto)]
 ghost use Rattle.std.specs.Prelude.{◌≤◌};
 
 use fill::{Colour, Filled, Nclx};

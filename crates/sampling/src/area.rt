@@ -7,7 +7,7 @@ ghost use Rattle.sampling.specs.inner.Sums.{AreaFits, RowSumFits};
 use crate::raster::Axis;
 
 // A part of an axis, in 256ths of a sample.
-#[derive(Drop)]
+#[derive(Clone, Copy)]
 pub struct Foot {
     pub start: usize,
     pub end: usize,

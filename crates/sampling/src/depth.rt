@@ -6,7 +6,7 @@ ghost use Rattle.sampling.specs.inner.Depths.{DepthsFit};
 use image::PixelFormat;
 
 // The depth that samples have, and the one that they get.
-#[derive(Drop)]
+#[derive(Clone, Copy)]
 pub struct Depths {
     pub old: u32,
     pub new: u32,

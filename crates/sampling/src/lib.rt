@@ -1,4 +1,5 @@
 // What a sample of a plane is by another plane's: the nearest one, at another depth, or the mean over its footprint.
+#![tactic(auto)]
 mod area;
 mod depth;
 mod nearest;

@@ -18,7 +18,7 @@ use props::{Chain, ChainRead};
 use tiles::TilesRead;
 
 // So many bytes are enough, and fewer are not.
-#[derive(Drop)]
+#[derive(Clone, Copy)]
 pub enum RoomRead {
     Room(usize),
     Refused(Refusal),

@@ -1,1 +1,2 @@
 // What the calls of a canvas session leave one after the other (specs/Sequence), and its laws.
+#![tactic(auto)]

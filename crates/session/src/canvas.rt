@@ -12,7 +12,7 @@ use laws::{Answer, Refusal};
 use records::FrameRead;
 
 // The state after a call, and its answer: 0 bytes, or why it refuses.
-#[derive(Drop)]
+#[derive(Clone, Copy)]
 pub struct Called {
     pub canvas: Canvas,
     pub answer: Answer,

@@ -12,7 +12,7 @@ use image::{Form, FormRead, PixelFormat, Size, SizeAnswer};
 use laws::Refusal;
 
 // The grid, the first tile's form (all 0 before a tile), 1 if a tile had alpha, and a mark for each cell, one bit a cell.
-#[derive(Drop)]
+#[derive(Clone, Copy)]
 pub struct Canvas {
     pub desc: GridDescriptor,
     pub tile: Form,
@@ -21,7 +21,7 @@ pub struct Canvas {
 }
 
 // The first tile's form, or why a tile is not accepted.
-#[derive(Drop)]
+#[derive(Clone, Copy)]
 pub(crate) enum TileRead {
     Read(Form),
     Refused(Refusal),

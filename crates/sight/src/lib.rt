@@ -1,4 +1,5 @@
 // What a chain without scaling leaves of a picture (document 01, "Point call"): a rectangle of it, exchanged or not, then turned.
+#![tactic(auto)]
 ghost use Rattle.std.specs.Prelude.{◌≡◌, ◌+◌, ◌-◌, ◌<◌, ◌≤◌};
 ghost use Rattle.laws.specs.Out.{done, and_then};
 ghost use Rattle.laws.specs.Pick.{pick};
@@ -15,27 +16,27 @@ use props::{Chain, EntryRead, Property, PropertyEntry};
 use sizes::{Crop, CropRect, Margins, Resolved};
 
 // A rectangle of a picture, its left and right exchanged or not, then 0 to 3 quarter turns anticlockwise.
-#[derive(Drop)]
+#[derive(Clone, Copy)]
 pub struct Sight {
     pub area: CropRect,
     pub exchanged: bool,
     pub turns: u32,
 }
 
-#[derive(Drop)]
+#[derive(Clone, Copy)]
 pub enum SightRead {
     Sight(Sight),
     Refused(Refusal),
 }
 
 // A place of the picture.
-#[derive(Drop)]
+#[derive(Clone, Copy)]
 pub struct CanvasPlace {
     pub x: u32,
     pub y: u32,
 }
 
-#[derive(Drop)]
+#[derive(Clone, Copy)]
 pub enum PlaceRead {
     Place(CanvasPlace),
     Refused(Refusal),

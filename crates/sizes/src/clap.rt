@@ -7,7 +7,7 @@ ghost use Rattle.sizes.specs.Margins.{fits_axis, fits_in};
 use laws::Refusal;
 
 // An offset's numerator is the 32-bit pattern of a signed number.
-#[derive(Drop)]
+#[derive(Clone, Copy)]
 pub struct Clap {
     pub width_n: u32,
     pub width_d: u32,
@@ -19,7 +19,7 @@ pub struct Clap {
     pub vert_off_d: u32,
 }
 
-#[derive(Drop)]
+#[derive(Clone, Copy)]
 pub struct CropRect {
     pub x: u32,
     pub y: u32,
@@ -28,7 +28,7 @@ pub struct CropRect {
 }
 
 // What a crop takes from a picture on each side, in pixels.
-#[derive(Drop)]
+#[derive(Clone, Copy)]
 pub struct Margins {
     pub left: u32,
     pub top: u32,
@@ -37,27 +37,27 @@ pub struct Margins {
 }
 
 // A rectangle of a picture and the margins about it.
-#[derive(Drop)]
+#[derive(Clone, Copy)]
 pub struct Crop {
     pub rect: CropRect,
     pub margins: Margins,
 }
 
-#[derive(Drop)]
+#[derive(Clone, Copy)]
 pub enum Resolved {
     Rect(Crop),
     Refused(Refusal),
 }
 
 // A part of one axis, and how many pixels lie beyond it.
-#[derive(Drop)]
+#[derive(Clone, Copy)]
 struct AxisPart {
     edge: u32,
     size: u32,
     beyond: u32,
 }
 
-#[derive(Drop)]
+#[derive(Clone, Copy)]
 enum AxisPartRead {
     Read(AxisPart),
     Refused(Refusal),

@@ -6,7 +6,7 @@ ghost use Rattle.image.specs.Format.{size_out};
 use image::{PixelFormat, Size, SizeAnswer};
 use laws::Refusal;
 
-#[derive(Drop)]
+#[derive(Clone, Copy)]
 pub struct Iscl {
     pub width_num: u16,
     pub width_den: u16,

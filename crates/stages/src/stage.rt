@@ -12,14 +12,14 @@ use props::Property;
 use sight::{Sight, SightRead};
 
 // A record at the start of output (`inside`) or of the spare, and how long it is.
-#[derive(Drop)]
+#[derive(Clone, Copy)]
 pub struct Current {
     pub size: usize,
     pub inside: bool,
 }
 
 // What a chain has reached: the record in a buffer, of form `from`, or what a sight shows of it, of another form.
-#[derive(Drop)]
+#[derive(Clone, Copy)]
 pub struct Stage {
     pub current: Current,
     pub from: Form,

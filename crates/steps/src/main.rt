@@ -1,5 +1,6 @@
 // Reads a picture's width and height and a chain from standard input, and prints the size after each entry (document 01, "Steps
 // program"). No input's text is longer than 11,287 bytes, and none depends on bytes past the first 12,816.
+#![tactic(auto)]
 use laws::Answer;
 use libc::{STDIN_FILENO, STDOUT_FILENO};
 

@@ -1,4 +1,5 @@
 // Prints the text of stored inputs: forms that are taken, each refusal, 256 entries and 257.
+#![tactic(auto)]
 use laws::Answer;
 use libc::STDOUT_FILENO;
 

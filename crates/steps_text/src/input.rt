@@ -6,13 +6,13 @@ use laws::Refusal;
 use numbers::NumberRead;
 use props::{Chain, ChainRead};
 
-#[derive(Drop)]
+#[derive(Clone, Copy)]
 pub(crate) struct Input {
     pub size: Size,
     pub chain: Chain,
 }
 
-#[derive(Drop)]
+#[derive(Clone, Copy)]
 pub(crate) enum InputRead {
     Read(Input),
     Refused(Refusal),

@@ -14,7 +14,7 @@ use laws::{Answer, Refusal};
 use props::EntryRead;
 
 // An entry that was applied: its kind, the size after it, and the place past it.
-#[derive(Drop)]
+#[derive(Clone, Copy)]
 struct EntryStep {
     kind: u32,
     after: SizeAnswer,

@@ -15,7 +15,7 @@ use numbers::NumberRead;
 use records::FrameRead;
 
 // A grid that was taken: its descriptor, the first tile's form, 1 if a tile has alpha, and where the first record begins.
-#[derive(Drop)]
+#[derive(Clone, Copy)]
 pub struct Tiles {
     pub desc: GridDescriptor,
     pub tile: Form,
@@ -23,7 +23,7 @@ pub struct Tiles {
     pub first: usize,
 }
 
-#[derive(Drop)]
+#[derive(Clone, Copy)]
 pub enum TilesRead {
     Read(Tiles),
     Refused(Refusal),

@@ -1,4 +1,5 @@
 // A chain of transforms on one record.
+#![tactic(auto)]
 mod transforms;
 
 pub use crate::transforms::apply_transforms;

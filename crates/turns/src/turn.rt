@@ -10,7 +10,7 @@ use crate::steps::write_steps;
 
 // Where a turned plane's samples stand: the first, how many bytes to the right or left of a row's first sample that of the next row
 // is, and how many below or above a sample the next one of its row is.
-#[derive(Drop)]
+#[derive(Clone, Copy)]
 pub struct Course {
     pub from: usize,
     pub right: usize,

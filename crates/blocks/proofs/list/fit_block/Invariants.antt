@@ -1,0 +1,11 @@
+use mathlib.Core.Path.{◌≡◌}
+use Prim.Native.Nat.{◌≤◌}
+use lib.ListN.{length}
+use Rattle.blocks.specs.inner.Listed.{Listed}
+use Rattle.blocks.proofs.list.fit_block.Given as goal
+
+abbrev pub invariant-loop-inputs : goal.invariant-loop-inputs
+invariant-loop-inputs l = (1 ≤ l.count) × (l.count ≤ l.most) × (length l.entries ≡ length l.initial.entries) × (l.inputs ≤ 1024 → Listed l.body l.tray l.d l.first l.columns l.start l.count l.entries l.inputs)
+
+abbrev pub decreases-loop-inputs : goal.decreases-loop-inputs
+decreases-loop-inputs l = l.count

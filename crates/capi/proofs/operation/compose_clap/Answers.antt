@@ -1,0 +1,6 @@
+use mathlib.Core.Path.{◌∙◌, ap}
+use Rattle.words.specs.Code.{answer_code}
+use Rattle.capi.proofs.operation.compose_clap.Goals as goal
+
+pub returns : goal.returns
+returns c = (c.answer_code.ensures ∙ ap answer_code c.apply_clap.ensures.0, c.apply_clap.ensures.1)

@@ -1,0 +1,10 @@
+use mathlib.Core.Path.{◌≡◌}
+use Prim.Native.Nat.{◌-◌, ◌<◌, ◌≤◌, ℕ}
+use lib.ListN.{get_or, length}
+use Rattle.means.proofs.sums.clear.Given as goal
+
+abbrev pub invariant-loop-j : goal.invariant-loop-j
+invariant-loop-j l = (l.j ≤ l.many) × (length l.sums ≡ length l.initial.sums) × ((i : ℕ) → i < l.j → get_or l.sums i 0 ≡ 0)
+
+abbrev pub decreases-loop-j : goal.decreases-loop-j
+decreases-loop-j l = l.many - l.j

@@ -1,0 +1,10 @@
+use Rattle.laws.specs.Pick.{pick}
+use Rattle.opaque.proofs.axis.step_of.Goals as goal
+
+pub returns-then-half : goal.returns-then-half
+unfolding pick
+returns-then-half c = simp c.if-half.true
+
+pub returns : goal.returns
+unfolding pick
+returns c = simp c.if-half.false

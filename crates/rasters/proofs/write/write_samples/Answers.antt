@@ -1,0 +1,58 @@
+use mathlib.Core.List.{List, ◌++◌}
+use mathlib.Core.Path.{◌∙◌, ◌≡◌, ap, refl, sym}
+use Prim.Native.Nat.{◌+◌, ◌<◌, ◌≤◌, ℕ}
+use lib.ListN.{length}
+use Rattle.laws.proofs.Span.{span-end, span-step}
+use Rattle.laws.proofs.Writing.{writing-as, writing-done, writing-fits, writing-run, writing_start}
+use Rattle.laws.specs.Puts.{puts}
+use Rattle.laws.specs.Span.{span}
+use Rattle.planes.proofs.ByteLaws.{length-sample_bytes}
+use Rattle.planes.specs.Bytes.{sample_bytes, samples_of}
+use Rattle.sampling.proofs.RedrawLaws.{length-raster_row}
+use Rattle.sampling.specs.inner.Redraw.{raster_at, raster_row}
+use Rattle.rasters.proofs.write.write_samples.Goals as goal
+use Rattle.rasters.proofs.write.write_samples.Goals.{In-loop-x}
+
+-- sample x of the row
+module _ (c : In-loop-x) where
+  abbrev item : ℕ → List ℕ
+  item u = sample_bytes c.args.r.to_bytes (raster_at c.args.plane.now c.args.r c.args.row u)
+
+  left : c.loop-x.x < c.args.r.across.to
+  left = rw c.loop-x.invariant.0 at c.loop-x-test.true
+
+  step : span item c.loop-x.x c.args.r.across.to ≡ item c.loop-x.x ++ span item (c.loop-x.x + 1) c.args.r.across.to
+  step = span-step item c.loop-x.x c.args.r.across.to left
+
+  long : length (item c.loop-x.x) ≡ c.args.r.to_bytes
+  long = length-sample_bytes c.args.r.to_bytes _ c.requires.0.to_positive c.requires.0.to_bounded
+
+  room : c.loop-x.i + c.args.r.to_bytes ≤ length c.loop-x.out
+  room = rw (← long) (writing-fits (item c.loop-x.x) _ (writing-as c.loop-x.invariant.1 step))
+
+pub loop-x-init : goal.loop-x-init
+unfolding raster_row samples_of
+loop-x-init c = (refl, writing_start _ _ _ (rw (length-raster_row c.args.plane.now c.args.r c.args.row c.requires.0) c.requires.2))
+
+pub row_sample-requires : goal.row_sample-requires
+row_sample-requires c = (c.requires.0, c.requires.1, left (goal.at.row_sample-requires c).In-loop-x)
+
+pub put_sample-i-requires : goal.put_sample-i-requires
+put_sample-i-requires c = (c.requires.0.to_positive, c.requires.0.to_bounded, room (goal.at.put_sample-i-requires c).In-loop-x)
+
+pub loop-x-preserved : goal.loop-x-preserved
+loop-x-preserved c =
+    (
+      c.loop-x.invariant.0,
+      writing-run (item (goal.at.loop-x-preserved c).In-loop-x c.loop-x.x) (writing-as c.loop-x.invariant.1 (step (goal.at.loop-x-preserved c).In-loop-x))
+          (c.put_sample-i.ensures.0 ∙ ap (λ (k : ℕ). c.loop-x.i + k) (sym (long (goal.at.loop-x-preserved c).In-loop-x)))
+          (c.put_sample-i.ensures.1
+          ∙ ap (λ (v : ℕ). puts c.loop-x.out c.loop-x.i (sample_bytes c.args.r.to_bytes v)) c.row_sample.ensures),
+    )
+
+pub returns : goal.returns
+returns c =
+    let w = writing-done (writing-as c.loop-x.invariant.1 (span-end _ _ _ (rw c.loop-x.invariant.0 at c.loop-x-test.false))) in (
+      w.0 ∙ ap (λ (k : ℕ). c.args.at + k) (length-raster_row c.args.plane.now c.args.r c.args.row c.requires.0),
+      w.1,
+    )

@@ -1,0 +1,14 @@
+use mathlib.Core.Path.{◌≡◌}
+use Prim.Native.Nat.{◌-◌, ◌≤◌}
+use lib.ListN.{length}
+use Rattle.paste.specs.Stored.{store_rows}
+use Rattle.turns.specs.inner.Course.{course_row}
+use Rattle.turns.proofs.turn.turn_block.Given as goal
+
+abbrev pub invariant-loop-y : goal.invariant-loop-y
+invariant-loop-y l =
+    (l.y ≤ l.rows) × (length l.out ≡ length l.initial.out)
+    × (l.out ≡ store_rows l.initial.out l.at l.pitch (course_row l.plane l.bytes (record { l.from = l.from; l.right = l.right; l.left = l.left; l.down = l.down; l.up = l.up }) l.n) l.y)
+
+abbrev pub decreases-loop-y : goal.decreases-loop-y
+decreases-loop-y l = l.rows - l.y

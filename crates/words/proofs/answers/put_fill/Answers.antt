@@ -1,0 +1,17 @@
+use mathlib.Core.Path.{refl}
+use native.Mathlib.Omega.{arith}
+use lib.ListN.{length-set}
+use borrow.Author.Rules.{rules}
+use Rattle.laws.specs.Puts.{puts}
+use Rattle.words.specs.Fill.{fill_fields}
+use Rattle.words.proofs.answers.put_fill.Goals as goal
+
+pub bounds-answer-1 : goal.bounds-answer-1
+bounds-answer-1 c = simp length-set (omega (arith, c.requires))
+
+pub bounds-answer-2 : goal.bounds-answer-2
+bounds-answer-2 c = simp length-set (omega (arith, c.requires))
+
+pub returns : goal.returns
+unfolding puts fill_fields
+returns c = refl
