@@ -37,7 +37,7 @@ write_overlay-requires c =
       record {
         plan = c.requires.0;
         whole = c.requires.0.whole c.if-plan.true;
-        c.top.ensures = c.top.ensures;
+        top = c.top.ensures;
         low = λ p. rw c.top.ensures (drawn-low _ _ _ _ _ (filled (goal.at.write_overlay-requires c).In-Samples) c.fill_alpha.ensures
             (fill-low c.args.plan.descriptor.canvas_fill c.args.plan.form.format.depth c.args.colour
             (omega (arith, c.well_formed)) c.requires.0.form.low c.requires.0.form.high) p);

@@ -9,9 +9,9 @@ use Rattle.planes.proofs.samples.copy_line.Given as goal
 abbrev pub invariant-loop-k : goal.invariant-loop-k
 invariant-loop-k l =
     (l.k ≤ l.n) × (l.i ≡ l.at + l.k * l.bytes)
-    × Writing l.initial.out l.at (line_bytes l.plane l.bytes (record { l.origin = l.origin; l.step = l.step; l.from = l.from; l.forth = l.forth; l.back = l.back; l.half = l.half }) l.n) l.out l.i
+    × Writing l.initial.out l.at (line_bytes l.plane l.bytes (record { origin = l.origin; step = l.step; from = l.from; forth = l.forth; back = l.back; half = l.half }) l.n) l.out l.i
     (span (λ x. sample_bytes l.bytes
-    (sample_at l.plane l.bytes (place_on (record { l.origin = l.origin; l.step = l.step; l.from = l.from; l.forth = l.forth; l.back = l.back; l.half = l.half }) x)))
+    (sample_at l.plane l.bytes (place_on (record { origin = l.origin; step = l.step; from = l.from; forth = l.forth; back = l.back; half = l.half }) x)))
     l.k l.n)
 
 abbrev pub decreases-loop-k : goal.decreases-loop-k

@@ -7,7 +7,7 @@ use Rattle.props.specs.inner.Judged.{judged_at}
 use Rattle.props.proofs.chain.check_chain.Given as goal
 
 abbrev pub invariant-loop-i : goal.invariant-loop-i
-invariant-loop-i l = (judged_at l.s l.at ≡ kept (record { l.count = l.count; l.first = l.first }) (after l.i (entries_at (l.count - l.i) l.s l.next))) × (l.i ≤ l.count)
+invariant-loop-i l = (judged_at l.s l.at ≡ kept (record { count = l.count; first = l.first }) (after l.i (entries_at (l.count - l.i) l.s l.next))) × (l.i ≤ l.count)
 
 abbrev pub decreases-loop-i : goal.decreases-loop-i
 decreases-loop-i l = l.count - l.i

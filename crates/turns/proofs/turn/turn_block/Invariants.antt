@@ -8,7 +8,7 @@ use Rattle.turns.proofs.turn.turn_block.Given as goal
 abbrev pub invariant-loop-y : goal.invariant-loop-y
 invariant-loop-y l =
     (l.y ≤ l.rows) × (length l.out ≡ length l.initial.out)
-    × (l.out ≡ store_rows l.initial.out l.at l.pitch (course_row l.plane l.bytes (record { l.from = l.from; l.right = l.right; l.left = l.left; l.down = l.down; l.up = l.up }) l.n) l.y)
+    × (l.out ≡ store_rows l.initial.out l.at l.pitch (course_row l.plane l.bytes (record { from = l.from; right = l.right; left = l.left; down = l.down; up = l.up }) l.n) l.y)
 
 abbrev pub decreases-loop-y : goal.decreases-loop-y
 decreases-loop-y l = l.rows - l.y
