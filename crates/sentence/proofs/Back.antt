@@ -58,12 +58,12 @@ unfolding differs_from
 differs-one text p k _ (here {ks = ks}) e = (and-true (differ p (text k)) (differs_from text p ks) e).0
 differs-one text p k _ (there {j = j} {ks = ks} a) e = differs-one text p k ks a (and-true (differ p (text j)) (differs_from text p ks) e).1
 
-key_back : (text : Key → List ℕ) (ks : List Key) (k : Key) (s : List ℕ) (f : Key → List ℕ → Told) → all_differ text ks ≡ true → Among k ks → on_key text ks (text k ++ s) f ≡ f k s
+key_back : (text : Key → List ℕ) (k : Key) (ks : List Key) (s : List ℕ) (f : Key → List ℕ → Told) → all_differ text ks ≡ true → Among k ks → on_key text ks (text k ++ s) f ≡ f k s
 unfolding on_key all_differ
-key_back text _ k s f e (here {ks = ks}) = start-same (text k) s (f k) (on_key text ks (text k ++ s) f)
-key_back text _ k s f e (there {j = j} {ks = ks} a) =
+key_back text k _ s f e (here {ks = ks}) = start-same (text k) s (f k) (on_key text ks (text k ++ s) f)
+key_back text k _ s f e (there {j = j} {ks = ks} a) =
     let b = and-true (differs_from text (text j) ks) (all_differ text ks) e in
-    start-other (text j) (text k) s (f j) (on_key text ks (text k ++ s) f) (differs-one text (text j) k ks a b.0) ∙ key_back text ks k s f b.1 a
+    start-other (text j) (text k) s (f j) (on_key text ks (text k ++ s) f) (differs-one text (text j) k ks a b.0) ∙ key_back text k ks s f b.1 a
 
 -- ---- the keys of the tables
 
@@ -124,9 +124,9 @@ back : (language index : ℕ) (why of : Row) → index < 10 ^ 20 → language �
     → read_back (sentence language why of index) ≡ told language why.number of.number (pick (eqb of.number 0) 0 index)
 unfolding read_back sentence opening
 back language index why of h l a b =
-    key_back opening (keys 0 reasons ++ keys 1 reasons) (record { language = language; row = why }) _ _ openings-differ (among-both language why reasons l a)
+    key_back opening (record { language = language; row = why }) (keys 0 reasons ++ keys 1 reasons) _ _ openings-differ (among-both language why reasons l a)
     ∙ rw (item-split language index of)
-    (key_back word (keys language sorts) (record { language = language; row = of }) _ _ (words-differ language l) b
+    (key_back word (record { language = language; row = of }) (keys language sorts) _ _ (words-differ language l) b
     ∙ ap (told language why.number of.number) (index_back of.number index h))
 
 pub sentence-back : (number sort index language room : ℕ) (bs : List ℕ) → index < 2 ^ 64 → sentence_run number sort index language room ≡ done bs

@@ -23,10 +23,10 @@ small : (c : After-truncating_f64_to_u64-t) → c.truncating_f64_to_u64-t.result
 small c = subst (λ (k : ℕ). k < c.args.top) (sym (part c)) (part-lt c.args.x _ (x_below (goal.at.After-truncating_f64_to_u64-t c).Then-x-top))
 
 pub truncating_f64_to_u64-t-requires : goal.truncating_f64_to_u64-t-requires
-truncating_f64_to_u64-t-requires c = (
-  above_zero _ c.if-x.true,
-  below-wide _ c.args.top (x-plain c) (x_below c) (omega (arith, c.ranges.top)),
-)
+truncating_f64_to_u64-t-requires c = record {
+  lower_bound = above_zero _ c.if-x.true;
+  upper_bound = below-wide _ c.args.top (x-plain c) (x_below c) (omega (arith, c.ranges.top));
+}
 
 pub overflow_add-half : goal.overflow_add-half
 overflow_add-half c = omega (arith, small c, c.ranges.top)

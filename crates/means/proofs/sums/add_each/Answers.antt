@@ -29,7 +29,7 @@ bounds-sums-j c =
 
 pub overflow_mul-sums : goal.overflow_mul-sums
 overflow_mul-sums c =
-    omega (arith, mul-below 65535 65535 c.sample-v.result c.args.w (omega (arith, c.sample-v.type-inv)) (search rules))
+    omega (arith, mul-below 65535 65535 c.sample-v.result c.args.w (omega (arith, c.sample-v.type_inv)) (search rules))
 
 pub overflow_add-sums : goal.overflow_add-sums
 overflow_add-sums c =

@@ -15,7 +15,7 @@ column c = past-in c.args.f _ _ c.requires.wide (rw c.loop-j.invariant.0 at c.lo
 
 few : (c : After-weight)
     → sample_in c.args.plane.now c.args.bytes c.args.stride c.loop-j.j c.args.y ≤ 65535
-few c = rw (← c.sample.ensures) (omega (arith, c.sample.type-inv))
+few c = rw (← c.sample.ensures) (omega (arith, c.sample.type_inv))
 
 pub overflow_add-past : goal.overflow_add-past
 overflow_add-past c = omega (arith, c.requires.wide.inside, c.requires.size)
@@ -37,7 +37,7 @@ weight-requires c =
     )
 
 pub overflow_mul-sum : goal.overflow_mul-sum
-overflow_mul-sum c = omega (arith, mul-below 65535 256 c.sample.result c.weight.result (omega (arith, c.sample.type-inv)) c.weight.ensures.1)
+overflow_mul-sum c = omega (arith, mul-below 65535 256 c.sample.result c.weight.result (omega (arith, c.sample.type_inv)) c.weight.ensures.1)
 
 pub overflow_add-sum : goal.overflow_add-sum
 overflow_add-sum c =

@@ -4,6 +4,7 @@ use Rattle.laws.specs.Pick.{pick}
 use Rattle.fill.specs.Fill.{table_of, weights_from, weights_of}
 use Rattle.fill.specs.Rounded.{lit}
 use Rattle.fill.proofs.weights.Weights.of.Goals as goal
+use Rattle.fill.proofs.weights.Weights.of.Goals.{in_default-via-then-matrix-lt9, in_default-via-else-matrix-lt9+else-matrix-lt11}
 
 ten : (m : ℕ) → 9 < m → m < 11 → 10 ≡ m
 ten m h k = omega arith
@@ -30,8 +31,13 @@ returns-in-7 c = c.new-in-7.ensures ∙ ap weights_of (sym c.in-7.is)
 
 pub returns-in-9 : goal.returns-in-9
 unfolding weights_of table_of pick of_bits round
-returns-in-9 c = elim (eq-or-lt_of_le c.if-matrix-lt9.false) [ inl w ↦ c.new-in-9.ensures ∙ ap weights_of w | inr w ↦ c.new-in-9.ensures ∙ ap weights_of (ten _ w c.if-matrix-lt11.true) ]
+returns-in-9 c =
+    let low : 9 ≤ c.args.matrix = omega arith in
+    let high : c.args.matrix < 11 = omega arith in
+    elim (eq-or-lt_of_le low) [ inl w ↦ c.new-in-9.ensures ∙ ap weights_of w | inr w ↦ c.new-in-9.ensures ∙ ap weights_of (ten _ w high) ]
 
 pub returns-in_default : goal.returns-in_default
 unfolding weights_of table_of pick of_bits round
-returns-in_default c = c.new-in_default.ensures ∙ sym (ap (λ (t : ℕ × ℕ). weights_from (lit t.0 10000) (lit t.1 10000)) (other _ c.in_default-1.rest.0.0.1 c.in_default-1.rest.0.1 c.in_default-1.rest.1 (⊎_elim (λ w. inl w.taken) (λ w. inr w.1.left) c.in_default.branch)))
+returns-in_default c =
+    let outside : (c.args.matrix < 9) ⊎ (11 ≤ c.args.matrix) = elim c.in_default.branch [ in_default-via-then-matrix-lt9 w ↦ inl (omega arith) | in_default-via-else-matrix-lt9+else-matrix-lt11 w ↦ inr (omega arith) ] in
+    c.new-in_default.ensures ∙ sym (ap (λ (t : ℕ × ℕ). weights_from (lit t.0 10000) (lit t.1 10000)) (other _ (λ (e : c.args.matrix ≡ 1). omega arith) (λ (e : c.args.matrix ≡ 4). omega arith) (λ (e : c.args.matrix ≡ 7). omega arith) outside))
