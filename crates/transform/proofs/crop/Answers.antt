@@ -19,13 +19,13 @@ taken c = sym c.parse_record.ensures ∙ ap frame_out c.in-Read.is
 
 pub returns-then-not-fits : goal.returns-then-not-fits
 returns-then-not-fits c =
-    refused-answers _ _ _ (crop-outside _ _ (taken (goal.at.returns-then-not-fits c).In-Read) _ _ (sym c.fits2.ensures ∙ not-true _ (ap not c.if-not-fits.true)))
+    refused-answers _ _ _ (crop-outside _ _ (taken (goal.at.returns-then-not-fits c).In-Read) _ _ (sym c.fits.ensures ∙ not-true _ (ap not c.if-not-fits.true)))
 
 pub draw-requires : goal.draw-requires
 draw-requires c =
     (
       (whole-sound _ _ (taken (goal.at.draw-requires c).In-Read)).0,
-      rw c.crop_move.ensures (crop-fit _ _ (taken (goal.at.draw-requires c).In-Read) _ 0 (sym c.fits2.ensures ∙ not-false _ (ap not c.if-not-fits.false))),
+      rw c.crop_move.ensures (crop-fit _ _ (taken (goal.at.draw-requires c).In-Read) _ 0 (sym c.fits.ensures ∙ not-false _ (ap not c.if-not-fits.false))),
     )
 
 pub returns-in-Refused : goal.returns-in-Refused
@@ -36,7 +36,7 @@ returns-in-Refused c =
 pub returns-else-not-fits : goal.returns-else-not-fits
 returns-else-not-fits c =
     answers-as _ _ _ _ _
-    (crop-drawn _ _ (taken (goal.at.returns-else-not-fits c).In-Read) _ _ (sym c.fits2.ensures ∙ not-false _ (ap not c.if-not-fits.false))
+    (crop-drawn _ _ (taken (goal.at.returns-else-not-fits c).In-Read) _ _ (sym c.fits.ensures ∙ not-false _ (ap not c.if-not-fits.false))
     ∙ ap (λ (v : Move). fitted (length c.args.out.now) (encode (moved v (decode c.args.«record».now c.in-Read.f))))
     (sym c.crop_move.ensures))
     c.draw.ensures

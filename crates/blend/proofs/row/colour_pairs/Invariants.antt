@@ -7,7 +7,7 @@ use Rattle.blend.specs.inner.Row.{RowLaid}
 use Rattle.blend.proofs.row.colour_pairs.Given as goal
 
 abbrev pub invariant-loop-i : goal.invariant-loop-i
-invariant-loop-i l = (l.i ≤ l.n) × (length l.acc ≡ length l.initial.acc) × RowLaid l.initial.acc l.acc l.k l.i (λ l.i v. over_colour l.top (sample_in l.plane 2 l.stride (l.x + l.i) l.y) (sample_in l.alpha 2 l.alpha_stride (l.x + l.i) l.y) l.premultiplied v)
+invariant-loop-i l = (l.i ≤ l.n) × (length l.acc ≡ length l.initial.acc) × RowLaid l.initial.acc l.acc l.k l.i (λ i v. over_colour l.top (sample_in l.plane 2 l.stride (l.x + i) l.y) (sample_in l.alpha 2 l.alpha_stride (l.x + i) l.y) l.premultiplied v)
 
 abbrev pub decreases-loop-i : goal.decreases-loop-i
 decreases-loop-i l = l.n - l.i

@@ -7,7 +7,7 @@ use Rattle.blend.specs.inner.Row.{RowLaid}
 use Rattle.blend.proofs.row.opacity_pairs.Given as goal
 
 abbrev pub invariant-loop-i : goal.invariant-loop-i
-invariant-loop-i l = (l.i ≤ l.n) × (length l.acc ≡ length l.initial.acc) × RowLaid l.initial.acc l.acc l.k l.i (λ l.i v. over_alpha l.top (sample_in l.alpha 2 l.stride (l.x + l.i) l.y) v)
+invariant-loop-i l = (l.i ≤ l.n) × (length l.acc ≡ length l.initial.acc) × RowLaid l.initial.acc l.acc l.k l.i (λ i v. over_alpha l.top (sample_in l.alpha 2 l.stride (l.x + i) l.y) v)
 
 abbrev pub decreases-loop-i : goal.decreases-loop-i
 decreases-loop-i l = l.n - l.i

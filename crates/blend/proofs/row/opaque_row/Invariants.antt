@@ -6,7 +6,7 @@ use Rattle.blend.specs.inner.Row.{RowLaid}
 use Rattle.blend.proofs.row.opaque_row.Given as goal
 
 abbrev pub invariant-loop-i : goal.invariant-loop-i
-invariant-loop-i l = (l.i ≤ l.n) × (length l.acc ≡ length l.initial.acc) × RowLaid l.initial.acc l.acc l.k l.i (λ l.i v. min (sample_in l.plane l.bytes l.stride (l.x + l.i) l.y * l.top) (l.top * l.top))
+invariant-loop-i l = (l.i ≤ l.n) × (length l.acc ≡ length l.initial.acc) × RowLaid l.initial.acc l.acc l.k l.i (λ i v. min (sample_in l.plane l.bytes l.stride (l.x + i) l.y * l.top) (l.top * l.top))
 
 abbrev pub decreases-loop-i : goal.decreases-loop-i
 decreases-loop-i l = l.n - l.i

@@ -23,26 +23,18 @@ pub returns : goal.returns
 returns c =
     hull-worked c.args.columns c.args.place c.args.form _ _ _ _ c.reach-across.ensures c.reach-down.ensures c.saturating_sub.ensures c.min.ensures
 
--- LOST
--- 
--- mul-t6 : tie.Need-overflow-mul-t6
--- mul-t6 c =
---     let start = c.before.before.before in
---     omega (arith, mul-below (2 ^ 32) (2 ^ 30) _ _ (ends c.before).0 start.requires)
--- 
--- add-t7 : tie.Need-overflow-add-t7
--- add-t7 c =
---     let start = c.before.before.before.before in
---     omega (arith, mul-below (2 ^ 32) (2 ^ 30) _ _ (ends c.before.before).0 start.requires, ends c.before.before)
--- 
--- mul-t9 : tie.Need-overflow-mul-t9
--- mul-t9 c =
---     let start = c.before.before.before.before.before in
---     let at-reach2 = c.before.before.before in
---     omega (arith, mul-below (2 ^ 33) (2 ^ 30) c.saturating-sub.result _ (omega (arith, ends at-reach2, c.saturating-sub.ensures)) start.requires)
--- 
--- add-t11 : tie.Need-overflow-add-t11
--- add-t11 c =
---     let start = c.before.before.before.before.before.before in
---     let at-reach2 = c.before.before.before.before in
---     omega (arith, mul-below (2 ^ 33) (2 ^ 30) c.before.saturating-sub.result _ (omega (arith, ends at-reach2, c.before.saturating-sub.ensures)) start.requires, c.min.ensures, start.requires)
+pub overflow_mul-result : goal.overflow_mul-result
+overflow_mul-result c =
+    omega (arith, mul-below (2 ^ 32) (2 ^ 30) _ _ (ends (goal.at.overflow_mul-result c).After-reach-down).0 c.requires)
+
+pub overflow_add-result : goal.overflow_add-result
+overflow_add-result c =
+    omega (arith, mul-below (2 ^ 32) (2 ^ 30) _ _ (ends (goal.at.overflow_add-result c).After-reach-down).0 c.requires, ends (goal.at.overflow_add-result c).After-reach-down)
+
+pub overflow_mul-result-2 : goal.overflow_mul-result-2
+overflow_mul-result-2 c =
+    omega (arith, mul-below (2 ^ 33) (2 ^ 30) c.saturating_sub.result _ (omega (arith, ends (goal.at.overflow_mul-result-2 c).After-reach-down, c.saturating_sub.ensures)) c.requires)
+
+pub overflow_add-result-2 : goal.overflow_add-result-2
+overflow_add-result-2 c =
+    omega (arith, mul-below (2 ^ 33) (2 ^ 30) c.saturating_sub.result _ (omega (arith, ends (goal.at.overflow_add-result-2 c).After-reach-down, c.saturating_sub.ensures)) c.requires, c.min.ensures, c.requires)

@@ -4,7 +4,6 @@ use native.Mathlib.Nat.{zero-add}
 use native.Mathlib.Omega.{arith}
 use lib.ListN.{get_or, length}
 use borrow.Author.Rules.{rules}
-use borrow.Author.Tests.{leb-true}
 use Rattle.laws.proofs.Order.{mul-below}
 use Rattle.means.proofs.ColumnLaws.{first-in, head-part, second-part, second_past}
 use Rattle.sampling.proofs.FootLaws.{Weighing, weighing-done, weighing-start, weighing-step}
@@ -21,7 +20,7 @@ head-room c = c.requires.2
 
 room : (c : Then-f-edge) → c.args.f.start / 256 + 1 < c.args.first + length c.args.sums.now
 room c =
-    omega (arith, (second_past c.args.f c.if-edge-f.true (leb-true _ _ c.if-f-edge.true)).0, c.requires.3)
+    omega (arith, (second_past c.args.f c.if-edge-f.true c.if-f-edge.true).0, c.requires.3)
 
 headed : (c : Then-f-edge)
     → Weighing c.args.f (λ x. get_or c.args.sums.now (x - c.args.first) 0) (2 ^ 32 - 1) (c.args.f.start / 256 + 1)
@@ -44,7 +43,7 @@ nexts : (c : Then-f-edge) → get_or c.args.sums.now (c.args.f.start / 256 + 1 -
 nexts c =
     mul-below (2 ^ 32 - 1) 256 (get_or c.args.sums.now (c.args.f.start / 256 + 1 - c.args.first) 0)
     (c.args.f.end - (256 * (c.args.f.start / 256) + 256)) (few (goal.at.Then-f-edge c).After-shared_slice_known-1 _)
-    (omega (arith, leb-true c.args.f.end (256 * (c.args.f.start / 256) + 256 + 256) c.if-f-edge.true))
+    (omega (arith, c.if-f-edge.true))
 
 pub overflow_add-edge-then-edge-f : goal.overflow_add-edge-then-edge-f
 overflow_add-edge-then-edge-f c =
@@ -105,14 +104,14 @@ pub returns-then-f-edge : goal.returns-then-f-edge
 returns-then-f-edge c =
     (weighing-done c.args.f _ (2 ^ 32 - 1) c.requires.0 _ _
     (weighing-step c.args.f (λ x. get_or c.args.sums.now (x - c.args.first) 0) (2 ^ 32 - 1) c.requires.0
-    (c.args.f.start / 256 + 1) _ (headed (goal.at.returns-then-f-edge c).Then-f-edge) (second_past c.args.f c.if-edge-f.true (leb-true _ _ c.if-f-edge.true)).0
+    (c.args.f.start / 256 + 1) _ (headed (goal.at.returns-then-f-edge c).Then-f-edge) (second_past c.args.f c.if-edge-f.true c.if-f-edge.true).0
     (few (goal.at.returns-then-f-edge c).After-shared_slice_known-1 _) _
     (ap (λ (w : ℕ).
     get_or c.args.sums.now (c.args.f.start / 256 - c.args.first) 0
     * (256 * (c.args.f.start / 256) + 256 - c.args.f.start)
     + get_or c.args.sums.now (c.args.f.start / 256 + 1 - c.args.first) 0 * w)
-    (sym (second-part c.args.f c.if-edge-f.true (leb-true _ _ c.if-f-edge.true)))))
-    (second_past c.args.f c.if-edge-f.true (leb-true _ _ c.if-f-edge.true)).1).0
+    (sym (second-part c.args.f c.if-edge-f.true c.if-f-edge.true))))
+    (second_past c.args.f c.if-edge-f.true c.if-f-edge.true).1).0
 
 pub sum_long-requires : goal.sum_long-requires
 sum_long-requires c =

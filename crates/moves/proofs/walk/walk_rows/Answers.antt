@@ -49,7 +49,7 @@ pub row_line-l-requires : goal.row_line-l-requires
 row_line-l-requires c = row_fits _ _ _ _ _ _ c.requires.0 c.loop-y.y c.loop-y-test.true
 
 pub write_line-i-requires : goal.write_line-i-requires
-write_line-i-requires c = (rw c.row_Line.ensures (line-fits _ _ _ _ _ _ c.requires.0 c.loop-y.y c.loop-y-test.true), room (goal.at.write_line-i-requires c).In-loop-y)
+write_line-i-requires c = (rw c.row_line-l.ensures (line-fits _ _ _ _ _ _ c.requires.0 c.loop-y.y c.loop-y-test.true), room (goal.at.write_line-i-requires c).In-loop-y)
 
 pub loop-y-preserved : goal.loop-y-preserved
 loop-y-preserved c =
@@ -60,7 +60,7 @@ loop-y-preserved c =
           (c.write_line-i.ensures.0 ∙ ap (λ (k : ℕ). c.loop-y.i + k) (sym (long (goal.at.loop-y-preserved c).In-loop-y)))
           (c.write_line-i.ensures.1
           ∙ ap (puts c.loop-y.out c.loop-y.i)
-          (ap (λ (l : Line). line_bytes c.args.plane.now c.args.bytes l c.args.columns) c.row_Line.ensures
+          (ap (λ (l : Line). line_bytes c.args.plane.now c.args.bytes l c.args.columns) c.row_line-l.ensures
           ∙ row-bytes _ _ _ _ _ _)),
     )
 

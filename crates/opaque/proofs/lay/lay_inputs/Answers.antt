@@ -1,5 +1,5 @@
 use mathlib.Core.Bool.{false}
-use mathlib.Core.Path.{◌∙◌, ap, refl, sym}
+use mathlib.Core.Path.{◌∙◌, ◌≡◌, ap, refl, sym}
 use native.Mathlib.Nat.{sub-zero}
 use native.Mathlib.Omega.{arith}
 use lib.ListN.{length}
@@ -7,12 +7,17 @@ use borrow.Author.Rules.{rules}
 use Rattle.records.specs.Record.{frame_out}
 use Rattle.image.specs.declared.format.Form.{Form}
 use Rattle.records.specs.inner.Frames.{frames_from}
+use Rattle.planes.specs.Bytes.{tight_at}
+use Rattle.paste.proofs.HeadedLaws.{tight-form}
 use Rattle.inputs.proofs.FrameLaws.{record-inside}
 use Rattle.opaque.proofs.FrameLaws.{fit_next, laid_next, laid_none, laid-refused, length-lay_input}
 use Rattle.opaque.specs.inner.Laid.{lay_frames}
-use Rattle.opaque.proofs.lay.lay_inputs.Invariants.{form}
 use Rattle.opaque.proofs.lay.lay_inputs.Goals as goal
 use Rattle.opaque.proofs.lay.lay_inputs.Goals.{After-tight-to}
+
+form : (c : After-tight-to) → (c.tight-to.result.form ≡ c.args.canvas) × (c.tight-to.result ≡ tight_at c.tight-to.result.form 0)
+form c =
+    tight-form c.args.canvas _ c.tight-to.ensures
 
 pub tight-to-requires : goal.tight-to-requires
 tight-to-requires c =

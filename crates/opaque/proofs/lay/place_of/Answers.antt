@@ -60,21 +60,16 @@ returns c =
     (down_is (goal.at.returns c).After-window_of-down) (ap (λ (q : Plane). q.start) (plane-is (goal.at.returns c).After-plane-plane)) (ap (λ (q : Plane). q.stride) (plane-is (goal.at.returns c).After-plane-plane))
     c.bytes_per_sample.ensures
 
--- LOST
--- 
--- mul-t12 : tie.Need-overflow-mul-t12
--- mul-t12 c = omega (arith, above c.before)
--- 
--- mul-t14 : tie.Need-overflow-mul-t14
--- mul-t14 c = omega (arith, left c.before)
--- 
--- add-t15 : tie.Need-overflow-add-t15
--- add-t15 c =
---     let at-plane = c.before.before.before in
---     omega (arith, above at-plane, left c.before)
--- 
--- add-t16 : tie.Need-overflow-add-t16
--- add-t16 c =
---     let start = c.before.before.before.before.before.before.before.before.before.before.before.before.before in
---     let at-plane = c.before.before.before.before in
---     omega (arith, above at-plane, left c.before.before, ap (λ (q : Plane). q.start) (plane-is at-plane), part_end start.args.to.form start.args.part start.requires.2, start.requires.3)
+pub overflow_mul-result : goal.overflow_mul-result
+overflow_mul-result c = omega (arith, above (goal.at.overflow_mul-result c).After-plane-plane)
+
+pub overflow_mul-result-2 : goal.overflow_mul-result-2
+overflow_mul-result-2 c = omega (arith, left (goal.at.overflow_mul-result-2 c).After-bytes_per_sample)
+
+pub overflow_add-result : goal.overflow_add-result
+overflow_add-result c =
+    omega (arith, above (goal.at.overflow_add-result c).After-plane-plane, left (goal.at.overflow_add-result c).After-bytes_per_sample)
+
+pub overflow_add-result-2 : goal.overflow_add-result-2
+overflow_add-result-2 c =
+    omega (arith, above (goal.at.overflow_add-result-2 c).After-plane-plane, left (goal.at.overflow_add-result-2 c).After-bytes_per_sample, ap (λ (q : Plane). q.start) (plane-is (goal.at.overflow_add-result-2 c).After-plane-plane), part_end c.args.to.form c.args.part c.requires.2, c.requires.3)

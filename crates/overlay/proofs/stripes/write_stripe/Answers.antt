@@ -17,16 +17,16 @@ write_colour-requires c =
 
 pub write_colour-requires-2 : goal.write_colour-requires-2
 write_colour-requires-2 c =
-    (c.before.requires.0, c.before.requires.1, omega (arith, c.before.requires.2, c.write_colour.auto.colour), omega (arith, c.before.requires.3, c.carry_opacity.auto.acc), omega (arith, c.before.requires.4, c.write_colour.auto.out), c.carry_opacity.ensures)
+    (c.requires.0, c.requires.1, omega (arith, c.requires.2, c.write_colour.auto.colour), omega (arith, c.requires.3, c.carry_opacity.auto.acc), omega (arith, c.requires.4, c.write_colour.auto.out), c.carry_opacity.ensures)
 
 pub write_colour-requires-3 : goal.write_colour-requires-3
 write_colour-requires-3 c =
-    (c.before.before.requires.0, c.before.before.requires.1, omega (arith, c.before.before.requires.2, c.write_colour.auto.colour, c.write_colour-2.auto.colour), omega (arith, c.before.before.requires.3, c.carry_opacity.auto.acc), omega (arith, c.before.before.requires.4, c.write_colour.auto.out, c.write_colour-2.auto.out), c.carry_opacity.ensures)
+    (c.requires.0, c.requires.1, omega (arith, c.requires.2, c.write_colour.auto.colour, c.write_colour-2.auto.colour), omega (arith, c.requires.3, c.carry_opacity.auto.acc), omega (arith, c.requires.4, c.write_colour.auto.out, c.write_colour-2.auto.out), c.carry_opacity.ensures)
 
 pub write_alpha-requires : goal.write_alpha-requires
 write_alpha-requires c =
-    (c.before.before.before.requires.0.canvas, c.before.before.before.requires.0.run, c.before.before.before.requires.1, omega (arith, c.before.before.before.requires.3, c.carry_opacity.auto.acc), omega (arith, c.before.before.before.requires.4, c.write_colour.auto.out, c.write_colour-2.auto.out, c.write_colour-3.auto.out), c.carry_opacity.ensures)
+    (c.requires.0.canvas, c.requires.0.run, c.requires.1, omega (arith, c.requires.3, c.carry_opacity.auto.acc), omega (arith, c.requires.4, c.write_colour.auto.out, c.write_colour-2.auto.out, c.write_colour-3.auto.out), c.carry_opacity.ensures)
 
 pub returns : goal.returns
 returns c =
-    ready-drawn c.before.before.before.requires.0 _ _ _ _ _ c.before.before.before.requires.4 c.write_colour.ensures c.write_colour-2.ensures c.write_colour-3.ensures c.write_alpha.ensures
+    ready-drawn c.requires.0 _ _ _ _ _ c.requires.4 c.write_colour.ensures c.write_colour-2.ensures c.write_colour-3.ensures c.write_alpha.ensures

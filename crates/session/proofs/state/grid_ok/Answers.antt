@@ -57,5 +57,5 @@ returns c =
       le-leb _ _ c.if-g-lt1-2.false,
       le-ltb _ _ c.if-g-gt256-2.false,
       le-leb _ _ c.if-g-gt256-2.false,
-      sym c.Size-ok.ensures,
+      sym c.size_ok.ensures,
     )

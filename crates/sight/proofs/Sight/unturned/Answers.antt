@@ -17,9 +17,9 @@ returns-then-turns-eq1 c =
 pub returns-then-turns-eq2 : goal.returns-then-turns-eq2
 unfolding unturn_crop
 returns-then-turns-eq2 c =
-    crop-by c.args.self q2 (quarter-two _ c.if-turns-eq2.true) c.args.k _ (c.quarter_back-twice.ensures ∙ ap c.quarter_back-once c.quarter_back-once.ensures)
+    crop-by c.args.self q2 (quarter-two _ c.if-turns-eq2.true) c.args.k _ (c.quarter_back-twice.ensures ∙ ap quarter_back c.quarter_back-once.ensures)
 
 pub returns : goal.returns
 unfolding unturn_crop
 returns c =
-    crop-by c.args.self q3 (quarter-three _ c.if-turns-eq0.false c.if-turns-eq1.false c.if-turns-eq2.false) c.args.k _ (c.quarter_back.ensures ∙ ap c.quarter_back-once (c.quarter_back-twice.ensures ∙ ap c.quarter_back-once c.quarter_back-once.ensures))
+    crop-by c.args.self q3 (quarter-three _ c.if-turns-eq0.false c.if-turns-eq1.false c.if-turns-eq2.false) c.args.k _ (c.quarter_back.ensures ∙ ap quarter_back (c.quarter_back-twice.ensures ∙ ap quarter_back c.quarter_back-once.ensures))

@@ -12,8 +12,8 @@ use Rattle.words.proofs.canvas.put_marks.Goals.{In-loop-i}
 
 -- the next word is the head of what is left
 module _ (c : In-loop-i) where
-  next : drop c.loop-i.i c.args.t2 ≡ get_or c.args.t2 c.loop-i.i 0 ∷ drop (c.loop-i.i + 1) c.args.t2
-  next = drop-cons c.args.t2 c.loop-i.i 0 (rw c.well_formed.1.0.1.0.1 c.loop-i-test.true) ∙ ap (λ (k : ℕ). get_or c.args.t2 c.loop-i.i 0 ∷ drop k c.args.t2) (sym (add-one c.loop-i.i))
+  next : drop c.loop-i.i c.args.marks ≡ get_or c.args.marks c.loop-i.i 0 ∷ drop (c.loop-i.i + 1) c.args.marks
+  next = drop-cons c.args.marks c.loop-i.i 0 (rw c.well_formed.1.0.1.0.1 c.loop-i-test.true) ∙ ap (λ (k : ℕ). get_or c.args.marks c.loop-i.i 0 ∷ drop k c.args.marks) (sym (add-one c.loop-i.i))
 
 pub loop-i-init : goal.loop-i-init
 loop-i-init c = (omega arith, writing_start _ _ _ (rw c.well_formed.1.0.1.0.1 c.requires))
@@ -25,4 +25,4 @@ pub loop-i-preserved : goal.loop-i-preserved
 loop-i-preserved c = (omega arith, writing-to (writing-put (writing-as c.loop-i.invariant.1 (next c))) (omega arith))
 
 pub returns : goal.returns
-returns c = let l : length c.args.t2 ≤ c.loop-i.i = rw c.well_formed.1.0.1.0.1 (omega arith) in (c.well_formed.1.0.1.0.1, (writing-done (writing-as c.loop-i.invariant.1 (drop_of_length-le c.args.t2 l))).1)
+returns c = let l : length c.args.marks ≤ c.loop-i.i = rw c.well_formed.1.0.1.0.1 (omega arith) in (c.well_formed.1.0.1.0.1, (writing-done (writing-as c.loop-i.invariant.1 (drop_of_length-le c.args.marks l))).1)

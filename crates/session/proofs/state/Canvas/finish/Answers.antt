@@ -13,14 +13,14 @@ use Rattle.session.specs.State.{has_tile, state_ok}
 use Rattle.session.proofs.state.Canvas.finish.Goals as goal
 use Rattle.session.proofs.state.Canvas.finish.Goals.{Else-not-all_marked, Else-not-has_tile, Else-not-is_sound}
 
-sound : (c : Else-not-is_sound) → state_ok c.args.t1 ≡ true
+sound : (c : Else-not-is_sound) → state_ok c.args.self ≡ true
 sound c = sym c.is_sound.ensures ∙ not-false _ (ap not c.if-not-is_sound.false)
 
-tiled : (c : Else-not-has_tile) → has_tile c.args.t1 ≡ true
+tiled : (c : Else-not-has_tile) → has_tile c.args.self ≡ true
 tiled c = sym c.has_tile.ensures ∙ not-false _ (ap not c.if-not-has_tile.false)
 
 all : (c : Else-not-all_marked)
-    → all_marked c.args.t1.marks 0 (c.args.t1.desc.rows * c.args.t1.desc.columns) ≡ true
+    → all_marked c.args.self.marks 0 (c.args.self.desc.rows * c.args.self.desc.columns) ≡ true
 all c = sym c.all_marked.ensures ∙ not-false _ (ap not c.if-not-all_marked.false)
 
 pub returns-then-not-is_sound : goal.returns-then-not-is_sound
