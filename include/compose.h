@@ -1,4 +1,4 @@
-/* The composer's calls for C. Link with target/staticlib/libcapi.a, which `rt staticlib capi` proves and writes.
+/* The composer's calls for C. Link with target/staticlib/libcapi.a, which `tools/staticlib` proves and writes.
  *
  * Each call has a contract in crates/capi/src, for every input; what is said here is short for it. A call takes any
  * bytes. It reads and writes only what it is lent, allocates nothing and keeps nothing. A part of length 0 may have

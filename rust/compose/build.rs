@@ -1,7 +1,7 @@
 //! Links the composer's static library, `target/staticlib/libcapi.a` of the repository, which
-//! `rt staticlib capi` proves and writes. It is made here where it is missing, and again where what
-//! it is made from is newer. `COMPOSE_PROGRESS` may name a file, as a terminal, that a line a crate
-//! is written to meanwhile.
+//! `tools/staticlib` proves and writes. It is made here where it is missing, and again where what it
+//! is made from is newer. `COMPOSE_PROGRESS` may name a file, as a terminal, that a line a crate is
+//! written to meanwhile.
 
 use std::fs::{self, File, OpenOptions};
 use std::io::{self, BufRead, BufReader, Read, Write};
@@ -12,30 +12,37 @@ use std::{env, thread};
 
 const LIBRARY: &str = "target/staticlib/libcapi.a";
 
-/// The crate that the library is made of, with those that it stands on.
-const CRATE: &str = "capi";
+/// The name that it is linked by.
+const LINKED: &str = "capi";
 
-/// The crates that the library is made of, by the list of crates: `CRATE` and all below it. What the
-/// list does not have is the toolchain's.
+/// What makes it.
+const MAKER: &str = "tools/staticlib";
+
+/// The crate that the library is made of, with those that it stands on.
+const CRATE: &str = "capi_c";
+
+/// A crate behind all that it stands on, in the order in which rt comes to them.
+fn collect<'a>(name: &'a str, lines: &[(&'a str, &'a str)], crates: &mut Vec<&'a str>) {
+    // What the list does not have is the toolchain's.
+    let line = lines.iter().find(|(listed, _)| *listed == name);
+    if let (Some((_, below)), false) = (line, crates.contains(&name)) {
+        for name in below.split_whitespace() {
+            collect(name, lines, crates);
+        }
+        crates.push(name);
+    }
+}
+
+/// The crates that the library is made of, by the list of crates: all below `CRATE`, and it itself.
 fn crates(list: &str) -> Vec<&str> {
     let lines: Vec<(&str, &str)> = list
         .lines()
         .filter(|line| !line.trim_start().starts_with('#'))
         .filter_map(|line| line.split_once(':'))
-        .map(|(name, below)| (name.trim(), below))
+        .map(|(name, below)| (name.trim().trim_end_matches(" staticlib"), below))
         .collect();
-    let mut crates = vec![CRATE];
-    let mut at = 0;
-    while at < crates.len() {
-        let line = lines.iter().find(|(name, _)| *name == crates[at]);
-        let below = line.map_or("", |(_, below)| below).split_whitespace();
-        for name in below.filter(|name| lines.iter().any(|(listed, _)| listed == name)) {
-            if !crates.contains(&name) {
-                crates.push(name);
-            }
-        }
-        at += 1;
-    }
+    let mut crates = Vec::new();
+    collect(CRATE, &lines, &mut crates);
     crates
 }
 
@@ -63,25 +70,26 @@ fn newest(path: &Path) -> Option<SystemTime> {
 }
 
 /// Where progress is shown, and how far it is.
-struct Progress {
+struct Progress<'a> {
     to: Option<File>,
+    crates: &'a [&'a str],
     done: usize,
-    of: usize,
     since: Instant,
 }
 
-impl Progress {
-    fn new(of: usize) -> Self {
+impl<'a> Progress<'a> {
+    fn new(crates: &'a [&'a str]) -> Self {
         let to = env::var_os("COMPOSE_PROGRESS");
         let to = to.and_then(|path| OpenOptions::new().append(true).open(path).ok());
         let mut progress = Self {
             to,
+            crates,
             done: 0,
-            of,
             since: Instant::now(),
         };
+        let of = crates.len();
         progress.say(&format!(
-            "compose: the library is being proved, {of} crates; the first time takes some minutes"
+            "compose: the library is being proved, {of} crates; the first time takes long"
         ));
         progress
     }
@@ -94,87 +102,73 @@ impl Progress {
     }
 
     /// One crate more.
-    fn proved(&mut self, name: &str, how: &str) {
+    fn proved(&mut self, how: &str) {
+        let (name, of) = (self.crates[self.done], self.crates.len());
         self.done += 1;
-        self.since = Instant::now();
-        let (done, of) = (self.done, self.of);
+        let done = self.done;
         self.say(&format!("{done} of {of}, {name}, {how}"));
     }
 
-    /// What a line of rt's says: `rt: NAME proved (61 s)`, or that it is unchanged.
+    /// What a line of rt's says: that it begins with a crate, those before it being unchanged where it
+    /// said nothing of them; or that the crate which it began with is proved.
     fn hear(&mut self, line: &str) {
-        let words = line
-            .strip_prefix("rt: ")
-            .and_then(|rest| rest.split_once(" proved ("));
-        if let Some((name, how)) = words {
-            let how = how.trim_end_matches(')');
-            let how = if how.starts_with("unchanged") {
-                "unchanged"
-            } else {
-                how
-            };
-            self.proved(name, how);
+        if line.starts_with("rt: chose --jobs ") {
+            let (_, name) = line.rsplit_once(' ').unwrap_or_default();
+            let at = self.crates.iter().position(|one| *one == name);
+            while at.is_some_and(|at| self.done < at) {
+                self.proved("unchanged");
+            }
+            self.since = Instant::now();
+        } else if line.starts_with("logic=proved ") && self.done < self.crates.len() {
+            let seconds = self.since.elapsed().as_secs();
+            self.proved(&format!("{seconds} s"));
         }
-    }
-
-    /// The last one, which the library is compiled with.
-    fn end(&mut self) {
-        let seconds = self.since.elapsed().as_secs();
-        self.proved(CRATE, &format!("{seconds} s"));
     }
 }
 
-/// What rt says, line by line as it says it; then its end.
-fn follow(mut rt: Child, progress: &mut Progress) -> io::Result<(bool, String)> {
-    let mut output = rt.stdout.take().expect("a pipe");
-    let output = thread::spawn(move || {
+/// What the maker says, line by line as it says it; then its end.
+fn follow(mut maker: Child, progress: &mut Progress) -> io::Result<(bool, String)> {
+    let mut errors = maker.stderr.take().expect("a pipe");
+    let errors = thread::spawn(move || {
         let mut text = String::new();
-        let _ = output.read_to_string(&mut text);
+        let _ = errors.read_to_string(&mut text);
         text
     });
     let mut said = String::new();
-    for line in BufReader::new(rt.stderr.take().expect("a pipe")).lines() {
+    for line in BufReader::new(maker.stdout.take().expect("a pipe")).lines() {
         let line = line?;
         progress.hear(&line);
         said += &format!("{line}\n");
     }
-    let ended = rt.wait()?;
-    said += &output.join().unwrap_or_default();
+    let ended = maker.wait()?;
+    said += &errors.join().unwrap_or_default();
     Ok((ended.success(), said))
 }
 
-/// Runs `rt staticlib capi` in the repository. `there`: whether an older library could serve.
-fn make(repository: &Path, crates: usize, there: bool) -> Result<(), String> {
-    let rt = Command::new("rt")
-        .args(["staticlib", CRATE])
-        .current_dir(repository)
-        .stdout(Stdio::piped())
-        .stderr(Stdio::piped())
-        .spawn();
-    let rt = match rt {
-        Ok(rt) => rt,
-        Err(error) if error.kind() == io::ErrorKind::NotFound && there => {
+/// Has the library made. `there`: whether an older one could serve.
+fn make(repository: &Path, crates: &[&str], there: bool) -> Result<(), String> {
+    let rt = Command::new("rt").arg("version").output();
+    if rt.is_err_and(|error| error.kind() == io::ErrorKind::NotFound) {
+        if there {
             println!("cargo::warning={LIBRARY} is older than crates/, and rt is not on the path");
             return Ok(());
         }
-        Err(error) if error.kind() == io::ErrorKind::NotFound => {
-            return Err(format!(
-                "{LIBRARY} is missing, and rt, which makes it, is not on the path"
-            ));
-        }
-        Err(error) => return Err(format!("rt staticlib {CRATE} did not start: {error}")),
-    };
-    let mut progress = Progress::new(crates);
-    match follow(rt, &mut progress) {
-        Ok((true, _)) => {
-            progress.end();
-            Ok(())
-        }
+        return Err(format!(
+            "{LIBRARY} is missing, and rt, which makes it, is not on the path"
+        ));
+    }
+    let maker = Command::new(repository.join(MAKER))
+        .stdout(Stdio::piped())
+        .stderr(Stdio::piped())
+        .spawn()
+        .map_err(|error| format!("{MAKER} did not start: {error}"))?;
+    match follow(maker, &mut Progress::new(crates)) {
+        Ok((true, _)) => Ok(()),
         Ok((false, said)) => {
             eprintln!("{said}");
-            Err(format!("rt staticlib {CRATE} failed"))
+            Err(format!("{MAKER} failed"))
         }
-        Err(error) => Err(format!("rt staticlib {CRATE} broke off: {error}")),
+        Err(error) => Err(format!("{MAKER} broke off: {error}")),
     }
 }
 
@@ -186,14 +180,14 @@ fn link(repository: &Path) -> Result<(), String> {
     let sources = sources(repository, &crates);
     let made = newest(&library);
     if made.is_none() || sources.iter().any(|source| newest(source) > made) {
-        make(repository, crates.len(), made.is_some())?;
+        make(repository, &crates, made.is_some())?;
     }
     for path in sources.iter().chain([&library]) {
         println!("cargo::rerun-if-changed={}", path.display());
     }
     let folder = library.parent().expect("the library is in a folder");
     println!("cargo::rustc-link-search=native={}", folder.display());
-    println!("cargo::rustc-link-lib=static={CRATE}");
+    println!("cargo::rustc-link-lib=static={LINKED}");
     Ok(())
 }
 

@@ -1,4 +1,4 @@
-//! The functions that `crates/capi` declares for C, read from its source: what the declarations of
+//! The functions that `crates/capi_c` exports for C, read from its source: what the declarations of
 //! this crate and of `include/compose.h` are held to.
 
 use std::fs;
@@ -8,6 +8,9 @@ use std::path::PathBuf;
 pub fn in_repository(path: &str) -> PathBuf {
     PathBuf::from(concat!(env!("CARGO_MANIFEST_DIR"), "/../..")).join(path)
 }
+
+/// What stands before the name of a function that is exported.
+pub const EXPORT: &str = "#[unsafe(no_mangle)]\npub extern \"C\" fn ";
 
 /// One function; it answers a word of 64 bits.
 #[derive(Clone, Debug, PartialEq, Eq, PartialOrd, Ord)]
@@ -43,9 +46,10 @@ impl Function {
 /// Every function that the source marks for C, by name.
 pub fn functions() -> Vec<Function> {
     let mut functions = Vec::new();
-    for file in fs::read_dir(in_repository("crates/capi/src")).expect("the crate capi is there") {
+    let files = fs::read_dir(in_repository("crates/capi_c/src"));
+    for file in files.expect("the crate capi_c is there") {
         let code = fs::read_to_string(file.expect("a file").path()).expect("a text");
-        for function in code.split("pub extern \"C\" fn ").skip(1) {
+        for function in code.split(EXPORT).skip(1) {
             let (declaration, _) = function.split_once(" -> u64").expect("a word");
             functions.push(Function::read(declaration));
         }

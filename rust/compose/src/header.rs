@@ -1,10 +1,12 @@
 //! `include/compose.h`, held to the source of the library: names, parameters and their types, and
 //! the refusals.
 
-use crate::declared::{Function, functions, in_repository};
+use crate::declared::{EXPORT, Function, functions, in_repository};
 use crate::refusal::LONGEST_SENTENCE;
 use crate::{About, Language, Refusal};
+use std::collections::BTreeSet;
 use std::fs;
+use std::path::{Path, PathBuf};
 use std::process::Command;
 
 /// The header without its comments.
@@ -77,9 +79,57 @@ fn the_header_has_the_calls_of_the_library() {
     assert!(lacks.is_empty(), "include/compose.h lacks{lacks}");
     assert!(
         strange.is_empty(),
-        "include/compose.h has what crates/capi has not{strange}"
+        "include/compose.h has what crates/capi_c has not{strange}"
     );
     assert_eq!(ours, theirs);
+}
+
+/// The calls in a file of a crate: the names that their clauses are written in, and of each call what
+/// stands before its body, with the body.
+fn calls(file: &Path) -> (Vec<String>, Vec<(String, String)>) {
+    let code = fs::read_to_string(file).expect("a text");
+    let names = code.lines().filter(|line| line.starts_with("ghost use "));
+    let calls = code.split(EXPORT).skip(1).map(|call| {
+        let (head, rest) = call.split_once("\n{\n").expect("a body");
+        let (body, _) = rest.split_once("\n}\n").expect("an end");
+        (head.to_string(), body.to_string())
+    });
+    (names.map(str::to_string).collect(), calls.collect())
+}
+
+/// What the library exports is `crates/capi`, file by file and call by call: the clauses are the same
+/// word for word, and the body is the call.
+#[test]
+fn the_library_exports_the_calls_of_capi() {
+    let files = |of: &str| -> BTreeSet<PathBuf> {
+        let files = fs::read_dir(in_repository(of)).expect("the crate is there");
+        let files = files.map(|file| PathBuf::from(file.expect("a file").file_name()));
+        files.filter(|file| file.as_os_str() != "lib.rt").collect()
+    };
+    let [ours, theirs] = ["crates/capi_c/src", "crates/capi/src"];
+    assert_eq!(files(ours), files(theirs));
+    let mut count = 0;
+    for file in files(ours) {
+        let (names, exports) = calls(&in_repository(ours).join(&file));
+        let (theirs, calls) = calls(&in_repository(theirs).join(&file));
+        assert_eq!(names, theirs, "{}", file.display());
+        assert_eq!(exports.len(), calls.len(), "{}", file.display());
+        let module = file.file_stem().expect("a name").to_string_lossy();
+        for ((head, body), (clauses, _)) in exports.iter().zip(&calls) {
+            assert_eq!(head, clauses);
+            let (declaration, _) = head.split_once(" -> u64").expect("a word");
+            let Function { name, parameters } = Function::read(declaration);
+            let words: Vec<&str> = body.split_whitespace().collect();
+            let body = words.join(" ").replace("( ", "(").replace(", )", ")");
+            let passed: Vec<&str> = parameters.iter().map(|(name, _)| name.as_str()).collect();
+            assert_eq!(
+                body,
+                format!("capi::{module}::{name}({})", passed.join(", "))
+            );
+            count += 1;
+        }
+    }
+    assert_eq!(count, functions().len());
 }
 
 /// An enum of the header has these constants.
@@ -163,7 +213,7 @@ fn the_example_runs() {
     let [library, example] = &steps_for_c()[..] else {
         panic!("two steps");
     };
-    assert_eq!(library, "rt staticlib capi");
+    assert_eq!(library, "tools/staticlib");
     let comment = fs::read_to_string(in_repository("include/example.c")).expect("the example");
     assert!(comment.contains(&format!(" *     {example}\n")));
     let words: Vec<&str> = example.split_whitespace().collect();

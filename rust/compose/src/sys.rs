@@ -18,7 +18,7 @@ fn answer(word: u64) -> Result<u64> {
     Err(refusal.unwrap_or_else(|| panic!("the library answered {word:#x}")))
 }
 
-/// Functions of the library, as `crates/capi` declares them.
+/// Functions of the library, as `crates/capi_c` exports them.
 macro_rules! library {
     ($($(#[$about:meta])* fn $name:ident($($parameters:tt)*);)*) => {
         $(safe! { ($(#[$about])* $name) () () () $($parameters)*, })*

@@ -1,5 +1,5 @@
-//! `build.rs`, compiled by itself and run in a repository that is made here, with an `rt` that says
-//! what the real one says.
+//! `build.rs`, compiled by itself and run in a repository that is made here, with `tools/staticlib`
+//! and an `rt` that says what the real one says.
 
 use std::fs::{self, File};
 use std::os::unix::fs::PermissionsExt;
@@ -7,16 +7,25 @@ use std::path::{Path, PathBuf};
 use std::process::Command;
 use std::time::{Duration, SystemTime};
 
-/// What the real one says of three crates, and what it leaves.
+/// What the real one says of four crates, one of them unchanged, and what it leaves.
 const RT: &str = "#!/bin/sh
-[ \"$*\" = 'staticlib capi' ] || exit 2
+[ \"$*\" != version ] || exit 0
+[ \"$* ${PWD##*/}\" = 'lib --cpu x86-64 capi_c' ] || exit 2
+cd ../..
 echo again >> ran
-echo 'fn laws::first: proved' >&2
-echo 'rt: laws proved (3 s)' >&2
-echo 'rt: numbers proved (unchanged since it was last proved)' >&2
+echo 'only=0 proved=0'
+echo 'rt: chose --jobs 2 for laws'
+echo 'fn laws::first: proved'
+echo 'crate laws: modules loaded=0 checked=35'
+echo 'logic=proved functions=1'
+echo 'rt: chose --jobs 4 for capi'
+[ ! -e broken ] || { echo 'logic=not-proved'; echo 'rt: the library capi did not build' >&2; exit 1; }
 echo 'fn capi::call: proved'
-[ ! -e broken ] || { echo 'rt: capi NOT PROVED (exit 1, 2 s)'; exit 1; }
-mkdir -p target/staticlib && echo new > target/staticlib/libcapi.a
+echo 'logic=proved functions=1'
+echo 'rt: chose --jobs 2 for capi_c'
+sleep 1
+echo 'logic=proved functions=1'
+mkdir -p crates/capi_c/out && echo new > crates/capi_c/out/libcapi_c.a
 ";
 
 /// The repository, and the program that `build.rs` is.
@@ -36,20 +45,27 @@ impl Repository {
         let _ = fs::remove_dir_all(&folder);
         put(
             &folder.join("crates.txt"),
-            "# A line a crate.\nlaws:\nnumbers: laws\ncapi: laws numbers io\ncases: laws capi\n",
+            "# A line a crate.\nlaws:\nnumbers: laws\ncapi: laws numbers json\ncases: laws capi\n\
+             capi_c staticlib: laws capi\n",
         );
         for part in [
             "laws/src",
             "numbers/src",
             "numbers/specs",
             "capi/src",
+            "capi_c/src",
             "cases/src",
         ] {
             put(&folder.join("crates").join(part).join("file"), "");
         }
-        put(&folder.join("bin/rt"), RT);
-        let program = fs::Permissions::from_mode(0o755);
-        fs::set_permissions(folder.join("bin/rt"), program).expect("a program");
+        let maker = concat!(env!("CARGO_MANIFEST_DIR"), "/../../tools/staticlib");
+        let maker = fs::read_to_string(maker).expect("what makes the library");
+        for (program, text) in [("bin/rt", RT), ("tools/staticlib", &maker)] {
+            put(&folder.join(program), text);
+            let program =
+                fs::set_permissions(folder.join(program), fs::Permissions::from_mode(0o755));
+            program.expect("a program");
+        }
         fs::create_dir_all(folder.join("rust/compose")).expect("a folder");
         let program = folder.join("build");
         let compiled = Command::new("rustc")
@@ -104,20 +120,29 @@ fn the_library_is_made_with_a_line_a_crate() {
     assert_eq!(repository.runs(), 1);
     let progress = repository.text("progress");
     let lines: Vec<&str> = progress.lines().collect();
-    let [first, laws, numbers, capi] = lines[..] else {
+    let [first, laws, numbers, capi, capi_c] = lines[..] else {
         panic!("{progress}");
     };
     assert!(
-        first.starts_with("compose: the library is being proved, 3 crates"),
+        first.starts_with("compose: the library is being proved, 4 crates"),
         "{first}"
     );
-    assert_eq!(
-        (laws, numbers),
-        ("1 of 3, laws, 3 s", "2 of 3, numbers, unchanged")
-    );
+    assert_eq!(numbers, "2 of 4, numbers, unchanged");
+    let seconds = |line: &str, head: &str| -> u64 {
+        let seconds = line
+            .strip_prefix(head)
+            .and_then(|line| line.strip_suffix(" s"));
+        let seconds = seconds.unwrap_or_else(|| panic!("{line}"));
+        seconds.parse().expect("a number")
+    };
+    seconds(laws, "1 of 4, laws, ");
+    seconds(capi, "3 of 4, capi, ");
+    assert!(seconds(capi_c, "4 of 4, capi_c, ") >= 1, "{capi_c}");
+    let library = repository.text("target/staticlib/libcapi.a");
+    assert_eq!(library, "new\n");
     assert!(
-        capi.starts_with("3 of 3, capi, ") && capi.ends_with(" s"),
-        "{capi}"
+        told.contains("cargo::rustc-link-lib=static=capi\n"),
+        "{told}"
     );
 }
 
@@ -133,6 +158,7 @@ fn what_the_library_is_made_of_is_watched() {
         "numbers/src",
         "numbers/specs",
         "capi/src",
+        "capi_c/src",
     ] {
         assert!(watched(part), "{part}: {told}");
     }
@@ -154,7 +180,7 @@ fn a_library_that_is_not_proved_is_an_error() {
     let (told, content) = repository.build();
     assert!(!content);
     assert!(
-        told.contains("cargo::error=rt staticlib capi failed\n"),
+        told.contains("cargo::error=tools/staticlib failed\n"),
         "{told}"
     );
 }

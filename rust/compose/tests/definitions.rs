@@ -44,19 +44,18 @@ fn words(text: &str) -> impl Iterator<Item = &str> {
         .filter(|word| !word.is_empty())
 }
 
-/// `use Rattle·C·specs.specs.M.{a, b as c}` and `use Rattle·C.specs.M.{..}`, of definitions alone.
+/// `use Rattle.C.specs.M.{a, b as c}`, of definitions alone.
 fn uses(text: &str) -> Uses {
     let mut uses = Uses::new();
     for line in text.lines() {
         let line = line.strip_prefix("ghost ").unwrap_or(line);
-        let Some(rest) = line.strip_prefix("use Rattle·") else {
+        let Some(rest) = line.strip_prefix("use Rattle.") else {
             continue;
         };
         let Some((path, names)) = rest.split_once(".{") else {
             continue;
         };
-        let own = path.split_once("·specs.specs.");
-        let Some((of, module)) = own.or_else(|| path.split_once(".specs.")) else {
+        let Some((of, module)) = path.split_once(".specs.") else {
             continue;
         };
         let names = names.split('}').next().expect("a list of names");
@@ -151,7 +150,7 @@ impl Definitions {
 fn calls() -> Vec<Name> {
     let mut cited = Vec::new();
     let mut count = 0;
-    for path in files(&crates().join("capi/src"), "rt") {
+    for path in files(&crates().join("capi_c/src"), "rt") {
         let text = fs::read_to_string(&path).expect("a text");
         let uses = uses(&text);
         for call in text.split("pub extern \"C\" fn ").skip(1) {
@@ -171,7 +170,7 @@ fn nothing_that_a_public_promise_is_built_on_is_inner() {
     let pages = [("promises", "Promises"), ("cases", "Table")];
     roots.extend(all.texts.keys().cloned().filter(|(of, module, name)| {
         pages.contains(&(of.as_str(), module.as_str()))
-            || (of.as_str(), name.as_str()) == ("steps_text", "textOf")
+            || (of.as_str(), name.as_str()) == ("steps_text", "text_of")
     }));
     let public = all.closure(roots);
     assert!(public.len() > 300, "{} definitions", public.len());
