@@ -5,16 +5,18 @@
 // with all its calls is one such call: its parts are the body, the records and the script. A refused call must leave what it is lent.
 // `stdin.md` says how the file is made. For each operation the program prints how many calls are answered alike, and of how many.
 #![tactic(auto)]
-ghost use Rattle.std.specs.Prelude.{◌≤◌};
+
+ghost use Rattle.std.specs.Prelude.{◌≤◌, IfOk, length};
 
 use fill::{Colour, Filled, Nclx};
 use image::SizeAnswer;
 use laws::{Answer, Refusal};
-use libc::{STDIN_FILENO, STDOUT_FILENO};
 use numbers::{Cursor, FieldRead};
 use props::{Imir, Irot};
 use session::{Called, Canvas};
 use sizes::{Clap, Crop, CropRect, Iscl, Margins, Resolved};
+use std::io;
+use std::io::Read;
 
 // The number at a place, 0 where there is none whole.
 fn number_at(s: &[u8], at: usize) -> u32 {
@@ -572,29 +574,45 @@ fn held_so(head: &[u8], one: &[u8], two: &[u8], three: &[u8], four: &[u8], want:
     )
 }
 
+// Reads until `buf` is full or the input ends, and returns how many bytes it put at the start of `buf`.
+fn read_full<R: Read>(input: &mut R, buf: &mut [u8]) -> io::Result<usize>
+    ensures { IfOk result (λ n. n ≤ length buf.new) }
+{
+    let mut done: usize = 0;
+    while done < buf.len() {
+        let n = input.read(&mut buf[done..])?;
+        if n == 0 {
+            break;
+        }
+        done += n;
+    }
+    Ok(done)
+}
+
 // Reads so many bytes to the start of a part, none where it is shorter.
-fn read_part(part: &mut [u8], count: u32) {
+fn read_part<R: Read>(input: &mut R, part: &mut [u8], count: u32) -> io::Result<()> {
     let n = count as usize;
     if n <= part.len() {
-        io::read_full(STDIN_FILENO, &mut part[0..n]);
+        read_full(input, &mut part[0..n])?;
     }
+    Ok(())
 }
 
 // Reads a call, and says whether it is answered as it is stored.
-fn replay_one() -> bool {
+fn replay_one<R: Read>(input: &mut R) -> io::Result<bool> {
     let mut head = [0u8; 80];
     let mut one = [0u8; 65664];
     let mut two = [0u8; 1024];
     let mut three = [0u8; 1024];
     let mut four = [0u8; 1024];
     let mut want = [0u8; 1024];
-    io::read_full(STDIN_FILENO, &mut head);
-    read_part(&mut one, number_at(&head, 8));
-    read_part(&mut two, number_at(&head, 12));
-    read_part(&mut three, number_at(&head, 16));
-    read_part(&mut four, number_at(&head, 20));
-    read_part(&mut want, number_at(&head, 28));
-    held_so(&head, &one, &two, &three, &four, &want)
+    read_full(input, &mut head)?;
+    read_part(input, &mut one, number_at(&head, 8))?;
+    read_part(input, &mut two, number_at(&head, 12))?;
+    read_part(input, &mut three, number_at(&head, 16))?;
+    read_part(input, &mut four, number_at(&head, 20))?;
+    read_part(input, &mut want, number_at(&head, 28))?;
+    Ok(held_so(&head, &one, &two, &three, &four, &want))
 }
 
 fn one_if(b: bool) -> u32
@@ -607,36 +625,36 @@ fn one_if(b: bool) -> u32
 }
 
 // Reads so many calls, and says how many of them are answered as they are stored.
-fn replay_all(count: u32) -> u32 {
+fn replay_all<R: Read>(input: &mut R, count: u32) -> io::Result<u32> {
     let mut alike: u32 = 0;
     let mut i: u32 = 0;
     while i < count {
-        alike += one_if(replay_one());
+        alike += one_if(replay_one(input)?);
         i += 1;
     }
-    alike
+    Ok(alike)
 }
 
 // One operation and its line; whether there was one.
-fn operation() -> bool {
+fn operation<R: Read>(rt: &impl Print, input: &mut R) -> io::Result<bool> {
     let mut name = [0u8; 16];
     let mut number = [0u8; 4];
-    if io::read_full(STDIN_FILENO, &mut name) < 16 {
-        return false;
+    if read_full(input, &mut name)? < 16 {
+        return Ok(false);
     }
-    io::read_full(STDIN_FILENO, &mut number);
+    read_full(input, &mut number)?;
     let count = number_at(&number, 0);
-    io::write_all(STDOUT_FILENO, &name);
-    let alike = replay_all(count);
-    io::print_decimal(STDOUT_FILENO, alike as u64);
-    io::write_all(STDOUT_FILENO, b" of ");
-    io::print_decimal(STDOUT_FILENO, count as u64);
-    io::write_all(STDOUT_FILENO, b"\n")
+    rt.write_all(&name)?;
+    let alike = replay_all(input, count)?;
+    println!(rt; "{alike} of {count}")?;
+    Ok(true)
 }
 
-fn main() {
+fn main(rt: HostRuntime) -> io::Result<()> {
+    let mut input = rt.stdin();
     let mut turns: u32 = 1000;
-    while turns > 0 && operation() {
+    while turns > 0 && operation(&rt, &mut input)? {
         turns -= 1;
     }
+    Ok(())
 }

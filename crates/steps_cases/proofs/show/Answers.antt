@@ -15,6 +15,6 @@ pub slice_bounds-text-end : goal.slice_bounds-text-end
 slice_bounds-text-end c = inside c
 
 -- LOST
--- 
+--
 -- slice-aggregate-write-all-2 : tie.Need-slice-aggregate-write-all-2
 -- slice-aggregate-write-all-2 c = sym (length-take-le _ _ (inside c.before))
