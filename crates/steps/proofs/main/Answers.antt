@@ -1,18 +1,10 @@
-use mathlib.Core.Path.{◌∙◌, sym}
-use Prim.Native.Nat.{◌≤◌}
-use native.Mathlib.Omega.{arith}
-use lib.ListN.{length}
-use lib.Seq.{length-take-le}
-use borrow.Author.Rules.{rules}
+use Rattle.std.proofs.Common.{arith, sym}
+use Rattle.std.proofs.lemmas.List.{length-take-le}
 use Rattle.steps_text.proofs.TextLaws.{text-count}
 use Rattle.steps.proofs.main.Goals as goal
-use Rattle.steps.proofs.main.Goals.{In-Wrote}
-
-inside : (c : In-Wrote) → c.in-Wrote.length ≤ length c.steps_text.new.out.0
-inside c = omega (arith, text-count _ _ _ (sym c.in-Wrote.is ∙ c.steps_text.ensures.0), c.steps_text.auto.1.0)
 
 pub slice_bounds-text-end : goal.slice_bounds-text-end
-slice_bounds-text-end c = inside c
+slice_bounds-text-end c = omega (arith, text-count _ _ _ c.in-Wrote.ensures.0)
 
 pub slice_bounds-write_all-end : goal.slice_bounds-write_all-end
-slice_bounds-write_all-end c = sym (length-take-le _ _ (inside (goal.at.slice_bounds-write_all-end c).In-Wrote))
+slice_bounds-write_all-end c = sym (length-take-le _ _ (omega (arith, text-count _ _ _ c.in-Wrote.ensures.0)))
