@@ -1,5 +1,6 @@
 // Inputs laid over each other by the Rust's blending arithmetic (document 01, Overlay), in stripes of a plane of the canvas.
 #![tactic(auto)]
+
 mod finish;
 mod over;
 mod row;

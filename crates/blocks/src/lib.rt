@@ -1,5 +1,6 @@
 // The inputs that meet a block of the canvas, listed once, and laid over its stripes through the list (document 01, Overlay).
 #![tactic(auto)]
+
 mod list;
 mod stripe;
 

@@ -1,5 +1,6 @@
 // Descriptor bodies written from their fields (document 02, A4; ISO/IEC 23008-12, 6.6.2).
 #![tactic(auto)]
+
 mod form;
 mod grid;
 mod overlay;

@@ -2,16 +2,17 @@
 // 0 to 7, the sort of the item that is refused in bits 8 to 15 and the item's index in bits 16 to 55. A slice passes as a pointer and a
 // length. Every call takes any bytes.
 #![tactic(auto)]
-pub mod canvas;
-pub mod composing;
-pub mod descriptors;
-pub mod fills;
-pub mod operation;
-pub mod properties;
-pub mod read;
-pub mod rooms;
-pub mod scaling;
-pub mod scenes;
-pub mod sentences;
-pub mod spots;
-pub mod writing;
+
+mod canvas;
+mod composing;
+mod descriptors;
+mod fills;
+mod operation;
+mod properties;
+mod read;
+mod rooms;
+mod scaling;
+mod scenes;
+mod sentences;
+mod spots;
+mod writing;

@@ -1,5 +1,6 @@
 // A fill colour in the samples of a picture (document 01, Fill; H.273), and the fill's alpha.
 #![tactic(auto)]
+
 ghost use Rattle.std.specs.Prelude.{◌≡◌, ◌≤◌};
 ghost use Rattle.fill.specs.Fill.{nclx_of, part_of, identity_of, weighted_of, filled_out, fill_of, fill_alpha_of};
 

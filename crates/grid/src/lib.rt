@@ -1,5 +1,6 @@
 // Grids: the tiles of a tray, each in its own cell of one canvas.
 #![tactic(auto)]
+
 mod compose;
 mod paint;
 

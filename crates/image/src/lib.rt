@@ -1,5 +1,6 @@
 // Pixel formats, sizes, and a picture's form.
 #![tactic(auto)]
+
 mod format;
 mod size;
 

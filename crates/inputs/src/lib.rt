@@ -1,5 +1,6 @@
 // The inputs of an overlay: its body and its tray's records, with every refusal from the body's to 16.
 #![tactic(auto)]
+
 mod alpha_check;
 mod read;
 mod sought;

@@ -1,5 +1,6 @@
 // What every call shares: why it refuses, and what it answers.
 #![tactic(auto)]
+
 ghost use Rattle.std.specs.Prelude.{◌≡◌};
 ghost use Rattle.laws.specs.Out.{own_reason};
 

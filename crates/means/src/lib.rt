@@ -1,5 +1,6 @@
 // Rows of the means over footprints, by the sums of their columns.
 #![tactic(auto)]
+
 mod sums;
 
 pub use crate::sums::write_area_row;

@@ -1,5 +1,6 @@
 // Crop, quarter turns and mirrors as moves of a picture's planes.
 #![tactic(auto)]
+
 ghost use Rattle.std.specs.Prelude.{◌≡◌, ◌≤◌};
 ghost use Rattle.image.specs.Sound.{FormSound};
 ghost use Rattle.motions.specs.inner.Moves.{form_with, end_axis, crop_move, quarter_move, half_move, mirror_move, still_move, turn_form};

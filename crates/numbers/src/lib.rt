@@ -1,5 +1,6 @@
 // Numbers as bytes: house numbers, big-endian fields, decimal text.
 #![tactic(auto)]
+
 ghost use Rattle.std.specs.Prelude.{◌≡◌, ◌+◌, ◌-◌, ◌<◌, ◌≤◌, ◌^◌, max, min, length};
 ghost use Rattle.laws.specs.Puts.{puts};
 ghost use Rattle.numbers.specs.Number.{read_number, number_bytes};

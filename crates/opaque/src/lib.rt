@@ -1,5 +1,6 @@
 // Inputs without alpha laid on a canvas (document 01, Overlay): the rows of each, in list order, in the rectangle that it covers.
 #![tactic(auto)]
+
 mod axis;
 mod lay;
 

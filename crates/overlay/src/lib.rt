@@ -1,5 +1,6 @@
 // Overlays composed (document 01, Overlay): a body, a tray and a premultiplied list become a tight record in a lent output.
 #![tactic(auto)]
+
 mod draw;
 mod stripes;
 

@@ -1,5 +1,6 @@
 // Rectangles, runs and planes of samples stored in the planes of a record that stands in a lent output.
 #![tactic(auto)]
+
 mod paint;
 mod rows;
 

@@ -1,5 +1,6 @@
 // The planes of a picture: samples and rows, promotion, and the writer of tight records.
 #![tactic(auto)]
+
 mod samples;
 mod write;
 

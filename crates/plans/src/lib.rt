@@ -1,5 +1,6 @@
 // Where a chain of transforms leads, by forms alone (document 01, "The scene call").
 #![tactic(auto)]
+
 mod chain_plan;
 mod plan;
 

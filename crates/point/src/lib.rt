@@ -1,5 +1,6 @@
 // The point calls (document 01, "Point call"): which input and which spot of it a final place shows.
 #![tactic(auto)]
+
 mod look;
 mod names;
 

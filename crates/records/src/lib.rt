@@ -1,5 +1,6 @@
 // Frame records and trays of them, and where a record's planes stand.
 #![tactic(auto)]
+
 mod record;
 
 pub use crate::record::{

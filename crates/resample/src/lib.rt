@@ -1,5 +1,6 @@
 // Scaling and another depth, each from a record to a record in a lent output.
 #![tactic(auto)]
+
 mod draw;
 mod rescale;
 mod resize;

@@ -1,5 +1,6 @@
 // What a sample of a plane is by another plane's: the nearest one, at another depth, or the mean over its footprint.
 #![tactic(auto)]
+
 mod area;
 mod depth;
 mod nearest;

@@ -1,6 +1,7 @@
 // The scene calls (document 01, "The scene call"): a grid or an overlay composed, then a chain of transforms, from bytes to a record
 // in the lent output. All refusals are found before anything is written.
 #![tactic(auto)]
+
 ghost use Rattle.std.specs.Prelude.{◌≡◌, length};
 ghost use Rattle.laws.specs.Out.{answer_of};
 ghost use Rattle.scene_room.specs.Scene.{grid_scene, overlay_scene, output_of, spare_of};

@@ -1,5 +1,6 @@
 // The room that the scene calls need (document 01, "The scene call"), by what they answer.
 #![tactic(auto)]
+
 mod room;
 
 pub use crate::room::{RoomRead, grid_room, overlay_room};

@@ -1,5 +1,6 @@
 // The sentence of a refusal (document 02, A2).
 #![tactic(auto)]
+
 ghost use Rattle.std.specs.Prelude.{◌≡◌, ◌+◌, ◌≤◌, length};
 ghost use Rattle.laws.specs.Out.{answer_of, written};
 ghost use Rattle.laws.specs.Puts.{puts};

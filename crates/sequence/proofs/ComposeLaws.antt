@@ -33,7 +33,7 @@ use Rattle.derived.proofs.Taken.{grid-taken}
 use Rattle.derived.specs.declared.grid.GridDescriptor.{GridDescriptor}
 use Rattle.derived.specs.inner.Sound.{GridSound}
 use Rattle.cells.proofs.CellLaws.{length-store_part}
-use Rattle.grid.proofs.Composed.{canvas-alpha-is, column-in, columns_of, grid-agree, grid-fits, index_in, plain_form, rows-of}
+use Rattle.grid.proofs.Composed.{canvas-alpha-is, column-in, columns_of_lem, grid-agree, grid-fits, index_in, plain_form, rows-of}
 use Rattle.grid.proofs.GridLaws.{TilesFrom, tiles-from, tiles-taken}
 use Rattle.grid.proofs.MosaicLaws.{among-down, down-among, down_from, pastes, pastes-at, pastes-form}
 use Rattle.grid.proofs.PaintLaws.{head-alpha}
@@ -468,7 +468,7 @@ module _ (body tray : List ℕ) (t : Tiles) (ok : TilesTaken tray t) (grid : Gri
         pick-false _ _ _ (ap₂ (λ (q r : Bool). q && r) (here i li) z)
         ∙ plain
         ∙ sym (pick-false _ _ _ (ap₂ (λ (q r : Bool). q && r) (among-down i _ li) (part z))))
-        ∙ sym (pastes-at canvas T₀ g.columns p w h x y lx ly some_x some_y column (down_from (count_of g)) (plain_pic canvas) (plain_form canvas) (λ j m. (columns_of tray t ok j (down-among j _ m) p, rows-of tray t ok j (down-among j _ m) p)))
+        ∙ sym (pastes-at canvas T₀ g.columns p w h x y lx ly some_x some_y column (down_from (count_of g)) (plain_pic canvas) (plain_form canvas) (λ j m. (columns_of_lem tray t ok j (down-among j _ m) p, rows-of tray t ok j (down-among j _ m) p)))
       where
         w : ℕ
         w = columns_of (tile_form b t.tile) p
@@ -495,7 +495,7 @@ module _ (body tray : List ℕ) (t : Tiles) (ok : TilesTaken tray t) (grid : Gri
         wide = let k = side-alpha C t.alpha p in (ap (λ (m : Form). columns_of m p) (sym canvas-as) ∙ k.0, ap (λ (m : Form). rows_of m p) (sym canvas-as) ∙ k.1)
 
         sizes : (j : ℕ) → j < count_of g → (columns_of (T j).form p ≡ w) × (rows_of (T j).form p ≡ h)
-        sizes j l = (ap (λ (m : Form). columns_of m p) (agrees j l).form ∙ columns_of tray t ok j l p, ap (λ (m : Form). rows_of m p) (agrees j l).form ∙ rows-of tray t ok j l p)
+        sizes j l = (ap (λ (m : Form). columns_of m p) (agrees j l).form ∙ columns_of_lem tray t ok j l p, ap (λ (m : Form). rows_of m p) (agrees j l).form ∙ rows-of tray t ok j l p)
 
         part : {q : Bool} → has_part (T i).form.format p ≡ q → has_part (T₀ i).form.format p ≡ q
         part z = ap (λ (m : Form). has_part m.format p) (sym (agrees i li).form) ∙ z

@@ -1,5 +1,6 @@
 // What a chain without scaling leaves of a picture (document 01, "Point call"): a rectangle of it, exchanged or not, then turned.
 #![tactic(auto)]
+
 ghost use Rattle.std.specs.Prelude.{◌≡◌, ◌+◌, ◌-◌, ◌<◌, ◌≤◌};
 ghost use Rattle.laws.specs.Out.{done, and_then};
 ghost use Rattle.laws.specs.Pick.{pick};

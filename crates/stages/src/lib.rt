@@ -1,5 +1,6 @@
 // One property of a chain: what it makes of a form, and of what the chain has reached, a record or what a sight shows of one.
 #![tactic(auto)]
+
 mod held;
 mod stage;
 

@@ -1,5 +1,6 @@
 // The text that the program `steps` prints (document 01, "Steps program").
 #![tactic(auto)]
+
 mod input;
 mod line;
 mod text;

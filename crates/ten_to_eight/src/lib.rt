@@ -1,5 +1,6 @@
 // A plane of depth 10 at depth 8, by a constant table (document 02, A3).
 #![tactic(auto)]
+
 ghost use Rattle.std.specs.Prelude.{◌≡◌, ◌+◌, ◌*◌, ◌<◌, ◌≤◌, length};
 ghost use Rattle.laws.specs.Puts.{puts};
 ghost use Rattle.sampling.specs.Depth.{level_of};

@@ -1,5 +1,6 @@
 // The tiles of a grid, read and judged, and the canvas that they are drawn on.
 #![tactic(auto)]
+
 mod judge;
 
 pub use crate::judge::{

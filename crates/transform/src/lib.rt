@@ -1,5 +1,6 @@
 // Crop, quarter turns and mirrors, each from a record to a tight record in a lent output.
 #![tactic(auto)]
+
 ghost use Rattle.std.specs.Prelude.{◌≡◌, ◌≤◌, length};
 ghost use Rattle.laws.specs.Out.{answer_of, written, fitted};
 ghost use Rattle.laws.specs.Puts.{puts};

@@ -1,5 +1,6 @@
 // Rows of a plane reversed, and its columns written as rows.
 #![tactic(auto)]
+
 mod reverse;
 mod steps;
 mod turn;

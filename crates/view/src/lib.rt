@@ -1,5 +1,6 @@
 // A record's picture drawn as a sight shows it: one rectangle of it, exchanged or not, then turned, in one pass.
 #![tactic(auto)]
+
 ghost use Rattle.std.specs.Prelude.{◌≡◌, ◌+◌, ◌<◌, ◌^◌, ◌≤◌, length};
 ghost use Rattle.laws.specs.Puts.{puts};
 ghost use Rattle.records.specs.inner.Placed.{Sound};

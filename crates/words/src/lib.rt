@@ -1,5 +1,6 @@
 // Numbers and lent words of the calls for C: how an answer, a refusal and a state are told in them.
 #![tactic(auto)]
+
 mod answers;
 mod canvas;
 mod code;

@@ -39,13 +39,12 @@ pub plan_scene-requires : goal.plan_scene-requires
 plan_scene-requires c = ((ready (goal.at.plan_scene-requires c).In-Read-read_tiles).judged, rw c.canvas_form-form.ensures (ready (goal.at.plan_scene-requires c).In-Read-read_tiles).taken.canvas)
 
 pub draw_grid-requires : goal.draw_grid-requires
-draw_grid-requires c =
-    (
-      (ready (goal.at.draw_grid-requires c).In-Read-read_tiles).taken,
-      rw (grid-size c.args.tray.now _)
-          (first-output _ _ (ready (goal.at.draw_grid-requires c).In-Read-read_tiles).judged _ _ (ready (goal.at.draw_grid-requires c).In-Read-read_tiles).in_range _ (formed (goal.at.draw_grid-requires c).After-canvas_form-form) c.args.output.now
-          c.args.spare.now _ (led (goal.at.draw_grid-requires c).In-Current)),
-    )
+draw_grid-requires c = (
+  (ready (goal.at.draw_grid-requires c).In-Read-read_tiles).taken,
+  rw (grid-size c.args.tray.now _)
+      (first-output _ _ (ready (goal.at.draw_grid-requires c).In-Read-read_tiles).judged _ _ (ready (goal.at.draw_grid-requires c).In-Read-read_tiles).in_range _ (formed (goal.at.draw_grid-requires c).After-canvas_form-form) c.args.output.now
+      c.args.spare.now _ (led (goal.at.draw_grid-requires c).In-Current)),
+)
 
 pub finish_scene-requires : goal.finish_scene-requires
 finish_scene-requires c =
@@ -58,13 +57,12 @@ returns-then-held c =
     _ _ _ c.if-held.true c.draw_grid.ensures c.finish_scene.ensures
 
 pub draw_grid-requires-in-Current : goal.draw_grid-requires-in-Current
-draw_grid-requires-in-Current c =
-    (
-      (ready (goal.at.draw_grid-requires-in-Current c).In-Read-read_tiles).taken,
-      rw (grid-size c.args.tray.now _)
-          (first-spare _ _ (ready (goal.at.draw_grid-requires-in-Current c).In-Read-read_tiles).judged _ _ (ready (goal.at.draw_grid-requires-in-Current c).In-Read-read_tiles).in_range _ (formed (goal.at.draw_grid-requires-in-Current c).After-canvas_form-form) c.args.output.now
-          c.args.spare.now _ (led (goal.at.draw_grid-requires-in-Current c).In-Current)),
-    )
+draw_grid-requires-in-Current c = (
+  (ready (goal.at.draw_grid-requires-in-Current c).In-Read-read_tiles).taken,
+  rw (grid-size c.args.tray.now _)
+      (first-spare _ _ (ready (goal.at.draw_grid-requires-in-Current c).In-Read-read_tiles).judged _ _ (ready (goal.at.draw_grid-requires-in-Current c).In-Read-read_tiles).in_range _ (formed (goal.at.draw_grid-requires-in-Current c).After-canvas_form-form) c.args.output.now
+      c.args.spare.now _ (led (goal.at.draw_grid-requires-in-Current c).In-Current)),
+)
 
 pub finish_scene-requires-in-Current : goal.finish_scene-requires-in-Current
 finish_scene-requires-in-Current c =

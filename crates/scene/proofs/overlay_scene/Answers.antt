@@ -51,12 +51,11 @@ plan_scene-requires c =
     ((ready (goal.at.plan_scene-requires c).In-Read-read_inputs).judged, (ready (goal.at.plan_scene-requires c).In-Read-read_inputs).sound.form)
 
 pub draw_overlay-requires : goal.draw_overlay-requires
-draw_overlay-requires c =
-    (
-      (ready (goal.at.draw_overlay-requires c).In-Read-read_inputs).sound,
-      first-output _ _ (ready (goal.at.draw_overlay-requires c).In-Read-read_inputs).judged _ _ (ready (goal.at.draw_overlay-requires c).In-Read-read_inputs).in_range _ (formed (goal.at.draw_overlay-requires c).In-Read-read_inputs) c.args.output.now
-          c.args.spare.now _ (led (goal.at.draw_overlay-requires c).In-Current),
-    )
+draw_overlay-requires c = (
+  (ready (goal.at.draw_overlay-requires c).In-Read-read_inputs).sound,
+  first-output _ _ (ready (goal.at.draw_overlay-requires c).In-Read-read_inputs).judged _ _ (ready (goal.at.draw_overlay-requires c).In-Read-read_inputs).in_range _ (formed (goal.at.draw_overlay-requires c).In-Read-read_inputs) c.args.output.now
+      c.args.spare.now _ (led (goal.at.draw_overlay-requires c).In-Current),
+)
 
 pub finish_scene-requires : goal.finish_scene-requires
 finish_scene-requires c =
@@ -69,12 +68,11 @@ returns-then-held c =
     c.draw_overlay.ensures.1 c.finish_scene.ensures
 
 pub draw_overlay-requires-in-Current : goal.draw_overlay-requires-in-Current
-draw_overlay-requires-in-Current c =
-    (
-      (ready (goal.at.draw_overlay-requires-in-Current c).In-Read-read_inputs).sound,
-      first-spare _ _ (ready (goal.at.draw_overlay-requires-in-Current c).In-Read-read_inputs).judged _ _ (ready (goal.at.draw_overlay-requires-in-Current c).In-Read-read_inputs).in_range _ (formed (goal.at.draw_overlay-requires-in-Current c).In-Read-read_inputs) c.args.output.now
-          c.args.spare.now _ (led (goal.at.draw_overlay-requires-in-Current c).In-Current),
-    )
+draw_overlay-requires-in-Current c = (
+  (ready (goal.at.draw_overlay-requires-in-Current c).In-Read-read_inputs).sound,
+  first-spare _ _ (ready (goal.at.draw_overlay-requires-in-Current c).In-Read-read_inputs).judged _ _ (ready (goal.at.draw_overlay-requires-in-Current c).In-Read-read_inputs).in_range _ (formed (goal.at.draw_overlay-requires-in-Current c).In-Read-read_inputs) c.args.output.now
+      c.args.spare.now _ (led (goal.at.draw_overlay-requires-in-Current c).In-Current),
+)
 
 pub finish_scene-requires-in-Current : goal.finish_scene-requires-in-Current
 finish_scene-requires-in-Current c =

@@ -10,11 +10,10 @@ use Rattle.sight.specs.Sight.{sight_out}
 use Rattle.sight.proofs.reduce_judged.Goals as goal
 
 pub loop-i-init : goal.loop-i-init
-loop-i-init c =
-    (
-      along-begins _ _ _ _ _ _ _ _ c.requires.read (then-done _ c.requires.read ∙ sight-start c.requires.entries _ _ _ _ c.new-reached.ensures),
-      start-bounded _ _ _ c.new-reached.ensures (omega (arith, c.ranges.width)) (omega (arith, c.ranges.height)),
-    )
+loop-i-init c = (
+  along-begins _ _ _ _ _ _ _ _ c.requires.read (then-done _ c.requires.read ∙ sight-start c.requires.entries _ _ _ _ c.new-reached.ensures),
+  start-bounded _ _ _ c.new-reached.ensures (omega (arith, c.ranges.width)) (omega (arith, c.ranges.height)),
+)
 
 pub returns-in_default : goal.returns-in_default
 returns-in_default c =

@@ -22,11 +22,10 @@ returns-then-not-fits c =
     refused-answers _ _ _ (crop-outside _ _ (taken (goal.at.returns-then-not-fits c).In-Read) _ _ (sym c.fits.ensures ∙ not-true _ (ap not c.if-not-fits.true)))
 
 pub draw-requires : goal.draw-requires
-draw-requires c =
-    (
-      (whole-sound _ _ (taken (goal.at.draw-requires c).In-Read)).0,
-      rw c.crop_move.ensures (crop-fit _ _ (taken (goal.at.draw-requires c).In-Read) _ 0 (sym c.fits.ensures ∙ not-false _ (ap not c.if-not-fits.false))),
-    )
+draw-requires c = (
+  (whole-sound _ _ (taken (goal.at.draw-requires c).In-Read)).0,
+  rw c.crop_move.ensures (crop-fit _ _ (taken (goal.at.draw-requires c).In-Read) _ 0 (sym c.fits.ensures ∙ not-false _ (ap not c.if-not-fits.false))),
+)
 
 pub returns-in-Refused : goal.returns-in-Refused
 unfolding crop_run

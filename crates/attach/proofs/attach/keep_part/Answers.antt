@@ -22,11 +22,10 @@ pub keep_plane-requires : goal.keep_plane-requires
 keep_plane-requires c = (rw c.plane.ensures (kept-fits _ _ _ c.requires.0 (there c)), rw (same c) c.requires.1)
 
 pub returns-then-has : goal.returns-then-has
-returns-then-has c =
-    (
-      c.keep_plane.ensures.0 ∙ ap (λ (l : List ℕ). c.args.at + length l) (same (goal.at.returns-then-has c).After-plane),
-      c.keep_plane.ensures.1 ∙ ap (puts c.args.out.now c.args.at) (same (goal.at.returns-then-has c).After-plane),
-    )
+returns-then-has c = (
+  c.keep_plane.ensures.0 ∙ ap (λ (l : List ℕ). c.args.at + length l) (same (goal.at.returns-then-has c).After-plane),
+  c.keep_plane.ensures.1 ∙ ap (puts c.args.out.now c.args.at) (same (goal.at.returns-then-has c).After-plane),
+)
 
 pub returns : goal.returns
 returns c = writing-none c.args.out.now c.args.at _ (kept-none _ _ _ (sym c.has.ensures ∙ c.if-has.false))

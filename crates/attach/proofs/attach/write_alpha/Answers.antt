@@ -23,13 +23,12 @@ same c =
     ∙ sym (cover-drawn _ _ _ (sym c.alpha_kept.ensures ∙ c.if-alpha_kept.false))
 
 pub keep_plane-requires : goal.keep_plane-requires
-keep_plane-requires c =
-    (
-      luma-fits _ _ c.requires.1,
-      rw (cover-as-is c.args.m c.args.t.now c.args.gr
-          (sym c.alpha_kept.ensures ∙ c.if-alpha_kept.true))
-          at c.requires.2,
-    )
+keep_plane-requires c = (
+  luma-fits _ _ c.requires.1,
+  rw (cover-as-is c.args.m c.args.t.now c.args.gr
+      (sym c.alpha_kept.ensures ∙ c.if-alpha_kept.true))
+      at c.requires.2,
+)
 
 pub returns-then-alpha_kept : goal.returns-then-alpha_kept
 returns-then-alpha_kept c =
@@ -39,16 +38,14 @@ returns-then-alpha_kept c =
     )
 
 pub write_plane-requires : goal.write_plane-requires
-write_plane-requires c =
-    (
-      c.requires.1.sound,
-      rw c.alpha_form.ensures (cover-fits _ _ _ c.requires.0 c.requires.1.sound),
-      rw (sym (same c)) at c.requires.2,
-    )
+write_plane-requires c = (
+  c.requires.1.sound,
+  rw c.alpha_form.ensures (cover-fits _ _ _ c.requires.0 c.requires.1.sound),
+  rw (sym (same c)) at c.requires.2,
+)
 
 pub returns : goal.returns
-returns c =
-    (
-      c.write_plane.ensures.0 ∙ ap (λ (l : List ℕ). c.args.at + length l) (same (goal.at.returns c).After-alpha_form),
-      c.write_plane.ensures.1 ∙ ap (puts c.args.out.now c.args.at) (same (goal.at.returns c).After-alpha_form),
-    )
+returns c = (
+  c.write_plane.ensures.0 ∙ ap (λ (l : List ℕ). c.args.at + length l) (same (goal.at.returns c).After-alpha_form),
+  c.write_plane.ensures.1 ∙ ap (puts c.args.out.now c.args.at) (same (goal.at.returns c).After-alpha_form),
+)

@@ -41,12 +41,11 @@ bounds-out-at c =
     omega (arith, c.loop-k.invariant.1.long, c.requires.1, c.loop-k-test.true)
 
 pub loop-k-preserved : goal.loop-k-preserved
-loop-k-preserved c =
-    (
-      omega arith,
-      writing-to (writing-put (writing-as c.loop-k.invariant.1 (span-step _ c.loop-k.k c.args.n c.loop-k-test.true
-          ∙ ap (λ (l : List ℕ). l ++ span (λ j. sample_bytes 1 (unpremultiply 255 0 (get_or c.args.colour.now j 0) 255)) (c.loop-k.k + 1) c.args.n) (solid-byte _ (c.requires.2 c.loop-k.k c.loop-k-test.true)).0))) (omega arith),
-    )
+loop-k-preserved c = (
+  omega arith,
+  writing-to (writing-put (writing-as c.loop-k.invariant.1 (span-step _ c.loop-k.k c.args.n c.loop-k-test.true
+      ∙ ap (λ (l : List ℕ). l ++ span (λ j. sample_bytes 1 (unpremultiply 255 0 (get_or c.args.colour.now j 0) 255)) (c.loop-k.k + 1) c.args.n) (solid-byte _ (c.requires.2 c.loop-k.k c.loop-k-test.true)).0))) (omega arith),
+)
 
 pub overflow_add-result : goal.overflow_add-result
 overflow_add-result c = omega (arith, c.requires.1)

@@ -62,15 +62,14 @@ put_sample-i-requires c =
 
 pub loop-k-preserved : goal.loop-k-preserved
 unfolding item
-loop-k-preserved c =
-    (
-      omega (arith, c.loop-k-test.true),
-      omega (arith, c.put_sample-i.ensures.0, c.loop-k.invariant.1),
-      writing-run (item (goal.at.loop-k-preserved c).In-loop-k c.loop-k.k) (going (goal.at.loop-k-preserved c).In-loop-k)
-          (c.put_sample-i.ensures.0 ∙ ap (λ (k : ℕ). c.loop-k.i + k) (sym (long (goal.at.loop-k-preserved c).In-loop-k)))
-          (c.put_sample-i.ensures.1
-          ∙ ap (puts c.loop-k.out c.loop-k.i) (ap (sample_bytes c.args.bytes) c.unpremultiply.ensures)),
-    )
+loop-k-preserved c = (
+  omega (arith, c.loop-k-test.true),
+  omega (arith, c.put_sample-i.ensures.0, c.loop-k.invariant.1),
+  writing-run (item (goal.at.loop-k-preserved c).In-loop-k c.loop-k.k) (going (goal.at.loop-k-preserved c).In-loop-k)
+      (c.put_sample-i.ensures.0 ∙ ap (λ (k : ℕ). c.loop-k.i + k) (sym (long (goal.at.loop-k-preserved c).In-loop-k)))
+      (c.put_sample-i.ensures.1
+      ∙ ap (puts c.loop-k.out c.loop-k.i) (ap (sample_bytes c.args.bytes) c.unpremultiply.ensures)),
+)
 
 pub returns : goal.returns
 returns c =

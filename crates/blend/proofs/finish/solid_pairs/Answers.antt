@@ -75,12 +75,11 @@ bounds-out-at-in-loop-k c =
     simp length-set (omega (arith, c.loop-k.invariant.1.long, c.requires.1, c.loop-k-test.true))
 
 pub loop-k-preserved : goal.loop-k-preserved
-loop-k-preserved c =
-    (
-      omega (arith, c.loop-k-test.true),
-      writing-to (writing-put (writing-put (writing-as c.loop-k.invariant.1 (span-step _ c.loop-k.k c.args.n c.loop-k-test.true
-          ∙ ap (λ (l : List ℕ). l ++ span (λ j. sample_bytes 2 (unpremultiply c.args.top 0 (get_or c.args.colour.now j 0) c.args.top)) (c.loop-k.k + 1) c.args.n) (pair c).0)))) (omega arith),
-    )
+loop-k-preserved c = (
+  omega (arith, c.loop-k-test.true),
+  writing-to (writing-put (writing-put (writing-as c.loop-k.invariant.1 (span-step _ c.loop-k.k c.args.n c.loop-k-test.true
+      ∙ ap (λ (l : List ℕ). l ++ span (λ j. sample_bytes 2 (unpremultiply c.args.top 0 (get_or c.args.colour.now j 0) c.args.top)) (c.loop-k.k + 1) c.args.n) (pair c).0)))) (omega arith),
+)
 
 pub overflow_mul-result : goal.overflow_mul-result
 overflow_mul-result c =

@@ -35,19 +35,18 @@ going c = writing-as c.loop-k.invariant.2 (step c)
 
 pub loop-k-init : goal.loop-k-init
 unfolding samples_of
-loop-k-init c =
-    (
-      omega arith,
-      omega arith,
-      writing_start _ _ _
-          (omega (
-            arith,
-            c.requires.4,
-            length-samples_of c.args.bytes
-                (λ j. final_sample c.args.top c.args.part c.args.fill (get_or c.args.colour.now j 0) (get_or c.args.opacity.now j 0))
-                c.args.n c.requires.0 c.requires.1,
-          )),
-    )
+loop-k-init c = (
+  omega arith,
+  omega arith,
+  writing_start _ _ _
+      (omega (
+        arith,
+        c.requires.4,
+        length-samples_of c.args.bytes
+            (λ j. final_sample c.args.top c.args.part c.args.fill (get_or c.args.colour.now j 0) (get_or c.args.opacity.now j 0))
+            c.args.n c.requires.0 c.requires.1,
+      )),
+)
 
 pub offset_bounds-colour-k : goal.offset_bounds-colour-k
 offset_bounds-colour-k c =
@@ -71,15 +70,14 @@ put_sample-i-requires c =
 
 pub loop-k-preserved : goal.loop-k-preserved
 unfolding item
-loop-k-preserved c =
-    (
-      omega (arith, c.loop-k-test.true),
-      omega (arith, c.put_sample-i.ensures.0, c.loop-k.invariant.1),
-      writing-run (item (goal.at.loop-k-preserved c).In-loop-k c.loop-k.k) (going (goal.at.loop-k-preserved c).In-loop-k)
-          (c.put_sample-i.ensures.0 ∙ ap (λ (k : ℕ). c.loop-k.i + k) (sym (long (goal.at.loop-k-preserved c).In-loop-k)))
-          (c.put_sample-i.ensures.1
-          ∙ ap (puts c.loop-k.out c.loop-k.i) (ap (sample_bytes c.args.bytes) c.final_sample.ensures)),
-    )
+loop-k-preserved c = (
+  omega (arith, c.loop-k-test.true),
+  omega (arith, c.put_sample-i.ensures.0, c.loop-k.invariant.1),
+  writing-run (item (goal.at.loop-k-preserved c).In-loop-k c.loop-k.k) (going (goal.at.loop-k-preserved c).In-loop-k)
+      (c.put_sample-i.ensures.0 ∙ ap (λ (k : ℕ). c.loop-k.i + k) (sym (long (goal.at.loop-k-preserved c).In-loop-k)))
+      (c.put_sample-i.ensures.1
+      ∙ ap (puts c.loop-k.out c.loop-k.i) (ap (sample_bytes c.args.bytes) c.final_sample.ensures)),
+)
 
 pub returns : goal.returns
 returns c =

@@ -39,43 +39,40 @@ pub nonzero_div-start : goal.nonzero_div-start
 nonzero_div-start c = omega (arith, c.requires.2.wide)
 
 pub loop-r-init : goal.loop-r-init
-loop-r-init c =
-    (
-      begun c,
-      refl,
-      λ j h. rows-begin c.args.tray.now c.args.fr c.args.place c.args.premultiplied c.args.part
-          c.args.top c.args.run c.requires.2 j _ _
-          (c.max-r.ensures
-          ∙ ap (λ (q : Stretch). max q.from (c.args.run.start / c.args.run.columns)) c.reach-down.ensures),
-    )
+loop-r-init c = (
+  begun c,
+  refl,
+  λ j h. rows-begin c.args.tray.now c.args.fr c.args.place c.args.premultiplied c.args.part
+      c.args.top c.args.run c.requires.2 j _ _
+      (c.max-r.ensures
+      ∙ ap (λ (q : Stretch). max q.from (c.args.run.start / c.args.run.columns)) c.reach-down.ensures),
+)
 
 pub over_line-requires : goal.over_line-requires
-over_line-requires c =
-    (
-      c.requires.0,
-      c.requires.1,
-      c.requires.2,
-      omega (arith, c.requires.3, c.loop-r.invariant.1),
-      row-begins c.loop-r.r (c.args.run.start + c.args.run.count) c.args.run.columns c.requires.2.wide
-          (omega (arith, c.loop-r-test.true, c.min-last.ensures)),
-      row-shown c.args.tray.now c.args.fr c.args.place c.args.premultiplied c.args.part c.args.top
-          c.args.run c.requires.2 c.loop-r.r c.loop-r.invariant.0 (deep_is (goal.at.over_line-requires c).In-loop-r),
-      λ j h. rows-held c.args.tray.now c.args.fr c.args.place c.args.premultiplied c.args.part
-          c.args.top c.args.run c.requires.2 j _ _ c.loop-r.r c.requires.1
-          (c.loop-r.invariant.2 j h) (c.requires.4 j h),
-    )
+over_line-requires c = (
+  c.requires.0,
+  c.requires.1,
+  c.requires.2,
+  omega (arith, c.requires.3, c.loop-r.invariant.1),
+  row-begins c.loop-r.r (c.args.run.start + c.args.run.count) c.args.run.columns c.requires.2.wide
+      (omega (arith, c.loop-r-test.true, c.min-last.ensures)),
+  row-shown c.args.tray.now c.args.fr c.args.place c.args.premultiplied c.args.part c.args.top
+      c.args.run c.requires.2 c.loop-r.r c.loop-r.invariant.0 (deep_is (goal.at.over_line-requires c).In-loop-r),
+  λ j h. rows-held c.args.tray.now c.args.fr c.args.place c.args.premultiplied c.args.part
+      c.args.top c.args.run c.requires.2 j _ _ c.loop-r.r c.requires.1
+      (c.loop-r.invariant.2 j h) (c.requires.4 j h),
+)
 
 pub overflow_add-r : goal.overflow_add-r
 overflow_add-r c = omega (arith, c.loop-r-test.true)
 
 pub loop-r-preserved : goal.loop-r-preserved
-loop-r-preserved c =
-    (
-      omega (arith, c.loop-r.invariant.0),
-      c.over_line.auto.acc ∙ c.loop-r.invariant.1,
-      λ j h. rows_more c.args.tray.now c.args.fr c.args.place c.args.premultiplied c.args.part
-          c.args.top c.args.run c.requires.2 j _ _ _ c.loop-r.r (c.loop-r.invariant.2 j h) (c.over_line.ensures j h),
-    )
+loop-r-preserved c = (
+  omega (arith, c.loop-r.invariant.0),
+  c.over_line.auto.acc ∙ c.loop-r.invariant.1,
+  λ j h. rows_more c.args.tray.now c.args.fr c.args.place c.args.premultiplied c.args.part
+      c.args.top c.args.run c.requires.2 j _ _ _ c.loop-r.r (c.loop-r.invariant.2 j h) (c.over_line.ensures j h),
+)
 
 pub returns : goal.returns
 returns c =

@@ -27,29 +27,27 @@ bounds-premultiplied-n c =
     omega (arith, c.requires.1, c.loop-i-test.true)
 
 pub over_input-requires : goal.over_input-requires
-over_input-requires c =
-    (
-      record-inside _ _ _ (sym c.read_record.ensures ∙ ap frame_out c.in-Read.is),
-      c.requires.2,
-      c.requires.3,
-      omega (arith, c.requires.4, c.loop-i.invariant.1),
-      c.loop-i.invariant.2,
-    )
+over_input-requires c = (
+  record-inside _ _ _ (sym c.read_record.ensures ∙ ap frame_out c.in-Read.is),
+  c.requires.2,
+  c.requires.3,
+  omega (arith, c.requires.4, c.loop-i.invariant.1),
+  c.loop-i.invariant.2,
+)
 
 pub overflow_add-i : goal.overflow_add-i
 overflow_add-i c =
     omega (arith, c.loop-i-test.true, c.requires.0.count)
 
 pub loop-i-preserved : goal.loop-i-preserved
-loop-i-preserved c =
-    (
-      omega (arith, c.loop-i-test.true),
-      c.over_input.auto.acc ∙ c.loop-i.invariant.1,
-      λ j h. rw (c.over_input.ensures j h) (over_at-held _ _ _ _ _ _ (c.loop-i.invariant.2 j h) c.requires.2),
-      λ j h. c.loop-i.invariant.3 j h
-          ∙ all-over _ _ _ _ _ _ _ _ _ _ _ _ _ _ _ _ c.loop-i-test.true (sym c.read_record.ensures ∙ ap frame_out c.in-Read.is) c.offset-place.ensures
-          refl (c.over_input.ensures j h),
-    )
+loop-i-preserved c = (
+  omega (arith, c.loop-i-test.true),
+  c.over_input.auto.acc ∙ c.loop-i.invariant.1,
+  λ j h. rw (c.over_input.ensures j h) (over_at-held _ _ _ _ _ _ (c.loop-i.invariant.2 j h) c.requires.2),
+  λ j h. c.loop-i.invariant.3 j h
+      ∙ all-over _ _ _ _ _ _ _ _ _ _ _ _ _ _ _ _ c.loop-i-test.true (sym c.read_record.ensures ∙ ap frame_out c.in-Read.is) c.offset-place.ensures
+      refl (c.over_input.ensures j h),
+)
 
 pub returns : goal.returns
 returns c = λ j h. sym (c.loop-i.invariant.3 j h ∙ all_none _ _ _ _ _ _ _ _ _ _ _ _ (omega (arith, c.loop-i-test.false)))

@@ -26,13 +26,12 @@ holds c = row-holds c.args.plane.now c.args.alpha.now c.args.s c.args.x c.args.y
 
 pub opaque_row-requires : goal.opaque_row-requires
 unfolding bytes_of
-opaque_row-requires c =
-    (
-      c.requires.0.bounded,
-      rw c.bytes_per_sample.ensures (inside (goal.at.opaque_row-requires c).Start),
-      rw c.bytes_per_sample.ensures (bytes-few c.args.s.format).0,
-      rw c.bytes_per_sample.ensures (bytes-few c.args.s.format).1,
-    )
+opaque_row-requires c = (
+  c.requires.0.bounded,
+  rw c.bytes_per_sample.ensures (inside (goal.at.opaque_row-requires c).Start),
+  rw c.bytes_per_sample.ensures (bytes-few c.args.s.format).0,
+  rw c.bytes_per_sample.ensures (bytes-few c.args.s.format).1,
+)
 
 pub returns-then-not-has : goal.returns-then-not-has
 unfolding has_part

@@ -64,15 +64,14 @@ bounds-acc-at-in-loop-i c =
     omega (arith, c.requires.bounded, c.loop-i-test.true, c.loop-i.invariant.1)
 
 pub loop-i-preserved : goal.loop-i-preserved
-loop-i-preserved c =
-    (
-      search rules,
-      length-set c.loop-i.acc (c.args.k + c.loop-i.i) c.over.result ∙ c.loop-i.invariant.1,
-      stored_more c.args.acc.now c.loop-i.acc c.args.k c.loop-i.i c.over.result
-          (λ j v. row_over c.args.plane.now c.args.alpha.now c.args.s
-          (c.args.x + (j - c.args.k) * c.args.step) c.args.y v)
-          (omega (arith, c.requires.bounded, c.loop-i-test.true, c.loop-i.invariant.1)) c.loop-i.invariant.2 (next c),
-    )
+loop-i-preserved c = (
+  search rules,
+  length-set c.loop-i.acc (c.args.k + c.loop-i.i) c.over.result ∙ c.loop-i.invariant.1,
+  stored_more c.args.acc.now c.loop-i.acc c.args.k c.loop-i.i c.over.result
+      (λ j v. row_over c.args.plane.now c.args.alpha.now c.args.s
+      (c.args.x + (j - c.args.k) * c.args.step) c.args.y v)
+      (omega (arith, c.requires.bounded, c.loop-i-test.true, c.loop-i.invariant.1)) c.loop-i.invariant.2 (next c),
+)
 
 pub returns : goal.returns
 unfolding within

@@ -9,13 +9,12 @@ use Rattle.blend.specs.Overlay.{over_colour}
 use Rattle.blend.proofs.row.colour_bytes.Goals as goal
 
 pub loop-i-init : goal.loop-i-init
-loop-i-init c =
-    (
-      omega arith,
-      refl,
-      laid_none c.args.acc.now c.args.k
-          (λ i v. over_colour 255 (sample_in c.args.plane.now 1 c.args.stride (c.args.x + i) c.args.y) (sample_in c.args.alpha.now 1 c.args.alpha_stride (c.args.x + i) c.args.y) c.args.premultiplied v),
-    )
+loop-i-init c = (
+  omega arith,
+  refl,
+  laid_none c.args.acc.now c.args.k
+      (λ i v. over_colour 255 (sample_in c.args.plane.now 1 c.args.stride (c.args.x + i) c.args.y) (sample_in c.args.alpha.now 1 c.args.alpha_stride (c.args.x + i) c.args.y) c.args.premultiplied v),
+)
 
 pub overflow_add-x : goal.overflow_add-x
 overflow_add-x c =
@@ -46,22 +45,21 @@ bounds-acc-at c =
     omega (arith, c.requires.0.bounded, c.loop-i-test.true, c.loop-i.invariant.1)
 
 pub byte_colour-requires : goal.byte_colour-requires
-byte_colour-requires c =
-    (
-      omega (
-        arith,
-        c.sample-m.ensures,
-        byte_low c.args.plane.now c.args.stride (c.args.x + c.loop-i.i) c.args.y (λ i. omega (arith, c.type_inv.plane i)),
-      ),
-      omega (
-        arith,
-        c.sample-a.ensures,
-        byte_low c.args.alpha.now c.args.alpha_stride (c.args.x + c.loop-i.i) c.args.y (λ i. omega (arith, c.type_inv.alpha i)),
-      ),
-      laid-held c.args.acc.now c.args.k
-          (λ i v. over_colour 255 (sample_in c.args.plane.now 1 c.args.stride (c.args.x + i) c.args.y) (sample_in c.args.alpha.now 1 c.args.alpha_stride (c.args.x + i) c.args.y) c.args.premultiplied v)
-          c.loop-i.acc c.loop-i.i c.loop-i.invariant.2 255 _ c.requires.0 c.loop-i-test.true,
-    )
+byte_colour-requires c = (
+  omega (
+    arith,
+    c.sample-m.ensures,
+    byte_low c.args.plane.now c.args.stride (c.args.x + c.loop-i.i) c.args.y (λ i. omega (arith, c.type_inv.plane i)),
+  ),
+  omega (
+    arith,
+    c.sample-a.ensures,
+    byte_low c.args.alpha.now c.args.alpha_stride (c.args.x + c.loop-i.i) c.args.y (λ i. omega (arith, c.type_inv.alpha i)),
+  ),
+  laid-held c.args.acc.now c.args.k
+      (λ i v. over_colour 255 (sample_in c.args.plane.now 1 c.args.stride (c.args.x + i) c.args.y) (sample_in c.args.alpha.now 1 c.args.alpha_stride (c.args.x + i) c.args.y) c.args.premultiplied v)
+      c.loop-i.acc c.loop-i.i c.loop-i.invariant.2 255 _ c.requires.0 c.loop-i-test.true,
+)
 
 pub offset_bounds-acc-at-in-loop-i : goal.offset_bounds-acc-at-in-loop-i
 offset_bounds-acc-at-in-loop-i c =
@@ -72,16 +70,15 @@ bounds-acc-at-in-loop-i c =
     omega (arith, c.requires.0.bounded, c.loop-i-test.true, c.loop-i.invariant.1)
 
 pub loop-i-preserved : goal.loop-i-preserved
-loop-i-preserved c =
-    (
-      search rules,
-      length-set c.loop-i.acc (c.args.k + c.loop-i.i) c.byte_colour.result ∙ c.loop-i.invariant.1,
-      laid_more c.args.acc.now c.args.k
-          (λ i v. over_colour 255 (sample_in c.args.plane.now 1 c.args.stride (c.args.x + i) c.args.y) (sample_in c.args.alpha.now 1 c.args.alpha_stride (c.args.x + i) c.args.y) c.args.premultiplied v)
-          c.loop-i.acc c.loop-i.i c.loop-i.invariant.2 c.byte_colour.result
-          (omega (arith, c.requires.0.bounded, c.loop-i-test.true, c.loop-i.invariant.1))
-          (c.byte_colour.ensures ∙ ap₂ (λ (m a : ℕ). over_colour 255 m a c.args.premultiplied (get_or c.loop-i.acc (c.args.k + c.loop-i.i) 0)) c.sample-m.ensures c.sample-a.ensures),
-    )
+loop-i-preserved c = (
+  search rules,
+  length-set c.loop-i.acc (c.args.k + c.loop-i.i) c.byte_colour.result ∙ c.loop-i.invariant.1,
+  laid_more c.args.acc.now c.args.k
+      (λ i v. over_colour 255 (sample_in c.args.plane.now 1 c.args.stride (c.args.x + i) c.args.y) (sample_in c.args.alpha.now 1 c.args.alpha_stride (c.args.x + i) c.args.y) c.args.premultiplied v)
+      c.loop-i.acc c.loop-i.i c.loop-i.invariant.2 c.byte_colour.result
+      (omega (arith, c.requires.0.bounded, c.loop-i-test.true, c.loop-i.invariant.1))
+      (c.byte_colour.ensures ∙ ap₂ (λ (m a : ℕ). over_colour 255 m a c.args.premultiplied (get_or c.loop-i.acc (c.args.k + c.loop-i.i) 0)) c.sample-m.ensures c.sample-a.ensures),
+)
 
 pub returns : goal.returns
 returns c =

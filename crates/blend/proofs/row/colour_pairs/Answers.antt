@@ -9,13 +9,12 @@ use Rattle.blend.specs.Overlay.{over_colour}
 use Rattle.blend.proofs.row.colour_pairs.Goals as goal
 
 pub loop-i-init : goal.loop-i-init
-loop-i-init c =
-    (
-      omega arith,
-      refl,
-      laid_none c.args.acc.now c.args.k
-          (λ i v. over_colour c.args.top (sample_in c.args.plane.now 2 c.args.stride (c.args.x + i) c.args.y) (sample_in c.args.alpha.now 2 c.args.alpha_stride (c.args.x + i) c.args.y) c.args.premultiplied v),
-    )
+loop-i-init c = (
+  omega arith,
+  refl,
+  laid_none c.args.acc.now c.args.k
+      (λ i v. over_colour c.args.top (sample_in c.args.plane.now 2 c.args.stride (c.args.x + i) c.args.y) (sample_in c.args.alpha.now 2 c.args.alpha_stride (c.args.x + i) c.args.y) c.args.premultiplied v),
+)
 
 pub overflow_add-x : goal.overflow_add-x
 overflow_add-x c =
@@ -46,13 +45,12 @@ bounds-acc-at c =
     omega (arith, c.requires.0.bounded, c.loop-i-test.true, c.loop-i.invariant.1)
 
 pub pair_colour-requires : goal.pair_colour-requires
-pair_colour-requires c =
-    (
-      c.requires.3,
-      laid-held c.args.acc.now c.args.k
-          (λ i v. over_colour c.args.top (sample_in c.args.plane.now 2 c.args.stride (c.args.x + i) c.args.y) (sample_in c.args.alpha.now 2 c.args.alpha_stride (c.args.x + i) c.args.y) c.args.premultiplied v)
-          c.loop-i.acc c.loop-i.i c.loop-i.invariant.2 c.args.top _ c.requires.0 c.loop-i-test.true,
-    )
+pair_colour-requires c = (
+  c.requires.3,
+  laid-held c.args.acc.now c.args.k
+      (λ i v. over_colour c.args.top (sample_in c.args.plane.now 2 c.args.stride (c.args.x + i) c.args.y) (sample_in c.args.alpha.now 2 c.args.alpha_stride (c.args.x + i) c.args.y) c.args.premultiplied v)
+      c.loop-i.acc c.loop-i.i c.loop-i.invariant.2 c.args.top _ c.requires.0 c.loop-i-test.true,
+)
 
 pub offset_bounds-acc-at-in-loop-i : goal.offset_bounds-acc-at-in-loop-i
 offset_bounds-acc-at-in-loop-i c =
@@ -63,16 +61,15 @@ bounds-acc-at-in-loop-i c =
     omega (arith, c.requires.0.bounded, c.loop-i-test.true, c.loop-i.invariant.1)
 
 pub loop-i-preserved : goal.loop-i-preserved
-loop-i-preserved c =
-    (
-      search rules,
-      length-set c.loop-i.acc (c.args.k + c.loop-i.i) c.pair_colour.result ∙ c.loop-i.invariant.1,
-      laid_more c.args.acc.now c.args.k
-          (λ i v. over_colour c.args.top (sample_in c.args.plane.now 2 c.args.stride (c.args.x + i) c.args.y) (sample_in c.args.alpha.now 2 c.args.alpha_stride (c.args.x + i) c.args.y) c.args.premultiplied v)
-          c.loop-i.acc c.loop-i.i c.loop-i.invariant.2 c.pair_colour.result
-          (omega (arith, c.requires.0.bounded, c.loop-i-test.true, c.loop-i.invariant.1))
-          (c.pair_colour.ensures ∙ ap₂ (λ (m a : ℕ). over_colour c.args.top m a c.args.premultiplied (get_or c.loop-i.acc (c.args.k + c.loop-i.i) 0)) c.sample-m.ensures c.sample-a.ensures),
-    )
+loop-i-preserved c = (
+  search rules,
+  length-set c.loop-i.acc (c.args.k + c.loop-i.i) c.pair_colour.result ∙ c.loop-i.invariant.1,
+  laid_more c.args.acc.now c.args.k
+      (λ i v. over_colour c.args.top (sample_in c.args.plane.now 2 c.args.stride (c.args.x + i) c.args.y) (sample_in c.args.alpha.now 2 c.args.alpha_stride (c.args.x + i) c.args.y) c.args.premultiplied v)
+      c.loop-i.acc c.loop-i.i c.loop-i.invariant.2 c.pair_colour.result
+      (omega (arith, c.requires.0.bounded, c.loop-i-test.true, c.loop-i.invariant.1))
+      (c.pair_colour.ensures ∙ ap₂ (λ (m a : ℕ). over_colour c.args.top m a c.args.premultiplied (get_or c.loop-i.acc (c.args.k + c.loop-i.i) 0)) c.sample-m.ensures c.sample-a.ensures),
+)
 
 pub returns : goal.returns
 returns c =

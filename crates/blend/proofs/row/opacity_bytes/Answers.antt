@@ -37,13 +37,12 @@ bounds-acc-at c =
     omega (arith, c.requires.0.bounded, c.loop-i-test.true, c.loop-i.invariant.1)
 
 pub byte_opacity-requires : goal.byte_opacity-requires
-byte_opacity-requires c =
-    (
-      rw c.sample-a.ensures (byte_low _ _ _ _ (λ i. omega (arith, c.type_inv.alpha i))),
-      laid-held c.args.acc.now c.args.k
-          (λ i v. over_alpha 255 (sample_in c.args.alpha.now 1 c.args.stride (c.args.x + i) c.args.y) v)
-          c.loop-i.acc c.loop-i.i c.loop-i.invariant.2 255 _ c.requires.0 c.loop-i-test.true,
-    )
+byte_opacity-requires c = (
+  rw c.sample-a.ensures (byte_low _ _ _ _ (λ i. omega (arith, c.type_inv.alpha i))),
+  laid-held c.args.acc.now c.args.k
+      (λ i v. over_alpha 255 (sample_in c.args.alpha.now 1 c.args.stride (c.args.x + i) c.args.y) v)
+      c.loop-i.acc c.loop-i.i c.loop-i.invariant.2 255 _ c.requires.0 c.loop-i-test.true,
+)
 
 pub offset_bounds-acc-at-in-loop-i : goal.offset_bounds-acc-at-in-loop-i
 offset_bounds-acc-at-in-loop-i c =
@@ -54,16 +53,15 @@ bounds-acc-at-in-loop-i c =
     omega (arith, c.requires.0.bounded, c.loop-i-test.true, c.loop-i.invariant.1)
 
 pub loop-i-preserved : goal.loop-i-preserved
-loop-i-preserved c =
-    (
-      search rules,
-      length-set c.loop-i.acc (c.args.k + c.loop-i.i) c.byte_opacity.result ∙ c.loop-i.invariant.1,
-      laid_more c.args.acc.now c.args.k
-          (λ i v. over_alpha 255 (sample_in c.args.alpha.now 1 c.args.stride (c.args.x + i) c.args.y) v)
-          c.loop-i.acc c.loop-i.i c.loop-i.invariant.2 c.byte_opacity.result
-          (omega (arith, c.requires.0.bounded, c.loop-i-test.true, c.loop-i.invariant.1))
-          (c.byte_opacity.ensures ∙ ap (λ (a : ℕ). over_alpha 255 a (get_or c.loop-i.acc (c.args.k + c.loop-i.i) 0)) c.sample-a.ensures),
-    )
+loop-i-preserved c = (
+  search rules,
+  length-set c.loop-i.acc (c.args.k + c.loop-i.i) c.byte_opacity.result ∙ c.loop-i.invariant.1,
+  laid_more c.args.acc.now c.args.k
+      (λ i v. over_alpha 255 (sample_in c.args.alpha.now 1 c.args.stride (c.args.x + i) c.args.y) v)
+      c.loop-i.acc c.loop-i.i c.loop-i.invariant.2 c.byte_opacity.result
+      (omega (arith, c.requires.0.bounded, c.loop-i-test.true, c.loop-i.invariant.1))
+      (c.byte_opacity.ensures ∙ ap (λ (a : ℕ). over_alpha 255 a (get_or c.loop-i.acc (c.args.k + c.loop-i.i) 0)) c.sample-a.ensures),
+)
 
 pub returns : goal.returns
 returns c =

@@ -37,13 +37,12 @@ bounds-acc-at c =
     omega (arith, c.requires.0.bounded, c.loop-i-test.true, c.loop-i.invariant.1)
 
 pub pair_opacity-requires : goal.pair_opacity-requires
-pair_opacity-requires c =
-    (
-      c.requires.2,
-      laid-held c.args.acc.now c.args.k
-          (λ i v. over_alpha c.args.top (sample_in c.args.alpha.now 2 c.args.stride (c.args.x + i) c.args.y) v)
-          c.loop-i.acc c.loop-i.i c.loop-i.invariant.2 c.args.top _ c.requires.0 c.loop-i-test.true,
-    )
+pair_opacity-requires c = (
+  c.requires.2,
+  laid-held c.args.acc.now c.args.k
+      (λ i v. over_alpha c.args.top (sample_in c.args.alpha.now 2 c.args.stride (c.args.x + i) c.args.y) v)
+      c.loop-i.acc c.loop-i.i c.loop-i.invariant.2 c.args.top _ c.requires.0 c.loop-i-test.true,
+)
 
 pub offset_bounds-acc-at-in-loop-i : goal.offset_bounds-acc-at-in-loop-i
 offset_bounds-acc-at-in-loop-i c =
@@ -54,16 +53,15 @@ bounds-acc-at-in-loop-i c =
     omega (arith, c.requires.0.bounded, c.loop-i-test.true, c.loop-i.invariant.1)
 
 pub loop-i-preserved : goal.loop-i-preserved
-loop-i-preserved c =
-    (
-      search rules,
-      length-set c.loop-i.acc (c.args.k + c.loop-i.i) c.pair_opacity.result ∙ c.loop-i.invariant.1,
-      laid_more c.args.acc.now c.args.k
-          (λ i v. over_alpha c.args.top (sample_in c.args.alpha.now 2 c.args.stride (c.args.x + i) c.args.y) v)
-          c.loop-i.acc c.loop-i.i c.loop-i.invariant.2 c.pair_opacity.result
-          (omega (arith, c.requires.0.bounded, c.loop-i-test.true, c.loop-i.invariant.1))
-          (c.pair_opacity.ensures ∙ ap (λ (a : ℕ). over_alpha c.args.top a (get_or c.loop-i.acc (c.args.k + c.loop-i.i) 0)) c.sample-a.ensures),
-    )
+loop-i-preserved c = (
+  search rules,
+  length-set c.loop-i.acc (c.args.k + c.loop-i.i) c.pair_opacity.result ∙ c.loop-i.invariant.1,
+  laid_more c.args.acc.now c.args.k
+      (λ i v. over_alpha c.args.top (sample_in c.args.alpha.now 2 c.args.stride (c.args.x + i) c.args.y) v)
+      c.loop-i.acc c.loop-i.i c.loop-i.invariant.2 c.pair_opacity.result
+      (omega (arith, c.requires.0.bounded, c.loop-i-test.true, c.loop-i.invariant.1))
+      (c.pair_opacity.ensures ∙ ap (λ (a : ℕ). over_alpha c.args.top a (get_or c.loop-i.acc (c.args.k + c.loop-i.i) 0)) c.sample-a.ensures),
+)
 
 pub returns : goal.returns
 returns c =

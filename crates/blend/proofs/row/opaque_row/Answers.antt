@@ -45,15 +45,14 @@ bounds-acc-k c =
     omega (arith, c.requires.0, c.loop-i-test.true, c.loop-i.invariant.1)
 
 pub loop-i-preserved : goal.loop-i-preserved
-loop-i-preserved c =
-    (
-      search rules,
-      length-set c.loop-i.acc (c.args.k + c.loop-i.i) c.least.result ∙ c.loop-i.invariant.1,
-      laid_more c.args.acc.now c.args.k
-          (λ i v. min (sample_in c.args.plane.now c.args.bytes c.args.stride (c.args.x + i) c.args.y * c.args.top) (c.args.top * c.args.top))
-          c.loop-i.acc c.loop-i.i c.loop-i.invariant.2 c.least.result (omega (arith, c.requires.0, c.loop-i-test.true, c.loop-i.invariant.1))
-          (c.least.ensures ∙ ap (λ (m : ℕ). min (m * c.args.top) (c.args.top * c.args.top)) c.sample-m.ensures),
-    )
+loop-i-preserved c = (
+  search rules,
+  length-set c.loop-i.acc (c.args.k + c.loop-i.i) c.least.result ∙ c.loop-i.invariant.1,
+  laid_more c.args.acc.now c.args.k
+      (λ i v. min (sample_in c.args.plane.now c.args.bytes c.args.stride (c.args.x + i) c.args.y * c.args.top) (c.args.top * c.args.top))
+      c.loop-i.acc c.loop-i.i c.loop-i.invariant.2 c.least.result (omega (arith, c.requires.0, c.loop-i-test.true, c.loop-i.invariant.1))
+      (c.least.ensures ∙ ap (λ (m : ℕ). min (m * c.args.top) (c.args.top * c.args.top)) c.sample-m.ensures),
+)
 
 pub returns : goal.returns
 returns c =

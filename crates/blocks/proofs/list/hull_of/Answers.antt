@@ -7,17 +7,16 @@ use Rattle.blocks.proofs.list.hull_of.Goals as goal
 use Rattle.blocks.proofs.list.hull_of.Goals.{After-reach-down}
 
 ends : (c : After-reach-down) → (c.reach-down.result.from ≤ 2 ^ 32) × (c.reach-down.result.to ≤ 2 ^ 33) × (c.reach-across.result.from ≤ 2 ^ 32) × (c.reach-across.result.to ≤ 2 ^ 33)
-ends c =
-    (
-      (stretch-small c.args.place.vertical c.args.form.height _ c.reach-down.ensures (omega (arith, c.well_formed))
-          (omega (arith, c.well_formed))).0,
-      (stretch-small c.args.place.vertical c.args.form.height _ c.reach-down.ensures (omega (arith, c.well_formed))
-          (omega (arith, c.well_formed))).1,
-      (stretch-small c.args.place.horizontal c.args.form.width _ c.reach-across.ensures (omega (arith, c.well_formed))
-          (omega (arith, c.well_formed))).0,
-      (stretch-small c.args.place.horizontal c.args.form.width _ c.reach-across.ensures (omega (arith, c.well_formed))
-          (omega (arith, c.well_formed))).1,
-    )
+ends c = (
+  (stretch-small c.args.place.vertical c.args.form.height _ c.reach-down.ensures (omega (arith, c.well_formed))
+      (omega (arith, c.well_formed))).0,
+  (stretch-small c.args.place.vertical c.args.form.height _ c.reach-down.ensures (omega (arith, c.well_formed))
+      (omega (arith, c.well_formed))).1,
+  (stretch-small c.args.place.horizontal c.args.form.width _ c.reach-across.ensures (omega (arith, c.well_formed))
+      (omega (arith, c.well_formed))).0,
+  (stretch-small c.args.place.horizontal c.args.form.width _ c.reach-across.ensures (omega (arith, c.well_formed))
+      (omega (arith, c.well_formed))).1,
+)
 
 pub returns : goal.returns
 returns c =

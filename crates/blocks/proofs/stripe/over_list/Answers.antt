@@ -25,15 +25,14 @@ overflow_add-k c =
     omega (arith, c.loop-k-test.true, c.requires.6.room)
 
 pub loop-k-preserved : goal.loop-k-preserved
-loop-k-preserved c =
-    (
-      omega (arith, c.loop-k-test.true),
-      c.over_entry.auto.acc ∙ c.loop-k.invariant.1,
-      λ j h. rw (c.over_entry.ensures j h) (entry-held _ _ _ _ _ _ _ _ _ _ _ (c.loop-k.invariant.2 j h) c.requires.2),
-      λ j h. c.over_entry.ensures j h
-          ∙ ap (over_entry _ _ _ _ _ _ _ _ _ _) (c.loop-k.invariant.3 j h)
-          ∙ sym (entries_next _ _ _ _ _ _ _ _ _ _ _),
-    )
+loop-k-preserved c = (
+  omega (arith, c.loop-k-test.true),
+  c.over_entry.auto.acc ∙ c.loop-k.invariant.1,
+  λ j h. rw (c.over_entry.ensures j h) (entry-held _ _ _ _ _ _ _ _ _ _ _ (c.loop-k.invariant.2 j h) c.requires.2),
+  λ j h. c.over_entry.ensures j h
+      ∙ ap (over_entry _ _ _ _ _ _ _ _ _ _) (c.loop-k.invariant.3 j h)
+      ∙ sym (entries_next _ _ _ _ _ _ _ _ _ _ _),
+)
 
 pub returns : goal.returns
 returns c =

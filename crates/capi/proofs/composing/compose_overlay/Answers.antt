@@ -7,17 +7,16 @@ use Rattle.words.specs.Code.{answer_code}
 use Rattle.capi.proofs.composing.compose_overlay.Goals as goal
 
 pub returns : goal.returns
-returns c =
-    (
-      c.answer_code.ensures
-          ∙ ap answer_code
-          (c.composite_overlay.ensures.0
-          ∙ ap (λ (k : Colour). answer_of
-          (overlay_run c.args.body.now c.args.tray.now c.args.premultiplied.now k (length c.args.out.now)))
-          c.colour_of.ensures),
-      c.composite_overlay.ensures.1
-          ∙ ap (λ (k : Colour). written
-          (overlay_run c.args.body.now c.args.tray.now c.args.premultiplied.now k (length c.args.out.now))
-          c.args.out.now)
-          c.colour_of.ensures,
-    )
+returns c = (
+  c.answer_code.ensures
+      ∙ ap answer_code
+      (c.composite_overlay.ensures.0
+      ∙ ap (λ (k : Colour). answer_of
+      (overlay_run c.args.body.now c.args.tray.now c.args.premultiplied.now k (length c.args.out.now)))
+      c.colour_of.ensures),
+  c.composite_overlay.ensures.1
+      ∙ ap (λ (k : Colour). written
+      (overlay_run c.args.body.now c.args.tray.now c.args.premultiplied.now k (length c.args.out.now))
+      c.args.out.now)
+      c.colour_of.ensures,
+)

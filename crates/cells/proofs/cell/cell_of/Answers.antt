@@ -17,21 +17,21 @@ use Rattle.cells.proofs.cell.cell_of.Goals.{After-plane-plane, Else-down-eq0, St
 
 -- the numbers that were worked out
 module _ (c : Else-down-eq0) where
-  wide :     c.columns-wide.result ≡ columns_of c.args.tile c.args.part
+  wide : c.columns-wide.result ≡ columns_of c.args.tile c.args.part
   unfolding columns_of
   wide = c.columns-wide.ensures
 
-  high :     c.rows-high.result ≡ rows_of c.args.tile c.args.part
+  high : c.rows-high.result ≡ rows_of c.args.tile c.args.part
   unfolding rows_of
   high = c.rows-high.ensures
 
-  across :     c.visible-across.result
+  across : c.visible-across.result
       ≡ visible_of (columns_of c.args.to.form c.args.part) (columns_of c.args.tile c.args.part) c.args.column
   unfolding columns_of
   across =
       c.visible-across.ensures ∙ ap₂ (λ (a b : ℕ). visible_of a b c.args.column) c.columns.ensures c.columns-wide.ensures
 
-  down :     c.visible-down.result
+  down : c.visible-down.result
       ≡ visible_of (rows_of c.args.to.form c.args.part) (rows_of c.args.tile c.args.part) c.args.row
   unfolding rows_of
   down =

@@ -50,13 +50,13 @@ frames start = taken_of (frames_at (start.args.t.desc.rows * start.args.t.desc.c
 
 -- the record that was read
 module _ (c : In-Read) where
-  step :     (rest : List Frame)
+  step : (rest : List Frame)
       × (frames_at (c.args.t.desc.rows * c.args.t.desc.columns - c.loop-i.i - 1) c.args.tray.now c.in-Read.f.end
       ≡ done rest)
       × (drop c.loop-i.i (frames (goal.at.In-Read c).Start) ≡ c.in-Read.f ∷ rest)
   step = first_read _ _ _ _ _ (some (goal.at.In-Read c).In-loop-i) c.loop-i.invariant.1 (sym c.read_record.ensures ∙ ap frame_out c.in-Read.is)
 
-  frame_here :     (get_or (frames (goal.at.In-Read c).Start) c.loop-i.i no_frame ≡ c.in-Read.f) × (drop (c.loop-i.i + 1) (frames (goal.at.In-Read c).Start) ≡ step.0)
+  frame_here : (get_or (frames (goal.at.In-Read c).Start) c.loop-i.i no_frame ≡ c.in-Read.f) × (drop (c.loop-i.i + 1) (frames (goal.at.In-Read c).Start) ≡ step.0)
   frame_here =
       drop_head (frames (goal.at.In-Read c).Start) c.loop-i.i _ _ step.2
 

@@ -32,31 +32,29 @@ outline_plane-d-requires c =
 
 pub paint_plane-requires : goal.paint_plane-requires
 unfolding size_of
-paint_plane-requires c =
-    (
-      c.requires.0,
-      omega (
-        arith,
-        c.requires.1,
-        c.write_head-a.ensures.0,
-        ap length c.write_head-a.ensures.1 ∙ length-puts _ _ _,
-        c.outline_plane-b.ensures.0,
-        ap length c.outline_plane-b.ensures.1.1 ∙ length-puts _ _ _,
-        c.outline_plane-c.ensures.0,
-        ap length c.outline_plane-c.ensures.1.1 ∙ length-puts _ _ _,
-        c.outline_plane-d.ensures.0,
-        ap length c.outline_plane-d.ensures.1.1 ∙ length-puts _ _ _,
-      ),
-    )
+paint_plane-requires c = (
+  c.requires.0,
+  omega (
+    arith,
+    c.requires.1,
+    c.write_head-a.ensures.0,
+    ap length c.write_head-a.ensures.1 ∙ length-puts _ _ _,
+    c.outline_plane-b.ensures.0,
+    ap length c.outline_plane-b.ensures.1.1 ∙ length-puts _ _ _,
+    c.outline_plane-c.ensures.0,
+    ap length c.outline_plane-c.ensures.1.1 ∙ length-puts _ _ _,
+    c.outline_plane-d.ensures.0,
+    ap length c.outline_plane-d.ensures.1.1 ∙ length-puts _ _ _,
+  ),
+)
 
 pub returns : goal.returns
-returns c =
-    (
-      colours_of c.outline_plane-b.ensures.1.0 c.outline_plane-c.ensures.1.0 c.outline_plane-d.ensures.1.0,
-      under-written c.args.canvas _ _ _ _ _ _ _ _ _ _ _ _ _ _ c.requires.1 c.write_head-a.ensures.0 c.write_head-a.ensures.1
-          c.outline_plane-b.ensures.0 c.outline_plane-b.ensures.1.1 c.outline_plane-c.ensures.0 c.outline_plane-c.ensures.1.1
-          c.outline_plane-d.ensures.0 c.outline_plane-d.ensures.1.1 c.paint_plane.ensures.0
-          (c.paint_plane.ensures.1
-          ∙ ap (λ (v : ℕ). puts c.outline_plane-d.new.out c.outline_plane-d.result (plane_bytes (even_pic c.args.canvas v) Alpha))
-          c.top.ensures),
-    )
+returns c = (
+  colours_of c.outline_plane-b.ensures.1.0 c.outline_plane-c.ensures.1.0 c.outline_plane-d.ensures.1.0,
+  under-written c.args.canvas _ _ _ _ _ _ _ _ _ _ _ _ _ _ c.requires.1 c.write_head-a.ensures.0 c.write_head-a.ensures.1
+      c.outline_plane-b.ensures.0 c.outline_plane-b.ensures.1.1 c.outline_plane-c.ensures.0 c.outline_plane-c.ensures.1.1
+      c.outline_plane-d.ensures.0 c.outline_plane-d.ensures.1.1 c.paint_plane.ensures.0
+      (c.paint_plane.ensures.1
+      ∙ ap (λ (v : ℕ). puts c.outline_plane-d.new.out c.outline_plane-d.result (plane_bytes (even_pic c.args.canvas v) Alpha))
+      c.top.ensures),
+)

@@ -55,17 +55,16 @@ cleared c y g x h =
     (λ k. c.loop-y.invariant.2 y (omega (arith, k, c.searched_rows-rows.ensures, c.loop-y-test.false)) x h)
 
 pub search-preserved : goal.search-preserved
-search-preserved c =
-    (
-      search rules,
-      c.loop-y.invariant.1,
-      c.search.invariant.2
-          ∙ seen-clear c.args.tray.now c.search.at c.args.top c.alpha_at-q.result _ c.alpha_at-q.ensures
-          c.plane_data-plane.ensures _ _ _ (omega (arith, c.search-test.true)) (cleared c)
-          ∙ ap (λ (k : ℕ). found_at (c.search.i + 1) (alpha_above c.args.tray.now c.args.top)
-          (frames_from k c.args.tray.now c.alpha_at-q.result.end) c.args.count)
-          (less_one _ _),
-    )
+search-preserved c = (
+  search rules,
+  c.loop-y.invariant.1,
+  c.search.invariant.2
+      ∙ seen-clear c.args.tray.now c.search.at c.args.top c.alpha_at-q.result _ c.alpha_at-q.ensures
+      c.plane_data-plane.ensures _ _ _ (omega (arith, c.search-test.true)) (cleared c)
+      ∙ ap (λ (k : ℕ). found_at (c.search.i + 1) (alpha_above c.args.tray.now c.args.top)
+      (frames_from k c.args.tray.now c.alpha_at-q.result.end) c.args.count)
+      (less_one _ _),
+)
 
 pub returns-after-search : goal.returns-after-search
 returns-after-search c = c.search.invariant.1 ∙ sym (c.search.invariant.2 ∙ some-none _ _ _ _ _ _ (omega (arith, c.search-test.false)))

@@ -30,12 +30,11 @@ overflow_add-i c =
     omega (arith, c.loop-i-test.true, c.requires.0.count)
 
 pub loop-i-preserved : goal.loop-i-preserved
-loop-i-preserved c =
-    (
-      omega (arith, c.loop-i-test.true),
-      seen_more _ _ _ _ _ _ _ _ _ _ _ c.loop-i-test.true (sym c.read_record.ensures ∙ ap frame_out c.in-Read.is)
-          c.summarise-so_far.ensures c.offset.ensures c.loop-i.invariant.1,
-    )
+loop-i-preserved c = (
+  omega (arith, c.loop-i-test.true),
+  seen_more _ _ _ _ _ _ _ _ _ _ _ c.loop-i-test.true (sym c.read_record.ensures ∙ ap frame_out c.in-Read.is)
+      c.summarise-so_far.ensures c.offset.ensures c.loop-i.invariant.1,
+)
 
 pub returns-then-at-tray : goal.returns-then-at-tray
 returns-then-at-tray c =

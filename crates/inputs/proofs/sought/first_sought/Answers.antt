@@ -19,13 +19,12 @@ returns-then-is_sought c =
     sym (c.loop-i.invariant.1 ∙ sought-here _ _ _ _ _ _ c.loop-i-test.true (sym c.read_record.ensures ∙ ap frame_out c.in-Read.is) (sym c.is_sought.ensures ∙ c.if-is_sought.true))
 
 pub loop-i-preserved : goal.loop-i-preserved
-loop-i-preserved c =
-    (
-      omega (arith, c.loop-i-test.true),
-      c.loop-i.invariant.1
-          ∙ sought-next _ _ _ _ _ _ c.loop-i-test.true (sym c.read_record.ensures ∙ ap frame_out c.in-Read.is)
-          (sym c.is_sought.ensures ∙ c.if-is_sought.false),
-    )
+loop-i-preserved c = (
+  omega (arith, c.loop-i-test.true),
+  c.loop-i.invariant.1
+      ∙ sought-next _ _ _ _ _ _ c.loop-i-test.true (sym c.read_record.ensures ∙ ap frame_out c.in-Read.is)
+      (sym c.is_sought.ensures ∙ c.if-is_sought.false),
+)
 
 pub returns : goal.returns
 returns c = sym (c.loop-i.invariant.1 ∙ some-none _ _ _ _ _ _ (omega (arith, c.loop-i-test.false)))

@@ -44,18 +44,17 @@ bounds-sums-j-in-loop-j c =
     omega (arith, c.requires.room, c.loop-j-test.true, c.loop-j.invariant.1)
 
 pub loop-j-preserved : goal.loop-j-preserved
-loop-j-preserved c =
-    (
-      search rules,
-      length-set c.loop-j.sums c.loop-j.j _ ∙ c.loop-j.invariant.1,
-      stored_next c.loop-j.sums c.loop-j.j _
-          (λ i. get_or c.args.sums.now i 0
-          + sample_in c.args.plane.now c.args.r.bytes c.args.r.stride (c.args.first + i) c.args.y
-          * c.args.w)
-          (omega (arith, c.requires.room, c.loop-j-test.true, c.loop-j.invariant.1)) c.loop-j.invariant.2
-          (ap₂ (λ (a b : ℕ). a + b * c.args.w) (c.loop-j.invariant.3 c.loop-j.j (omega arith)) c.sample-v.ensures),
-      kept-beyond c.args.sums.now c.loop-j.sums c.loop-j.j _ c.loop-j.invariant.3,
-    )
+loop-j-preserved c = (
+  search rules,
+  length-set c.loop-j.sums c.loop-j.j _ ∙ c.loop-j.invariant.1,
+  stored_next c.loop-j.sums c.loop-j.j _
+      (λ i. get_or c.args.sums.now i 0
+      + sample_in c.args.plane.now c.args.r.bytes c.args.r.stride (c.args.first + i) c.args.y
+      * c.args.w)
+      (omega (arith, c.requires.room, c.loop-j-test.true, c.loop-j.invariant.1)) c.loop-j.invariant.2
+      (ap₂ (λ (a b : ℕ). a + b * c.args.w) (c.loop-j.invariant.3 c.loop-j.j (omega arith)) c.sample-v.ensures),
+  kept-beyond c.args.sums.now c.loop-j.sums c.loop-j.j _ c.loop-j.invariant.3,
+)
 
 pub returns : goal.returns
 returns c = λ j h. c.loop-j.invariant.2 j (omega (arith, h, c.loop-j-test.false))

@@ -60,21 +60,20 @@ add_row-requires c =
     }
 
 pub loop-y-preserved : goal.loop-y-preserved
-loop-y-preserved c =
-    (
-      c.loop-y.invariant.0,
-      c.add_row.auto.sums ∙ c.loop-y.invariant.1,
-      omega (arith, c.loop-y.invariant.2),
-      omega (arith, left (goal.at.loop-y-preserved c).In-loop-y),
-      λ j h. weighing-step c.args.down
-          (λ v. sample_in c.args.plane.now c.args.r.bytes c.args.r.stride (c.args.first + j) v) 65535
-          (tall (goal.at.loop-y-preserved c).Start).positive c.loop-y.y (get_or c.loop-y.sums j 0) (c.loop-y.invariant.4 j h) (left (goal.at.loop-y-preserved c).In-loop-y)
-          (few (goal.at.loop-y-preserved c).After-shared_slice_known-1 (c.args.first + j) c.loop-y.y) _
-          (c.add_row.ensures j h
-          ∙ ap (λ (w : ℕ). get_or c.loop-y.sums j 0
-          + sample_in c.args.plane.now c.args.r.bytes c.args.r.stride (c.args.first + j) c.loop-y.y * w)
-          c.weight-w.ensures.0),
-    )
+loop-y-preserved c = (
+  c.loop-y.invariant.0,
+  c.add_row.auto.sums ∙ c.loop-y.invariant.1,
+  omega (arith, c.loop-y.invariant.2),
+  omega (arith, left (goal.at.loop-y-preserved c).In-loop-y),
+  λ j h. weighing-step c.args.down
+      (λ v. sample_in c.args.plane.now c.args.r.bytes c.args.r.stride (c.args.first + j) v) 65535
+      (tall (goal.at.loop-y-preserved c).Start).positive c.loop-y.y (get_or c.loop-y.sums j 0) (c.loop-y.invariant.4 j h) (left (goal.at.loop-y-preserved c).In-loop-y)
+      (few (goal.at.loop-y-preserved c).After-shared_slice_known-1 (c.args.first + j) c.loop-y.y) _
+      (c.add_row.ensures j h
+      ∙ ap (λ (w : ℕ). get_or c.loop-y.sums j 0
+      + sample_in c.args.plane.now c.args.r.bytes c.args.r.stride (c.args.first + j) c.loop-y.y * w)
+      c.weight-w.ensures.0),
+)
 
 pub returns : goal.returns
 unfolding column_of

@@ -34,11 +34,10 @@ overflow_add-result c =
     omega (arith, (few (goal.at.overflow_add-result c).After-min-many).0, c.requires.1.positive, c.requires.1.inside, c.requires.0.raster.across.old)
 
 pub returns : goal.returns
-returns c =
-    (
-      held-from _ _ c.args.r c.args.down (c.args.f.start / 256) c.min-many.result
-          (omega (arith, (few (goal.at.returns c).After-min-many).1, c.requires.3, c.clear.auto.sums, c.add_rows.auto.sums))
-          c.add_rows.ensures,
-      omega (arith, c.requires.1.positive, c.requires.1.inside, c.requires.0.raster.across.old),
-      omega (arith, (few (goal.at.returns c).After-min-many).0, c.requires.1.positive, c.requires.1.inside, c.requires.0.raster.across.old),
-    )
+returns c = (
+  held-from _ _ c.args.r c.args.down (c.args.f.start / 256) c.min-many.result
+      (omega (arith, (few (goal.at.returns c).After-min-many).1, c.requires.3, c.clear.auto.sums, c.add_rows.auto.sums))
+      c.add_rows.ensures,
+  omega (arith, c.requires.1.positive, c.requires.1.inside, c.requires.0.raster.across.old),
+  omega (arith, (few (goal.at.returns c).After-min-many).0, c.requires.1.positive, c.requires.1.inside, c.requires.0.raster.across.old),
+)

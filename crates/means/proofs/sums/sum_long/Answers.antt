@@ -106,15 +106,14 @@ overflow_add-sum c =
     )
 
 pub loop-j-preserved : goal.loop-j-preserved
-loop-j-preserved c =
-    (
-      omega (arith, c.loop-j.invariant.0),
-      omega (arith, c.loop-j-test.true),
-      weighing-step c.args.f (λ x. get_or c.args.sums.now (x - c.args.first) 0) (2 ^ 32 - 1) c.requires.0 c.loop-j.j
-          c.loop-j.sum c.loop-j.invariant.2 (inner-past c.args.f c.loop-j.j c.loop-j-test.true) (few (goal.at.loop-j-preserved c).After-shared_slice_known-1 c.loop-j.j) _
-          (ap (λ (w : ℕ). c.loop-j.sum + get_or c.args.sums.now (c.loop-j.j - c.args.first) 0 * w)
-          (sym (inner-whole c.args.f c.loop-j.j c.loop-j.invariant.0 c.loop-j-test.true))),
-    )
+loop-j-preserved c = (
+  omega (arith, c.loop-j.invariant.0),
+  omega (arith, c.loop-j-test.true),
+  weighing-step c.args.f (λ x. get_or c.args.sums.now (x - c.args.first) 0) (2 ^ 32 - 1) c.requires.0 c.loop-j.j
+      c.loop-j.sum c.loop-j.invariant.2 (inner-past c.args.f c.loop-j.j c.loop-j-test.true) (few (goal.at.loop-j-preserved c).After-shared_slice_known-1 c.loop-j.j) _
+      (ap (λ (w : ℕ). c.loop-j.sum + get_or c.args.sums.now (c.loop-j.j - c.args.first) 0 * w)
+      (sym (inner-whole c.args.f c.loop-j.j c.loop-j.invariant.0 c.loop-j-test.true))),
+)
 
 pub overflow_mul-tail : goal.overflow_mul-tail
 overflow_mul-tail c =

@@ -79,22 +79,21 @@ stand_at-s-requires c =
 
 pub loop-x-init : goal.loop-x-init
 unfolding raster_row samples_of
-loop-x-init c =
-    (
-      refl,
-      ap (λ (p : Pace). p.by) c.axis_pace-p.ensures,
-      c.stand_at-step.ensures ∙ ap (λ (p : Pace). stand_of p.step p.by) c.axis_pace-p.ensures,
-      refl,
-      c.stand_at-s.ensures
-          ∙ ap (λ (p : Pace). stand_of p.first p.by) c.axis_pace-p.ensures
-          ∙ place-first (pace_of c.args.r.across),
-      held_none _ _ c.args.r c.args.down,
-      omega arith,
-      omega arith,
-      writing_start _ _ _
-          (rw (length-raster_row c.args.plane.now c.args.r (RowRule.Area c.args.down) c.requires.0.raster)
-          c.requires.2),
-    )
+loop-x-init c = (
+  refl,
+  ap (λ (p : Pace). p.by) c.axis_pace-p.ensures,
+  c.stand_at-step.ensures ∙ ap (λ (p : Pace). stand_of p.step p.by) c.axis_pace-p.ensures,
+  refl,
+  c.stand_at-s.ensures
+      ∙ ap (λ (p : Pace). stand_of p.first p.by) c.axis_pace-p.ensures
+      ∙ place-first (pace_of c.args.r.across),
+  held_none _ _ c.args.r c.args.down,
+  omega arith,
+  omega arith,
+  writing_start _ _ _
+      (rw (length-raster_row c.args.plane.now c.args.r (RowRule.Area c.args.down) c.requires.0.raster)
+      c.requires.2),
+)
 
 pub advance-t-requires : goal.advance-t-requires
 advance-t-requires c =
@@ -122,21 +121,20 @@ overflow_add-x c =
 
 pub loop-x-preserved : goal.loop-x-preserved
 unfolding item
-loop-x-preserved c =
-    (
-      c.loop-x.invariant.0,
-      c.loop-x.invariant.1,
-      c.loop-x.invariant.2,
-      c.hold-held.auto.sums ∙ c.loop-x.invariant.3,
-      next (goal.at.loop-x-preserved c).After-advance-t,
-      c.hold-held.ensures.0,
-      c.hold-held.ensures.1,
-      c.hold-held.ensures.2,
-      writing-run (item (goal.at.loop-x-preserved c).In-loop-x c.loop-x.x) (going (goal.at.loop-x-preserved c).In-loop-x)
-          (c.put_sample-i.ensures.0 ∙ ap (λ (k : ℕ). c.loop-x.i + k) (sym (long (goal.at.loop-x-preserved c).In-loop-x)))
-          (c.put_sample-i.ensures.1
-          ∙ ap (λ (v : ℕ). puts c.loop-x.out c.loop-x.i (sample_bytes c.args.r.to_bytes v)) (value (goal.at.loop-x-preserved c).After-held_mean)),
-    )
+loop-x-preserved c = (
+  c.loop-x.invariant.0,
+  c.loop-x.invariant.1,
+  c.loop-x.invariant.2,
+  c.hold-held.auto.sums ∙ c.loop-x.invariant.3,
+  next (goal.at.loop-x-preserved c).After-advance-t,
+  c.hold-held.ensures.0,
+  c.hold-held.ensures.1,
+  c.hold-held.ensures.2,
+  writing-run (item (goal.at.loop-x-preserved c).In-loop-x c.loop-x.x) (going (goal.at.loop-x-preserved c).In-loop-x)
+      (c.put_sample-i.ensures.0 ∙ ap (λ (k : ℕ). c.loop-x.i + k) (sym (long (goal.at.loop-x-preserved c).In-loop-x)))
+      (c.put_sample-i.ensures.1
+      ∙ ap (λ (v : ℕ). puts c.loop-x.out c.loop-x.i (sample_bytes c.args.r.to_bytes v)) (value (goal.at.loop-x-preserved c).After-held_mean)),
+)
 
 pub returns : goal.returns
 returns c =

@@ -58,14 +58,13 @@ reverse_row-i-requires c =
 
 pub loop-y-preserved : goal.loop-y-preserved
 unfolding mirror_row
-loop-y-preserved c =
-    (
-      omega arith,
-      omega (arith, c.reverse_row-i.ensures.0, c.loop-y.invariant.1),
-      writing-run (item (goal.at.loop-y-preserved c).In-loop-y c.loop-y.y) (writing-as c.loop-y.invariant.2 (step (goal.at.loop-y-preserved c).In-loop-y))
-          (c.reverse_row-i.ensures.0 ∙ ap (λ (k : ℕ). c.loop-y.i + k) (sym (long (goal.at.loop-y-preserved c).In-loop-y)))
-          (c.reverse_row-i.ensures.1 ∙ ap (λ (j : ℕ). puts c.loop-y.out c.loop-y.i (stepped c.args.plane.now c.args.bytes (j * c.args.stride + c.args.w.across.from * c.args.bytes) 0 c.args.bytes c.args.columns)) c.reach.ensures),
-    )
+loop-y-preserved c = (
+  omega arith,
+  omega (arith, c.reverse_row-i.ensures.0, c.loop-y.invariant.1),
+  writing-run (item (goal.at.loop-y-preserved c).In-loop-y c.loop-y.y) (writing-as c.loop-y.invariant.2 (step (goal.at.loop-y-preserved c).In-loop-y))
+      (c.reverse_row-i.ensures.0 ∙ ap (λ (k : ℕ). c.loop-y.i + k) (sym (long (goal.at.loop-y-preserved c).In-loop-y)))
+      (c.reverse_row-i.ensures.1 ∙ ap (λ (j : ℕ). puts c.loop-y.out c.loop-y.i (stepped c.args.plane.now c.args.bytes (j * c.args.stride + c.args.w.across.from * c.args.bytes) 0 c.args.bytes c.args.columns)) c.reach.ensures),
+)
 
 pub returns : goal.returns
 returns c =

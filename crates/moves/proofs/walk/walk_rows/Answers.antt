@@ -35,15 +35,14 @@ module _ (c : In-loop-y) where
 
 pub loop-y-init : goal.loop-y-init
 unfolding walk_bytes
-loop-y-init c =
-    (
-      omega arith,
-      omega arith,
-      writing_start _ _ _
-          (rw (length-walk_bytes c.args.plane.now c.args.bytes c.args.stride c.args.w c.args.columns
-          c.args.rows c.requires.0.positive c.requires.0.bounded)
-          c.requires.1),
-    )
+loop-y-init c = (
+  omega arith,
+  omega arith,
+  writing_start _ _ _
+      (rw (length-walk_bytes c.args.plane.now c.args.bytes c.args.stride c.args.w c.args.columns
+      c.args.rows c.requires.0.positive c.requires.0.bounded)
+      c.requires.1),
+)
 
 pub row_line-l-requires : goal.row_line-l-requires
 row_line-l-requires c = row_fits _ _ _ _ _ _ c.requires.0 c.loop-y.y c.loop-y-test.true
@@ -52,17 +51,16 @@ pub write_line-i-requires : goal.write_line-i-requires
 write_line-i-requires c = (rw c.row_line-l.ensures (line-fits _ _ _ _ _ _ c.requires.0 c.loop-y.y c.loop-y-test.true), room (goal.at.write_line-i-requires c).In-loop-y)
 
 pub loop-y-preserved : goal.loop-y-preserved
-loop-y-preserved c =
-    (
-      omega arith,
-      omega (arith, c.write_line-i.ensures.0, c.loop-y.invariant.1),
-      writing-run (item (goal.at.loop-y-preserved c).In-loop-y c.loop-y.y) (writing-as c.loop-y.invariant.2 (step (goal.at.loop-y-preserved c).In-loop-y))
-          (c.write_line-i.ensures.0 ∙ ap (λ (k : ℕ). c.loop-y.i + k) (sym (long (goal.at.loop-y-preserved c).In-loop-y)))
-          (c.write_line-i.ensures.1
-          ∙ ap (puts c.loop-y.out c.loop-y.i)
-          (ap (λ (l : Line). line_bytes c.args.plane.now c.args.bytes l c.args.columns) c.row_line-l.ensures
-          ∙ row-bytes _ _ _ _ _ _)),
-    )
+loop-y-preserved c = (
+  omega arith,
+  omega (arith, c.write_line-i.ensures.0, c.loop-y.invariant.1),
+  writing-run (item (goal.at.loop-y-preserved c).In-loop-y c.loop-y.y) (writing-as c.loop-y.invariant.2 (step (goal.at.loop-y-preserved c).In-loop-y))
+      (c.write_line-i.ensures.0 ∙ ap (λ (k : ℕ). c.loop-y.i + k) (sym (long (goal.at.loop-y-preserved c).In-loop-y)))
+      (c.write_line-i.ensures.1
+      ∙ ap (puts c.loop-y.out c.loop-y.i)
+      (ap (λ (l : Line). line_bytes c.args.plane.now c.args.bytes l c.args.columns) c.row_line-l.ensures
+      ∙ row-bytes _ _ _ _ _ _)),
+)
 
 pub returns : goal.returns
 returns c =

@@ -40,18 +40,18 @@ module _ (c : Then-has) where
   there : has_part f c.args.part ≡ true
   there = sym (c.requires.1.parts c.args.part) ∙ sym c.has.ensures ∙ c.if-has.true
 
-  start :     Writing c.args.out.now c.args.at (plane_bytes (moved c.args.v P) c.args.part) c.args.out.now
+  start : Writing c.args.out.now c.args.at (plane_bytes (moved c.args.v P) c.args.part) c.args.out.now
       c.args.at (head ++ rest)
   start =
       writing-begin _ _ _ _ (plane-drawn c.args.s.now c.args.fr c.args.v c.args.part there c.requires.1)
       c.requires.2
 
-  inside :     WalkInside (data_of c.args.s.now q) (bytes_of f) q.stride (walk_of f c.args.v c.args.part)
+  inside : WalkInside (data_of c.args.s.now q) (bytes_of f) q.stride (walk_of f c.args.v c.args.part)
       (columns_of c.args.v.form c.args.part) (rows_of c.args.v.form c.args.part)
   inside =
       walk_inside c.args.s.now c.args.fr c.args.v c.args.part there c.requires.0 c.requires.1
 
-  size :     length rest ≡ rows_of c.args.v.form c.args.part * (columns_of c.args.v.form c.args.part * bytes_of f)
+  size : length rest ≡ rows_of c.args.v.form c.args.part * (columns_of c.args.v.form c.args.part * bytes_of f)
   size = length-walk_bytes _ _ _ _ _ _ inside.positive inside.bounded
 
 first : (c : After-write_plane_head-first)
@@ -61,7 +61,7 @@ first c = writing-run (head (goal.at.After-write_plane_head-first c).Then-has) (
 
 -- the numbers that were worked out
 module _ (c : After-bytes_per_sample) where
-  worked :     Worked (data_of c.args.s.now (q (goal.at.After-bytes_per_sample c).Then-has)) c.plane_data-plane.result.now (bytes_of (f (goal.at.After-bytes_per_sample c).Then-has)) c.bytes_per_sample.result
+  worked : Worked (data_of c.args.s.now (q (goal.at.After-bytes_per_sample c).Then-has)) c.plane_data-plane.result.now (bytes_of (f (goal.at.After-bytes_per_sample c).Then-has)) c.bytes_per_sample.result
       (q (goal.at.After-bytes_per_sample c).Then-has).stride c.plane-q.result.stride (walk_of (f (goal.at.After-bytes_per_sample c).Then-has) c.args.v c.args.part) c.plane_walk-w.result
       (columns_of c.args.v.form c.args.part) c.columns-columns.result (rows_of c.args.v.form c.args.part)
       c.rows-rows.result

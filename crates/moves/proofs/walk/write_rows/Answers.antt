@@ -29,8 +29,7 @@ turn_rows-requires c =
 
 pub returns-then-w : goal.returns-then-w
 returns-then-w c =
-    let t = turned (goal.at.returns-then-w c).Then-w in
-    (
+    let t = turned (goal.at.returns-then-w c).Then-w in (
       c.turn_rows.ensures.0,
       c.turn_rows.ensures.1
           ∙ ap (puts c.args.out.now c.args.at)

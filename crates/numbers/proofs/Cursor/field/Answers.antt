@@ -30,12 +30,11 @@ pub overflow_add-value-in-loop-i : goal.overflow_add-value-in-loop-i
 overflow_add-value-in-loop-i c = let h : c.loop-i.value < 256 ^ 4 = omega (arith, weight-small c.loop-i.i 4 (omega arith)) in omega (arith, c.type_inv.s (c.args.self.at + c.loop-i.i))
 
 pub loop-i-preserved : goal.loop-i-preserved
-loop-i-preserved c =
-    (
-      omega arith,
-      ap (λ (v : ℕ). v * 256 + get_or c.args.s.now (c.args.self.at + c.loop-i.i) 0) c.loop-i.invariant.1 ∙ sym (big_endian-more _ _ _),
-      weight-more c.loop-i.i c.loop-i.value _ c.loop-i.invariant.2 (omega (arith, c.type_inv.s (c.args.self.at + c.loop-i.i))),
-    )
+loop-i-preserved c = (
+  omega arith,
+  ap (λ (v : ℕ). v * 256 + get_or c.args.s.now (c.args.self.at + c.loop-i.i) 0) c.loop-i.invariant.1 ∙ sym (big_endian-more _ _ _),
+  weight-more c.loop-i.i c.loop-i.value _ c.loop-i.invariant.2 (omega (arith, c.type_inv.s (c.args.self.at + c.loop-i.i))),
+)
 
 pub overflow_cast-result : goal.overflow_cast-result
 overflow_cast-result c = let h : c.loop-i.value < 256 ^ 4 = omega (arith, weight-small c.loop-i.i 4 (omega arith)) in omega arith

@@ -56,15 +56,14 @@ overflow_add-i c =
     omega (arith, c.loop-i-test.true, c.requires.0.count)
 
 pub loop-i-preserved : goal.loop-i-preserved
-loop-i-preserved c =
-    (
-      omega (arith, c.loop-i-test.true),
-      ap length c.lay_input.ensures ∙ length-lay_input _ _ _ _ ∙ c.loop-i.invariant.1,
-      (fit_next _ _ _ _ _ c.loop-i-test.true (sym c.read_record.ensures ∙ ap frame_out c.in-Read.is) _ c.loop-i.invariant.2).1,
-      c.loop-i.invariant.3
-          ∙ laid_next _ _ _ _ _ c.loop-i-test.true (sym c.read_record.ensures ∙ ap frame_out c.in-Read.is) _ _ _ _ _ _
-          c.offset.ensures c.lay_input.ensures,
-    )
+loop-i-preserved c = (
+  omega (arith, c.loop-i-test.true),
+  ap length c.lay_input.ensures ∙ length-lay_input _ _ _ _ ∙ c.loop-i.invariant.1,
+  (fit_next _ _ _ _ _ c.loop-i-test.true (sym c.read_record.ensures ∙ ap frame_out c.in-Read.is) _ c.loop-i.invariant.2).1,
+  c.loop-i.invariant.3
+      ∙ laid_next _ _ _ _ _ c.loop-i-test.true (sym c.read_record.ensures ∙ ap frame_out c.in-Read.is) _ _ _ _ _ _
+      c.offset.ensures c.lay_input.ensures,
+)
 
 pub returns : goal.returns
 returns c =

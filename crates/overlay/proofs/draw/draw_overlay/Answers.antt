@@ -32,24 +32,23 @@ top-requires c =
 
 pub write_overlay-requires : goal.write_overlay-requires
 unfolding fill_for top_of
-write_overlay-requires c =
-    (
-      record {
-        plan = c.requires.0;
-        whole = c.requires.0.whole c.if-plan.true;
-        top = c.top.ensures;
-        low = λ p. rw c.top.ensures (drawn-low _ _ _ _ _ (filled (goal.at.write_overlay-requires c).In-Samples) c.fill_alpha.ensures
-            (fill-low c.args.plan.descriptor.canvas_fill c.args.plan.form.format.depth c.args.colour
-            (omega (arith, c.well_formed)) c.requires.0.form.low c.requires.0.form.high) p);
-      },
-      omega (
-        arith,
-        c.requires.1,
-        drawn-size c.args.plan.form
-            (fill_for c.args.plan.descriptor.canvas_fill c.args.plan.form.format.depth c.args.colour)
-            (layers_at c.args.body.now c.args.tray.now c.args.premultiplied.now c.args.plan),
-      ),
-    )
+write_overlay-requires c = (
+  record {
+    plan = c.requires.0;
+    whole = c.requires.0.whole c.if-plan.true;
+    top = c.top.ensures;
+    low = λ p. rw c.top.ensures (drawn-low _ _ _ _ _ (filled (goal.at.write_overlay-requires c).In-Samples) c.fill_alpha.ensures
+        (fill-low c.args.plan.descriptor.canvas_fill c.args.plan.form.format.depth c.args.colour
+        (omega (arith, c.well_formed)) c.requires.0.form.low c.requires.0.form.high) p);
+  },
+  omega (
+    arith,
+    c.requires.1,
+    drawn-size c.args.plan.form
+        (fill_for c.args.plan.descriptor.canvas_fill c.args.plan.form.format.depth c.args.colour)
+        (layers_at c.args.body.now c.args.tray.now c.args.premultiplied.now c.args.plan),
+  ),
+)
 
 pub returns-then-plan : goal.returns-then-plan
 unfolding fill_for
@@ -61,22 +60,21 @@ returns-then-plan c =
 
 pub write_opaque-requires : goal.write_opaque-requires
 unfolding fill_for top_of
-write_opaque-requires c =
-    (
-      c.requires.0.form,
-      c.requires.0.offsets,
-      drawn-low _ _ _ _ _ (filled (goal.at.write_opaque-requires c).In-Samples) c.fill_alpha.ensures
-          (fill-low c.args.plan.descriptor.canvas_fill c.args.plan.form.format.depth c.args.colour
-          (omega (arith, c.well_formed)) c.requires.0.form.low c.requires.0.form.high),
-      c.requires.0.fit c.if-plan.false,
-      omega (
-        arith,
-        c.requires.1,
-        drawn-size c.args.plan.form
-            (fill_for c.args.plan.descriptor.canvas_fill c.args.plan.form.format.depth c.args.colour)
-            (layers_at c.args.body.now c.args.tray.now c.args.premultiplied.now c.args.plan),
-      ),
-    )
+write_opaque-requires c = (
+  c.requires.0.form,
+  c.requires.0.offsets,
+  drawn-low _ _ _ _ _ (filled (goal.at.write_opaque-requires c).In-Samples) c.fill_alpha.ensures
+      (fill-low c.args.plan.descriptor.canvas_fill c.args.plan.form.format.depth c.args.colour
+      (omega (arith, c.well_formed)) c.requires.0.form.low c.requires.0.form.high),
+  c.requires.0.fit c.if-plan.false,
+  omega (
+    arith,
+    c.requires.1,
+    drawn-size c.args.plan.form
+        (fill_for c.args.plan.descriptor.canvas_fill c.args.plan.form.format.depth c.args.colour)
+        (layers_at c.args.body.now c.args.tray.now c.args.premultiplied.now c.args.plan),
+  ),
+)
 
 pub returns : goal.returns
 unfolding fill_for

@@ -15,22 +15,21 @@ pub loop-s-init : goal.loop-s-init
 loop-s-init c = (omega arith, omega arith, refl, refl, refl, continued-none _ _ _ _ _)
 
 pub write_stripe-requires : goal.write_stripe-requires
-write_stripe-requires c =
-    (
-      record {
-        canvas = c.requires.0;
-        run = record {
-          columns = refl;
-          ends = omega (arith, c.requires.1.ends, c.min.ensures, c.loop-s-test.true);
-          whole = record { across = refl; down = refl };
-        };
-        listed = λ h. listed-part _ _ _ _ _ _ _ _ _ _ _ c.loop-s.invariant.0 (omega (arith, c.min.ensures, c.loop-s-test.true)) (c.requires.1.listed h);
-      },
-      c.requires.2,
-      omega (arith, c.requires.3, c.loop-s.invariant.3, c.min.ensures),
-      omega (arith, c.requires.4, c.loop-s.invariant.4, c.min.ensures),
-      omega (arith, c.requires.5, c.loop-s.invariant.2),
-    )
+write_stripe-requires c = (
+  record {
+    canvas = c.requires.0;
+    run = record {
+      columns = refl;
+      ends = omega (arith, c.requires.1.ends, c.min.ensures, c.loop-s-test.true);
+      whole = record { across = refl; down = refl };
+    };
+    listed = λ h. listed-part _ _ _ _ _ _ _ _ _ _ _ c.loop-s.invariant.0 (omega (arith, c.min.ensures, c.loop-s-test.true)) (c.requires.1.listed h);
+  },
+  c.requires.2,
+  omega (arith, c.requires.3, c.loop-s.invariant.3, c.min.ensures),
+  omega (arith, c.requires.4, c.loop-s.invariant.4, c.min.ensures),
+  omega (arith, c.requires.5, c.loop-s.invariant.2),
+)
 
 pub overflow_add-s : goal.overflow_add-s
 overflow_add-s c =

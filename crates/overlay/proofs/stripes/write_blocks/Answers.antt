@@ -44,16 +44,15 @@ loop-start-smaller c =
     omega (arith, c.fit_block-b.ensures.0, c.loop-start-test.true)
 
 pub loop-start-preserved : goal.loop-start-preserved
-loop-start-preserved c =
-    (
-      omega (arith, c.fit_block-b.ensures.1, c.min.ensures, c.loop-start-test.true),
-      c.next_length-most.ensures,
-      c.write_block.auto.out ∙ c.loop-start.invariant.2,
-      omega (arith, c.write_block.auto.colour, c.loop-start.invariant.3),
-      omega (arith, c.write_block.auto.colour, c.loop-start.invariant.4),
-      c.fit_block-b.auto.entries ∙ c.loop-start.invariant.5,
-      continued-on _ _ _ _ _ _ _ _ _ c.loop-start.invariant.6 c.write_block.ensures,
-    )
+loop-start-preserved c = (
+  omega (arith, c.fit_block-b.ensures.1, c.min.ensures, c.loop-start-test.true),
+  c.next_length-most.ensures,
+  c.write_block.auto.out ∙ c.loop-start.invariant.2,
+  omega (arith, c.write_block.auto.colour, c.loop-start.invariant.3),
+  omega (arith, c.write_block.auto.colour, c.loop-start.invariant.4),
+  c.fit_block-b.auto.entries ∙ c.loop-start.invariant.5,
+  continued-on _ _ _ _ _ _ _ _ _ c.loop-start.invariant.6 c.write_block.ensures,
+)
 
 pub returns : goal.returns
 returns c = rw (← (ended c)) c.loop-start.invariant.6

@@ -23,41 +23,39 @@ paint_plane-c-requires c =
 
 pub paint_plane-d-requires : goal.paint_plane-d-requires
 unfolding size_of
-paint_plane-d-requires c =
-    (
-      c.requires.0,
-      omega (
-        arith,
-        c.requires.1,
-        c.requires.2,
-        c.write_head-a.ensures.0,
-        ap length c.write_head-a.ensures.1 ∙ length-puts _ _ _,
-        c.paint_plane-b.ensures.0,
-        ap length c.paint_plane-b.ensures.1 ∙ length-puts _ _ _,
-        c.paint_plane-c.ensures.0,
-        ap length c.paint_plane-c.ensures.1 ∙ length-puts _ _ _,
-      ),
-    )
+paint_plane-d-requires c = (
+  c.requires.0,
+  omega (
+    arith,
+    c.requires.1,
+    c.requires.2,
+    c.write_head-a.ensures.0,
+    ap length c.write_head-a.ensures.1 ∙ length-puts _ _ _,
+    c.paint_plane-b.ensures.0,
+    ap length c.paint_plane-b.ensures.1 ∙ length-puts _ _ _,
+    c.paint_plane-c.ensures.0,
+    ap length c.paint_plane-c.ensures.1 ∙ length-puts _ _ _,
+  ),
+)
 
 pub paint_plane-requires : goal.paint_plane-requires
 unfolding size_of
-paint_plane-requires c =
-    (
-      c.requires.0,
-      omega (
-        arith,
-        c.requires.1,
-        c.requires.2,
-        c.write_head-a.ensures.0,
-        ap length c.write_head-a.ensures.1 ∙ length-puts _ _ _,
-        c.paint_plane-b.ensures.0,
-        ap length c.paint_plane-b.ensures.1 ∙ length-puts _ _ _,
-        c.paint_plane-c.ensures.0,
-        ap length c.paint_plane-c.ensures.1 ∙ length-puts _ _ _,
-        c.paint_plane-d.ensures.0,
-        ap length c.paint_plane-d.ensures.1 ∙ length-puts _ _ _,
-      ),
-    )
+paint_plane-requires c = (
+  c.requires.0,
+  omega (
+    arith,
+    c.requires.1,
+    c.requires.2,
+    c.write_head-a.ensures.0,
+    ap length c.write_head-a.ensures.1 ∙ length-puts _ _ _,
+    c.paint_plane-b.ensures.0,
+    ap length c.paint_plane-b.ensures.1 ∙ length-puts _ _ _,
+    c.paint_plane-c.ensures.0,
+    ap length c.paint_plane-c.ensures.1 ∙ length-puts _ _ _,
+    c.paint_plane-d.ensures.0,
+    ap length c.paint_plane-d.ensures.1 ∙ length-puts _ _ _,
+  ),
+)
 
 pub returns : goal.returns
 returns c =

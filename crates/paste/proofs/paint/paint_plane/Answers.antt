@@ -54,8 +54,7 @@ overflow_mul-n c = omega (arith, small c)
 
 pub fill_row-requires : goal.fill_row-requires
 fill_row-requires c =
-    let k = bytes-few c.args.form.format in
-    (
+    let k = bytes-few c.args.form.format in (
       rw c.bytes_per_sample.ensures k.0,
       rw c.bytes_per_sample.ensures k.1,
       rw (c.bytes_per_sample.ensures, count (goal.at.fill_row-requires c).After-rows)

@@ -43,17 +43,16 @@ write_line-requires c =
     let w = c.requires.writes c.loop-k.k c.loop-k-test.true in let l = ap length c.loop-k.invariant.1 ∙ length-store_rows _ _ _ _ _ in (rw (line (goal.at.write_line-requires c).After-covering) (line-fits _ _ _ _ _ _ _ _ c.requires c.loop-k-test.true), omega arith)
 
 pub loop-k-preserved : goal.loop-k-preserved
-loop-k-preserved c =
-    (
-      omega arith,
-      c.write_line.ensures.1
-          ∙ ap (λ (l : Line). puts c.loop-k.out (c.args.at + c.loop-k.k * c.args.stride)
-          (line_bytes c.args.plane.now c.args.s.bytes l c.args.across))
-          (line (goal.at.loop-k-preserved c).After-covering)
-          ∙ ap₂ (λ (d b : List ℕ). puts d (c.args.at + c.loop-k.k * c.args.stride) b) c.loop-k.invariant.1
-          (line_row c.args.plane.now c.args.s c.args.across c.loop-k.k)
-          ∙ rows_more c.args.out.now c.args.at c.args.stride _ c.loop-k.k,
-    )
+loop-k-preserved c = (
+  omega arith,
+  c.write_line.ensures.1
+      ∙ ap (λ (l : Line). puts c.loop-k.out (c.args.at + c.loop-k.k * c.args.stride)
+      (line_bytes c.args.plane.now c.args.s.bytes l c.args.across))
+      (line (goal.at.loop-k-preserved c).After-covering)
+      ∙ ap₂ (λ (d b : List ℕ). puts d (c.args.at + c.loop-k.k * c.args.stride) b) c.loop-k.invariant.1
+      (line_row c.args.plane.now c.args.s c.args.across c.loop-k.k)
+      ∙ rows_more c.args.out.now c.args.at c.args.stride _ c.loop-k.k,
+)
 
 pub returns : goal.returns
 returns c =

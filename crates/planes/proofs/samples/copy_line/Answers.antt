@@ -107,14 +107,13 @@ overflow_add-k c = omega arith
 
 pub loop-k-preserved : goal.loop-k-preserved
 unfolding place_on Bytes
-loop-k-preserved c =
-    (
-      omega arith,
-      omega arith,
-      writing-run (item (goal.at.loop-k-preserved c).In-loop-k (k (goal.at.loop-k-preserved c).In-loop-k)) (writing-as c.loop-k.invariant.2 (step (goal.at.loop-k-preserved c).In-loop-k)) (ap (λ (n : ℕ). c.loop-k.i + n) (sym (length-sample_bytes (b (goal.at.loop-k-preserved c).In-loop-k) _ (few (goal.at.loop-k-preserved c).In-loop-k).0 (few (goal.at.loop-k-preserved c).In-loop-k).1)))
-          (sym (sample-stored c.loop-k.out (P (goal.at.loop-k-preserved c).In-loop-k) (b (goal.at.loop-k-preserved c).In-loop-k) c.loop-k.i (place_on (L (goal.at.loop-k-preserved c).In-loop-k) (k (goal.at.loop-k-preserved c).In-loop-k)) (λ i. omega (arith, c.type_inv.plane i)) (few (goal.at.loop-k-preserved c).In-loop-k).0
-          (few (goal.at.loop-k-preserved c).In-loop-k).1)),
-    )
+loop-k-preserved c = (
+  omega arith,
+  omega arith,
+  writing-run (item (goal.at.loop-k-preserved c).In-loop-k (k (goal.at.loop-k-preserved c).In-loop-k)) (writing-as c.loop-k.invariant.2 (step (goal.at.loop-k-preserved c).In-loop-k)) (ap (λ (n : ℕ). c.loop-k.i + n) (sym (length-sample_bytes (b (goal.at.loop-k-preserved c).In-loop-k) _ (few (goal.at.loop-k-preserved c).In-loop-k).0 (few (goal.at.loop-k-preserved c).In-loop-k).1)))
+      (sym (sample-stored c.loop-k.out (P (goal.at.loop-k-preserved c).In-loop-k) (b (goal.at.loop-k-preserved c).In-loop-k) c.loop-k.i (place_on (L (goal.at.loop-k-preserved c).In-loop-k) (k (goal.at.loop-k-preserved c).In-loop-k)) (λ i. omega (arith, c.type_inv.plane i)) (few (goal.at.loop-k-preserved c).In-loop-k).0
+      (few (goal.at.loop-k-preserved c).In-loop-k).1)),
+)
 
 pub returns : goal.returns
 returns c = let e : c.loop-k.k ≡ c.args.n = omega arith in (c.loop-k.invariant.1 ∙ ap (λ (x : ℕ). c.args.at + x * c.args.bytes) e, (writing-done (writing-as c.loop-k.invariant.2 (span-end _ _ _ c.loop-k-test.false))).1)

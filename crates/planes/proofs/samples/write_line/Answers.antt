@@ -21,16 +21,16 @@ module _ (c : Then-line-eq0-2) where
   size =
       c.args.n * c.args.bytes
 
-  some :     0 < c.args.n
+  some : 0 < c.args.n
   some =
       positive c.args.n c.if-n-eq0.false
 
-  inside :     start + size ≤ length c.args.plane.now
+  inside : start + size ≤ length c.args.plane.now
   inside =
       line-inside c.args.plane.now c.args.bytes c.args.line c.args.n c.requires.0 some c.if-line-bytes.true c.if-line-eq0.true
       c.if-line-eq1.true c.if-line-eq0-2.true
 
-  taken :     Bytes c.args.plane.now
+  taken : Bytes c.args.plane.now
       → line_bytes c.args.plane.now c.args.bytes c.args.line c.args.n
       ≡ take (start + size - start) (drop start c.args.plane.now)
   taken b =
@@ -38,7 +38,7 @@ module _ (c : Then-line-eq0-2) where
       c.if-line-eq1.true c.if-line-eq0-2.true b
       ∙ (let z : size ≡ start + size - start = omega arith in ap (λ (k : ℕ). take k (drop start c.args.plane.now)) z)
 
-  long :     length (take (start + size - start) (drop start c.args.plane.now)) ≡ size
+  long : length (take (start + size - start) (drop start c.args.plane.now)) ≡ size
   long =
       let l = inside in
       length-take-le (start + size - start) (drop start c.args.plane.now) (omega (arith, length-drop start c.args.plane.now))
@@ -69,9 +69,8 @@ copy_row-requires c =
 
 pub returns-then-line-eq0-2 : goal.returns-then-line-eq0-2
 unfolding Bytes
-returns-then-line-eq0-2 c =
-    (
-      c.copy_row.ensures.0 ∙ ap (λ (k : ℕ). c.args.at + k) (long (goal.at.returns-then-line-eq0-2 c).Then-line-eq0-2),
-      c.copy_row.ensures.1
-          ∙ ap (puts c.args.out.now c.args.at) (sym (taken (goal.at.returns-then-line-eq0-2 c).Then-line-eq0-2 (λ i. omega (arith, c.type_inv.plane i)))),
-    )
+returns-then-line-eq0-2 c = (
+  c.copy_row.ensures.0 ∙ ap (λ (k : ℕ). c.args.at + k) (long (goal.at.returns-then-line-eq0-2 c).Then-line-eq0-2),
+  c.copy_row.ensures.1
+      ∙ ap (puts c.args.out.now c.args.at) (sym (taken (goal.at.returns-then-line-eq0-2 c).Then-line-eq0-2 (λ i. omega (arith, c.type_inv.plane i)))),
+)

@@ -8,19 +8,18 @@ use Rattle.planes.proofs.write.placed.Goals as goal
 
 pub returns-then-has : goal.returns-then-has
 unfolding placed plane_head pick
-returns-then-has c =
-    (
-      simp (
-        sym c.has.ensures,
-        c.if-has.true,
-        length-append,
-        c.number_length.ensures.0,
-        c.number_length-then-has.ensures.0,
-        c.row_size-row.ensures,
-        c.plane_len-len.ensures,
-      ),
-      omega (arith, c.number_length.ensures.1, c.number_length-then-has.ensures.1),
-    )
+returns-then-has c = (
+  simp (
+    sym c.has.ensures,
+    c.if-has.true,
+    length-append,
+    c.number_length.ensures.0,
+    c.number_length-then-has.ensures.0,
+    c.row_size-row.ensures,
+    c.plane_len-len.ensures,
+  ),
+  omega (arith, c.number_length.ensures.1, c.number_length-then-has.ensures.1),
+)
 
 pub returns : goal.returns
 unfolding placed pick

@@ -8,19 +8,18 @@ use Rattle.planes.proofs.write.plane_size.Goals as goal
 
 pub returns-then-has : goal.returns-then-has
 unfolding plane_size plane_head pick
-returns-then-has c =
-    (
-      simp (
-        sym c.has.ensures,
-        c.if-has.true,
-        length-append,
-        c.number_length.ensures.0,
-        c.number_length-then-has.ensures.0,
-        c.row_size-row.ensures,
-        c.plane_len-len.ensures,
-      ),
-      omega arith,
-    )
+returns-then-has c = (
+  simp (
+    sym c.has.ensures,
+    c.if-has.true,
+    length-append,
+    c.number_length.ensures.0,
+    c.number_length-then-has.ensures.0,
+    c.row_size-row.ensures,
+    c.plane_len-len.ensures,
+  ),
+  omega arith,
+)
 
 pub returns : goal.returns
 unfolding plane_size pick

@@ -1,7 +1,7 @@
 use mathlib.Core.Bool.{not}
 use mathlib.Core.Path.{◌∙◌, ap, sym}
 use borrow.Author.Tests.{not-false}
-use Rattle.point.proofs.PointLaws.{lies-above, lies-beside, lies_over}
+use Rattle.point.proofs.PointLaws.{lies-above, lies-beside, lies_over_lem}
 use Rattle.point.proofs.names.name_input.Goals as goal
 
 pub returns-then-not-reaches : goal.returns-then-not-reaches
@@ -18,6 +18,6 @@ spot_at-requires-2 c = not-false _ (ap not (sym c.reaches-2.ensures) ∙ (ap not
 
 pub returns : goal.returns
 returns c =
-    lies_over _ _ _ _ _ (ap not (sym c.reaches.ensures) ∙ (ap not c.if-not-reaches.false))
+    lies_over_lem _ _ _ _ _ (ap not (sym c.reaches.ensures) ∙ (ap not c.if-not-reaches.false))
     (ap not (sym c.reaches-2.ensures) ∙ (ap not c.if-not-reaches-2.false)) _ _ c.spot_at.ensures
     c.spot_at-2.ensures

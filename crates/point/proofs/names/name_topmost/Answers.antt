@@ -20,13 +20,12 @@ overflow_add-i c =
     omega (arith, c.loop-i-test.true, c.requires.count)
 
 pub loop-i-preserved : goal.loop-i-preserved
-loop-i-preserved c =
-    (
-      omega (arith, c.loop-i-test.true),
-      c.loop-i.invariant.1
-          ∙ top-next _ _ _ _ _ _ _ _ _ _ c.loop-i-test.true (sym c.read_record.ensures ∙ ap frame_out c.in-Read.is)
-          c.offset.ensures c.name_input-found.ensures,
-    )
+loop-i-preserved c = (
+  omega (arith, c.loop-i-test.true),
+  c.loop-i.invariant.1
+      ∙ top-next _ _ _ _ _ _ _ _ _ _ c.loop-i-test.true (sym c.read_record.ensures ∙ ap frame_out c.in-Read.is)
+      c.offset.ensures c.name_input-found.ensures,
+)
 
 pub returns : goal.returns
 returns c = sym (c.loop-i.invariant.1 ∙ top-none _ _ _ _ _ _ _ (omega (arith, c.loop-i-test.false)))

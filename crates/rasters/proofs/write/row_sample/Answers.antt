@@ -24,13 +24,12 @@ unfolding RuleRowFits
 far c = rw c.in-Area.is at c.requires.1
 
 pub sample-requires : goal.sample-requires
-sample-requires c =
-    (
-      c.requires.0.positive,
-      c.requires.0.bounded,
-      c.requires.0.inside _ _ (rw c.nearest_place-u.ensures (near-in _ _ _ c.requires.0.across.positive c.requires.2))
-          (near (goal.at.sample-requires c).In-Near).1,
-    )
+sample-requires c = (
+  c.requires.0.positive,
+  c.requires.0.bounded,
+  c.requires.0.inside _ _ (rw c.nearest_place-u.ensures (near-in _ _ _ c.requires.0.across.positive c.requires.2))
+      (near (goal.at.sample-requires c).In-Near).1,
+)
 
 pub level-requires : goal.level-requires
 level-requires c = (near (goal.at.level-requires c).In-Near).0

@@ -37,23 +37,21 @@ pub row_rule-requires : goal.row_rule-requires
 row_rule-requires c = (c.requires.1, c.requires.0.down, left (goal.at.row_rule-requires c).In-loop-y)
 
 pub write_row-i-requires : goal.write_row-i-requires
-write_row-i-requires c =
-    (
-      c.requires.0,
-      rw c.row_rule.ensures (row_fits _ _ _ _ c.requires.1 c.requires.0.down (left (goal.at.write_row-i-requires c).In-loop-y)),
-      room (goal.at.write_row-i-requires c).In-loop-y,
-    )
+write_row-i-requires c = (
+  c.requires.0,
+  rw c.row_rule.ensures (row_fits _ _ _ _ c.requires.1 c.requires.0.down (left (goal.at.write_row-i-requires c).In-loop-y)),
+  room (goal.at.write_row-i-requires c).In-loop-y,
+)
 
 pub loop-y-preserved : goal.loop-y-preserved
-loop-y-preserved c =
-    (
-      c.loop-y.invariant.0,
-      writing-run (item (goal.at.loop-y-preserved c).In-loop-y c.loop-y.y) (writing-as c.loop-y.invariant.1 (step (goal.at.loop-y-preserved c).In-loop-y))
-          (c.write_row-i.ensures.0 ∙ ap (λ (k : ℕ). c.loop-y.i + k) (sym (long (goal.at.loop-y-preserved c).In-loop-y)))
-          (c.write_row-i.ensures.1
-          ∙ ap (λ (q : RowRule). puts c.loop-y.out c.loop-y.i (raster_row c.args.plane.now c.args.r q))
-          c.row_rule.ensures),
-    )
+loop-y-preserved c = (
+  c.loop-y.invariant.0,
+  writing-run (item (goal.at.loop-y-preserved c).In-loop-y c.loop-y.y) (writing-as c.loop-y.invariant.1 (step (goal.at.loop-y-preserved c).In-loop-y))
+      (c.write_row-i.ensures.0 ∙ ap (λ (k : ℕ). c.loop-y.i + k) (sym (long (goal.at.loop-y-preserved c).In-loop-y)))
+      (c.write_row-i.ensures.1
+      ∙ ap (λ (q : RowRule). puts c.loop-y.out c.loop-y.i (raster_row c.args.plane.now c.args.r q))
+      c.row_rule.ensures),
+)
 
 pub returns : goal.returns
 returns c =

@@ -41,14 +41,13 @@ pub put_sample-i-requires : goal.put_sample-i-requires
 put_sample-i-requires c = (c.requires.0.to_positive, c.requires.0.to_bounded, room (goal.at.put_sample-i-requires c).In-loop-x)
 
 pub loop-x-preserved : goal.loop-x-preserved
-loop-x-preserved c =
-    (
-      c.loop-x.invariant.0,
-      writing-run (item (goal.at.loop-x-preserved c).In-loop-x c.loop-x.x) (writing-as c.loop-x.invariant.1 (step (goal.at.loop-x-preserved c).In-loop-x))
-          (c.put_sample-i.ensures.0 ∙ ap (λ (k : ℕ). c.loop-x.i + k) (sym (long (goal.at.loop-x-preserved c).In-loop-x)))
-          (c.put_sample-i.ensures.1
-          ∙ ap (λ (v : ℕ). puts c.loop-x.out c.loop-x.i (sample_bytes c.args.r.to_bytes v)) c.row_sample.ensures),
-    )
+loop-x-preserved c = (
+  c.loop-x.invariant.0,
+  writing-run (item (goal.at.loop-x-preserved c).In-loop-x c.loop-x.x) (writing-as c.loop-x.invariant.1 (step (goal.at.loop-x-preserved c).In-loop-x))
+      (c.put_sample-i.ensures.0 ∙ ap (λ (k : ℕ). c.loop-x.i + k) (sym (long (goal.at.loop-x-preserved c).In-loop-x)))
+      (c.put_sample-i.ensures.1
+      ∙ ap (λ (v : ℕ). puts c.loop-x.out c.loop-x.i (sample_bytes c.args.r.to_bytes v)) c.row_sample.ensures),
+)
 
 pub returns : goal.returns
 returns c =

@@ -38,7 +38,7 @@ module _ (c : Then-has) where
   there : has_part c.args.form.format c.args.part ≡ true
   there = sym c.has.ensures ∙ c.if-has.true
 
-  start :     Writing c.args.out.now c.args.at (plane_bytes (picture (goal.at.Then-has c).Start) c.args.part) c.args.out.now c.args.at
+  start : Writing c.args.out.now c.args.at (plane_bytes (picture (goal.at.Then-has c).Start) c.args.part) c.args.out.now c.args.at
       (head ++ rest)
   start =
       writing-begin _ _ _ _
@@ -83,12 +83,11 @@ plane_data-requires c =
     rw c.plane-q.ensures (c.requires.0.planes c.args.part (c.requires.1.parts _ (there (goal.at.plane_data-requires c).Then-has))).inside
 
 pub write_rows-requires : goal.write_rows-requires
-write_rows-requires c =
-    (
-      worked-fits (worked c) (fits (goal.at.write_rows-requires c).Then-has),
-      worked-rule (worked c) (rule (goal.at.write_rows-requires c).Then-has),
-      rw (worked-size (worked c) ∙ sym (size (goal.at.write_rows-requires c).Then-has)) (first (goal.at.write_rows-requires c).After-write_plane_head-first).room,
-    )
+write_rows-requires c = (
+  worked-fits (worked c) (fits (goal.at.write_rows-requires c).Then-has),
+  worked-rule (worked c) (rule (goal.at.write_rows-requires c).Then-has),
+  rw (worked-size (worked c) ∙ sym (size (goal.at.write_rows-requires c).Then-has)) (first (goal.at.write_rows-requires c).After-write_plane_head-first).room,
+)
 
 pub returns-then-has : goal.returns-then-has
 returns-then-has c =

@@ -67,13 +67,12 @@ overflow_add-sum c =
     omega (arith, n, (whole (goal.at.overflow_add-sum c).Start).1, ap₂ (λ (a b : ℕ). a * b) c.row_sum.ensures.0 c.weight.ensures.0)
 
 pub loop-j-preserved : goal.loop-j-preserved
-loop-j-preserved c =
-    (
-      c.loop-j.invariant.0,
-      weighing-step c.args.down (row_of (goal.at.loop-j-preserved c).Start) ((c.args.across.end - c.args.across.start) * 65535) c.requires.tall.positive
-          c.loop-j.j c.loop-j.sum c.loop-j.invariant.1 (left (goal.at.loop-j-preserved c).In-loop-j) (few (goal.at.loop-j-preserved c).After-row_sum) _
-          (ap₂ (λ (a b : ℕ). c.loop-j.sum + a * b) c.row_sum.ensures.0 c.weight.ensures.0),
-    )
+loop-j-preserved c = (
+  c.loop-j.invariant.0,
+  weighing-step c.args.down (row_of (goal.at.loop-j-preserved c).Start) ((c.args.across.end - c.args.across.start) * 65535) c.requires.tall.positive
+      c.loop-j.j c.loop-j.sum c.loop-j.invariant.1 (left (goal.at.loop-j-preserved c).In-loop-j) (few (goal.at.loop-j-preserved c).After-row_sum) _
+      (ap₂ (λ (a b : ℕ). c.loop-j.sum + a * b) c.row_sum.ensures.0 c.weight.ensures.0),
+)
 
 pub overflow_sub-whole : goal.overflow_sub-whole
 overflow_sub-whole c = omega (arith, c.requires.wide.positive)

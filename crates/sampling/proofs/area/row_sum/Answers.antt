@@ -28,13 +28,12 @@ pub sample-requires : goal.sample-requires
 sample-requires c = (c.requires.positive, c.requires.bounded, c.requires.inside _ (column c))
 
 pub weight-requires : goal.weight-requires
-weight-requires c =
-    (
-      c.requires.wide.positive,
-      omega (arith, c.requires.wide.inside, c.requires.size),
-      c.loop-j.invariant.1.low,
-      rw c.loop-j.invariant.0 at c.loop-j-test.true,
-    )
+weight-requires c = (
+  c.requires.wide.positive,
+  omega (arith, c.requires.wide.inside, c.requires.size),
+  c.loop-j.invariant.1.low,
+  rw c.loop-j.invariant.0 at c.loop-j-test.true,
+)
 
 pub overflow_mul-sum : goal.overflow_mul-sum
 overflow_mul-sum c = omega (arith, mul-below 65535 256 c.sample.result c.weight.result (omega (arith, c.sample.type_inv)) c.weight.ensures.1)
@@ -51,13 +50,12 @@ overflow_add-sum c =
     )
 
 pub loop-j-preserved : goal.loop-j-preserved
-loop-j-preserved c =
-    (
-      c.loop-j.invariant.0,
-      weighing-step c.args.f _ 65535 c.requires.wide.positive c.loop-j.j c.loop-j.sum c.loop-j.invariant.1
-          (rw c.loop-j.invariant.0 at c.loop-j-test.true) (few c) _
-          (ap₂ (λ (a b : ℕ). c.loop-j.sum + a * b) c.sample.ensures c.weight.ensures.0),
-    )
+loop-j-preserved c = (
+  c.loop-j.invariant.0,
+  weighing-step c.args.f _ 65535 c.requires.wide.positive c.loop-j.j c.loop-j.sum c.loop-j.invariant.1
+      (rw c.loop-j.invariant.0 at c.loop-j-test.true) (few c) _
+      (ap₂ (λ (a b : ℕ). c.loop-j.sum + a * b) c.sample.ensures c.weight.ensures.0),
+)
 
 pub returns : goal.returns
 returns c = weighing-done c.args.f _ 65535 c.requires.wide.positive c.loop-j.j c.loop-j.sum c.loop-j.invariant.1 (rw c.loop-j.invariant.0 at c.loop-j-test.false)

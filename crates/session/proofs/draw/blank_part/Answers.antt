@@ -22,23 +22,21 @@ cell c =
     ∙ ap (λ (t : Form). cell_of c.args.to.form t c.args.column c.args.row c.args.part) c.tile_form.ensures
 
 pub cell_of-cell-requires : goal.cell_of-cell-requires
-cell_of-cell-requires c =
-    (
-      c.requires.0,
-      c.requires.1.canvas,
-      rw c.tile_form.ensures (tile-sound c.args.promoted c.args.tile (blank-tile _ _ _ _ c.requires.1 c.args.part)),
-      blank-has _ _ _ _ c.requires.1 c.args.part (there (goal.at.cell_of-cell-requires c).Then-has),
-      rw c.tile_form.ensures (blank-bytes _ _ _ _ c.requires.1 c.args.part),
-      omega (arith, c.requires.1.room),
-    )
+cell_of-cell-requires c = (
+  c.requires.0,
+  c.requires.1.canvas,
+  rw c.tile_form.ensures (tile-sound c.args.promoted c.args.tile (blank-tile _ _ _ _ c.requires.1 c.args.part)),
+  blank-has _ _ _ _ c.requires.1 c.args.part (there (goal.at.cell_of-cell-requires c).Then-has),
+  rw c.tile_form.ensures (blank-bytes _ _ _ _ c.requires.1 c.args.part),
+  omega (arith, c.requires.1.room),
+)
 
 pub blank_sample-requires : goal.blank_sample-requires
 blank_sample-requires c = let k = blank-tile _ _ _ _ c.requires.1 c.args.part in (omega (arith, k.low), k.high)
 
 pub store_even-requires : goal.store_even-requires
 store_even-requires c =
-    let k = bytes-few c.args.tile.format in
-    (
+    let k = bytes-few c.args.tile.format in (
       rw c.bytes_per_sample.ensures k.0,
       rw c.bytes_per_sample.ensures k.1,
       λ y l. rw c.bytes_per_sample.ensures (blank-writes _ _ _ _ c.requires.1 c.args.part (there (goal.at.store_even-requires c).Then-has) _ _ _ (cell (goal.at.store_even-requires c).After-cell_of-cell) y l),

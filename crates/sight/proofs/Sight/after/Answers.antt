@@ -20,12 +20,11 @@ returns-in_default c =
     (sym c.resolve-found.ensures ∙ ap resolved_out c.refusal.ensures))))
 
 pub cropped-requires : goal.cropped-requires
-cropped-requires c =
-    (
-      c.requires,
-      clap-around c.args.self _ _ _ _ c.width.ensures c.height.ensures
-          (sym c.resolve-found.ensures ∙ ap resolved_out c.in-Rect.is),
-    )
+cropped-requires c = (
+  c.requires,
+  clap-around c.args.self _ _ _ _ c.width.ensures c.height.ensures
+      (sym c.resolve-found.ensures ∙ ap resolved_out c.in-Rect.is),
+)
 
 pub returns-in-Other : goal.returns-in-Other
 unfolding sight_after

@@ -84,6 +84,6 @@ returns c =
     (writing-done (writing-as c.loop-index.invariant.3 (going_end _ _ _ _ c.loop-index.size c.loop-index.invariant.2 c.loop-index-test.false)))
 
 -- LOST
--- 
+--
 -- slice-aggregate-copy-row : tie.Need-slice-aggregate-copy-row invariant-loop decreases-loop
 -- slice-aggregate-copy-row c = refl

@@ -14,14 +14,13 @@ use Rattle.tiles.proofs.TilesLaws.{judge-fault, judge-next, judge-start, judge-t
 use Rattle.tiles.proofs.judge.judge_tiles.Goals as goal
 
 pub loop-i-init : goal.loop-i-init
-loop-i-init c =
-    (
-      omega arith,
-      judge-start _ _ _ _ _ c.requires (sym c.read_record.ensures ∙ ap frame_out c.in-Read.is)
-          ∙ ap (λ (k : ℕ). and_then (after 0 (frames_at (c.args.count - 0) c.args.tray.now c.args.at))
-          (judged c.args.g c.args.at c.in-Read.first.form (reason k) 0 0))
-          (sym c.uncovered.ensures),
-    )
+loop-i-init c = (
+  omega arith,
+  judge-start _ _ _ _ _ c.requires (sym c.read_record.ensures ∙ ap frame_out c.in-Read.is)
+      ∙ ap (λ (k : ℕ). and_then (after 0 (frames_at (c.args.count - 0) c.args.tray.now c.args.at))
+      (judged c.args.g c.args.at c.in-Read.first.form (reason k) 0 0))
+      (sym c.uncovered.ensures),
+)
 
 pub returns-in-Refused-read_record : goal.returns-in-Refused-read_record
 returns-in-Refused-read_record c =
@@ -34,18 +33,17 @@ overflow_add-i c =
     omega (arith, c.loop-i-test.true, c.ranges.count)
 
 pub loop-i-preserved : goal.loop-i-preserved
-loop-i-preserved c =
-    (
-      omega (arith, c.loop-i-test.true),
-      c.loop-i.invariant.1
-          ∙ judge-next _ _ _ _ _ _ _ _ _ _ c.loop-i-test.true (sym c.read_record-in-loop-i.ensures ∙ ap frame_out c.in-Read-read_record.is)
-          ∙ ap₂ (λ (r : Refusal) (a : ℕ). and_then
-          (after (c.loop-i.i + 1) (frames_at (c.args.count - (c.loop-i.i + 1)) c.args.tray.now c.in-Read-read_record.f.end))
-          (judged c.args.g c.args.at c.in-Read.first.form r a (c.loop-i.i + 1)))
-          (sym (c.first_fault-fault.ensures
-          ∙ ap (λ (u : ℕ). pick (eqb c.loop-i.fault.number 0) (own_reason u 1 c.loop-i.i) c.loop-i.fault) c.unlike.ensures))
-          (sym c.with_tile-alpha.ensures),
-    )
+loop-i-preserved c = (
+  omega (arith, c.loop-i-test.true),
+  c.loop-i.invariant.1
+      ∙ judge-next _ _ _ _ _ _ _ _ _ _ c.loop-i-test.true (sym c.read_record-in-loop-i.ensures ∙ ap frame_out c.in-Read-read_record.is)
+      ∙ ap₂ (λ (r : Refusal) (a : ℕ). and_then
+      (after (c.loop-i.i + 1) (frames_at (c.args.count - (c.loop-i.i + 1)) c.args.tray.now c.in-Read-read_record.f.end))
+      (judged c.args.g c.args.at c.in-Read.first.form r a (c.loop-i.i + 1)))
+      (sym (c.first_fault-fault.ensures
+      ∙ ap (λ (u : ℕ). pick (eqb c.loop-i.fault.number 0) (own_reason u 1 c.loop-i.i) c.loop-i.fault) c.unlike.ensures))
+      (sym c.with_tile-alpha.ensures),
+)
 
 pub returns-then-next-tray : goal.returns-then-next-tray
 returns-then-next-tray c = sym (c.loop-i.invariant.1 ∙ reading-over _ _ _ _ _ (omega (arith, c.loop-i-test.false)) c.if-next-tray.true)

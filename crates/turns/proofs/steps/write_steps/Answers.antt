@@ -61,15 +61,14 @@ bounds-out-i-in-loop-k c =
 
 pub loop-k-preserved : goal.loop-k-preserved
 unfolding Bytes
-loop-k-preserved c =
-    (
-      omega arith,
-      simp length-set c.loop-k.invariant.1,
-      sym (stepped-sample c.loop-k.out c.args.plane.now (c.args.at + c.loop-k.k * c.args.bytes) c.args.bytes (c.args.from + c.loop-k.k * c.args.forth - c.loop-k.k * c.args.back) c.args.forth c.args.back
-          (λ x. omega (arith, c.type_inv.plane x)) c.requires.0.positive c.requires.0.bounded)
-          ∙ ap (λ (q : List ℕ). puts q (c.args.at + c.loop-k.k * c.args.bytes) (stepped c.args.plane.now c.args.bytes (c.args.from + c.loop-k.k * c.args.forth - c.loop-k.k * c.args.back) c.args.forth c.args.back 1)) c.loop-k.invariant.2
-          ∙ stepped-more _ c.args.plane.now c.args.at c.args.bytes c.args.from c.args.forth c.args.back c.loop-k.k 1 c.requires.0.positive c.requires.0.bounded (λ z. c.requires.0.behind c.loop-k.k c.loop-k-test.true) refl refl refl,
-    )
+loop-k-preserved c = (
+  omega arith,
+  simp length-set c.loop-k.invariant.1,
+  sym (stepped-sample c.loop-k.out c.args.plane.now (c.args.at + c.loop-k.k * c.args.bytes) c.args.bytes (c.args.from + c.loop-k.k * c.args.forth - c.loop-k.k * c.args.back) c.args.forth c.args.back
+      (λ x. omega (arith, c.type_inv.plane x)) c.requires.0.positive c.requires.0.bounded)
+      ∙ ap (λ (q : List ℕ). puts q (c.args.at + c.loop-k.k * c.args.bytes) (stepped c.args.plane.now c.args.bytes (c.args.from + c.loop-k.k * c.args.forth - c.loop-k.k * c.args.back) c.args.forth c.args.back 1)) c.loop-k.invariant.2
+      ∙ stepped-more _ c.args.plane.now c.args.at c.args.bytes c.args.from c.args.forth c.args.back c.loop-k.k 1 c.requires.0.positive c.requires.0.bounded (λ z. c.requires.0.behind c.loop-k.k c.loop-k-test.true) refl refl refl,
+)
 
 pub overflow_mul-result : goal.overflow_mul-result
 overflow_mul-result c = omega (arith, c.requires.1)

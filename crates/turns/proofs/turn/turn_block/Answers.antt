@@ -51,14 +51,13 @@ write_steps-requires c =
 
 pub loop-y-preserved : goal.loop-y-preserved
 unfolding course_row row_from step_to
-loop-y-preserved c =
-    (
-      omega arith,
-      ap length c.write_steps.ensures.1 ∙ length-puts _ _ _ ∙ c.loop-y.invariant.1,
-      c.write_steps.ensures.1
-          ∙ ap (λ (q : List ℕ). puts q (c.args.at + c.loop-y.y * c.args.pitch) (course_row c.args.plane.now c.args.bytes c.args.c c.args.n c.loop-y.y)) c.loop-y.invariant.2
-          ∙ rows_more c.args.out.now c.args.at c.args.pitch (course_row c.args.plane.now c.args.bytes c.args.c c.args.n) c.loop-y.y,
-    )
+loop-y-preserved c = (
+  omega arith,
+  ap length c.write_steps.ensures.1 ∙ length-puts _ _ _ ∙ c.loop-y.invariant.1,
+  c.write_steps.ensures.1
+      ∙ ap (λ (q : List ℕ). puts q (c.args.at + c.loop-y.y * c.args.pitch) (course_row c.args.plane.now c.args.bytes c.args.c c.args.n c.loop-y.y)) c.loop-y.invariant.2
+      ∙ rows_more c.args.out.now c.args.at c.args.pitch (course_row c.args.plane.now c.args.bytes c.args.c c.args.n) c.loop-y.y,
+)
 
 pub returns : goal.returns
 returns c =

@@ -42,8 +42,7 @@ overflow_sub-band c =
 pub turn_band-i-requires : goal.turn_band-i-requires
 unfolding step_to
 turn_band-i-requires c =
-    let w = high (goal.at.turn_band-i-requires c).After-min-n in
-    (
+    let w = high (goal.at.turn_band-i-requires c).After-min-n in (
       band-fits _ _ _ _ _ c.requires.0 c.loop-y.y c.min-n.result w.0 w.1,
       omega (arith, c.requires.1, c.loop-y.invariant.1, c.loop-y.invariant.2, add-mul c.loop-y.y c.min-n.result (c.args.columns * c.args.bytes), mul-below c.args.rows (c.args.columns * c.args.bytes) (c.loop-y.y + c.min-n.result) (c.args.columns * c.args.bytes) w.1 (omega arith)),
       w.0,

@@ -10,18 +10,16 @@ use Rattle.words.proofs.answers.put_named.Goals as goal
 
 pub returns-in-Fill : goal.returns-in-Fill
 unfolding named_fields
-returns-in-Fill c =
-    (
-      omega (arith, c.put_sides-a.ensures.0, c.put_sides.ensures.0),
-      words-after _ _ _ (0 ∷ 0 ∷ []) _ _ _ c.put_sides-a.ensures.1 c.put_sides-a.ensures.0 c.put_sides.ensures.1
-          ∙ ap (λ (n : Named). puts c.args.answer.now 0 (named_fields n)) (sym c.in-Fill.is),
-    )
+returns-in-Fill c = (
+  omega (arith, c.put_sides-a.ensures.0, c.put_sides.ensures.0),
+  words-after _ _ _ (0 ∷ 0 ∷ []) _ _ _ c.put_sides-a.ensures.1 c.put_sides-a.ensures.0 c.put_sides.ensures.1
+      ∙ ap (λ (n : Named). puts c.args.answer.now 0 (named_fields n)) (sym c.in-Fill.is),
+)
 
 pub returns-in-Spot : goal.returns-in-Spot
 unfolding named_fields
-returns-in-Spot c =
-    (
-      omega (arith, c.put_sides-a-in-Spot.ensures.0, c.put_sides-in-Spot.ensures.0),
-      words-after _ _ _ (1 ∷ c.in-Spot.k.input ∷ []) _ _ _ c.put_sides-a-in-Spot.ensures.1 c.put_sides-a-in-Spot.ensures.0 c.put_sides-in-Spot.ensures.1
-          ∙ ap (λ (n : Named). puts c.args.answer.now 0 (named_fields n)) (sym c.in-Spot.is),
-    )
+returns-in-Spot c = (
+  omega (arith, c.put_sides-a-in-Spot.ensures.0, c.put_sides-in-Spot.ensures.0),
+  words-after _ _ _ (1 ∷ c.in-Spot.k.input ∷ []) _ _ _ c.put_sides-a-in-Spot.ensures.1 c.put_sides-a-in-Spot.ensures.0 c.put_sides-in-Spot.ensures.1
+      ∙ ap (λ (n : Named). puts c.args.answer.now 0 (named_fields n)) (sym c.in-Spot.is),
+)

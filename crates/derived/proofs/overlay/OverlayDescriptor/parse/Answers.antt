@@ -9,11 +9,10 @@ pub read_canvas-requires : goal.read_canvas-requires
 read_canvas-requires c = (start-bytes _ _ (sym c.read_start.ensures ∙ ap start_out c.in-Read.is)).1
 
 pub judge_inputs-requires : goal.judge_inputs-requires
-judge_inputs-requires c =
-    (
-      (start-bytes _ _ (sym c.read_start.ensures ∙ ap start_out c.in-Read.is)).1,
-      (canvas-taken _ _ _ _ (sym c.read_canvas.ensures ∙ ap canvas_out c.in-Read-read_canvas.is)).1,
-    )
+judge_inputs-requires c = (
+  (start-bytes _ _ (sym c.read_start.ensures ∙ ap start_out c.in-Read.is)).1,
+  (canvas-taken _ _ _ _ (sym c.read_canvas.ensures ∙ ap canvas_out c.in-Read-read_canvas.is)).1,
+)
 
 pub returns-in-Refused : goal.returns-in-Refused
 unfolding overlay_of and_then

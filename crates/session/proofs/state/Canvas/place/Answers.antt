@@ -74,11 +74,10 @@ pub begin-requires : goal.begin-requires
 begin-requires c = (form-sound-of (goal.at.begin-requires c).After-canvas_form-form, rw c.canvas_form-form.ensures (room (goal.at.begin-requires c).Else-buffer-record_size))
 
 pub tell_alpha-requires : goal.tell_alpha-requires
-tell_alpha-requires c =
-    (
-      ap (λ (m : Form). m.format.alpha) c.canvas_form-form.ensures ∙ canvas-alpha-is _ _ 1,
-      rw c.canvas_form-form.ensures (fits-as (long (goal.at.tell_alpha-requires c).After-begin) (room (goal.at.tell_alpha-requires c).Else-buffer-record_size)),
-    )
+tell_alpha-requires c = (
+  ap (λ (m : Form). m.format.alpha) c.canvas_form-form.ensures ∙ canvas-alpha-is _ _ 1,
+  rw c.canvas_form-form.ensures (fits-as (long (goal.at.tell_alpha-requires c).After-begin) (room (goal.at.tell_alpha-requires c).Else-buffer-record_size)),
+)
 
 pub tight-requires : goal.tight-requires
 tight-requires c = form-sound-of (goal.at.tight-requires c).After-canvas_form-form
