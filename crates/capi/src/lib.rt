@@ -3,16 +3,16 @@
 // length. Every call takes any bytes.
 #![tactic(auto)]
 
-mod canvas;
-mod composing;
-mod descriptors;
-mod fills;
-mod operation;
-mod properties;
-mod read;
-mod rooms;
-mod scaling;
-mod scenes;
-mod sentences;
-mod spots;
-mod writing;
+pub mod canvas;
+pub mod composing;
+pub mod descriptors;
+pub mod fills;
+pub mod operation;
+pub mod properties;
+pub mod read;
+pub mod rooms;
+pub mod scaling;
+pub mod scenes;
+pub mod sentences;
+pub mod spots;
+pub mod writing;
