@@ -1,1 +1,2 @@
+pub mod HullLaws
 pub mod ListLaws

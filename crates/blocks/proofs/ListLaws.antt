@@ -141,11 +141,6 @@ pub stretch-small : (o : Offset) (n : ℕ) (s : Stretch) → s ≡ stretch_of fa
 unfolding stretch_of side_of
 stretch-small o n s e a b = rw e (omega arith, omega arith)
 
-pub hull-worked : (c : ℕ) (o : Placement) (m : Form) (a b : Stretch) (t u : ℕ) → a ≡ stretch_of false o.horizontal m.width → b ≡ stretch_of false o.vertical m.height → t ≡ b.to - 1 → u ≡ min a.to c
-    → record { from = b.from * c + a.from; to = t * c + u } ≡ hull_of c o m
-unfolding hull_of
-hull-worked c o m a b t u e f g h = rw (g, h, e, f) refl
-
 -- between the ends of its hull
 hull-covers : (c : ℕ) (l : Layer) (x y : ℕ) → x < c → covers_at l x y ≡ true → ((hull_of c l.placement l.pic.form).from ≤ y * c + x) × (y * c + x < (hull_of c l.placement l.pic.form).to)
 unfolding hull_of covers_at base

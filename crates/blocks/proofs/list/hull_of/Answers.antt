@@ -2,7 +2,8 @@ use Prim.Native.Nat.{◌^◌, ◌≤◌}
 use native.Mathlib.Omega.{arith}
 use borrow.Author.Rules.{rules}
 use Rattle.laws.proofs.Order.{mul-below}
-use Rattle.blocks.proofs.ListLaws.{hull-worked, stretch-small}
+use Rattle.blocks.proofs.HullLaws.{hull-worked}
+use Rattle.blocks.proofs.ListLaws.{stretch-small}
 use Rattle.blocks.proofs.list.hull_of.Goals as goal
 use Rattle.blocks.proofs.list.hull_of.Goals.{After-reach-down}
 
