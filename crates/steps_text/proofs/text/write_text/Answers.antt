@@ -82,8 +82,3 @@ unfolding heading utf8 character_bytes pick
 returns c =
     text-stored _ _ _ _ _ _ _ c.loop-index.invariant.1 c.copy_row-end.ensures.0 c.copy_row-end.ensures.1
     (writing-done (writing-as c.loop-index.invariant.3 (going_end _ _ _ _ c.loop-index.size c.loop-index.invariant.2 c.loop-index-test.false)))
-
--- LOST
---
--- slice-aggregate-copy-row : tie.Need-slice-aggregate-copy-row invariant-loop decreases-loop
--- slice-aggregate-copy-row c = refl
