@@ -23,7 +23,7 @@ echo 'rt: chose --jobs 4 for capi'
 echo 'fn capi::call: proved'
 echo 'logic=proved functions=1'
 echo 'rt: chose --jobs 2 for capi_c'
-sleep 1
+sleep 2
 echo 'logic=proved functions=1'
 mkdir -p crates/capi_c/out && echo new > crates/capi_c/out/libcapi_c.a
 ";
