@@ -1,4 +1,6 @@
 -- Trays alike in all but their sample values are read alike, and the point calls answer alike on them: a law for each reader.
+use Rattle.laws.specs.declared.Item.TheVariants.{Record}
+use Rattle.std.specs.Prelude.{Ok, Err}
 use mathlib.Core.Bool.{Bool, not}
 use mathlib.Core.List.{List, [], ◌∷◌}
 use mathlib.Core.Path.{◌∙◌, ◌≡◌, ap, refl, sym}
@@ -7,12 +9,10 @@ use native.Mathlib.Omega.{arith}
 use lib.Dec.{eqb}
 use lib.ListN.{get_or, length}
 use Rattle.laws.proofs.Order.{apart, by_order, by-test, pick-false, pick_true}
-use Rattle.laws.proofs.Out.{about-done, and_then-done, done-same, refuse-done}
-use Rattle.laws.specs.Out.{Out, about, after, and_then, done, refuse, refuse_item, refused}
+use Rattle.laws.proofs.Out.{about-done, and_then-done, done-pair, done-same, refuse-done}
+use Rattle.laws.specs.Out.{Out, about, after, and_then, refuse, refuse_item}
 use Rattle.numbers.proofs.Number.{read-bounds, read-end, read-large, read-last, read_low, read_more, read_none}
 use Rattle.numbers.specs.Number.{on_number, read_from, read_number}
-use Rattle.numbers.specs.declared.NumberRead.{NumberRead}
-use Rattle.numbers.specs.declared.NumberRead.TheVariants.{Malformed, Number}
 use Rattle.records.proofs.RecordLaws.{on-number}
 use Rattle.image.specs.Format.{has_part, row_size, rows_of}
 use Rattle.records.specs.Record.{head_at, head_of, part_at, past, plane_at, planes_at, record_at}
@@ -21,7 +21,6 @@ use Rattle.image.specs.declared.format.Form.{Form}
 use Rattle.image.specs.declared.format.Part.{Part}
 use Rattle.image.specs.declared.format.Part.TheVariants.{Alpha, Cb, Cr, Luma}
 use Rattle.records.specs.declared.record.Frame.{Frame}
-use Rattle.records.specs.declared.record.Head.{Head}
 use Rattle.records.specs.declared.record.Plane.{Plane}
 use Rattle.derived.specs.Grid.{grid_of}
 use Rattle.derived.specs.Overlay.{overlay_of}
@@ -33,21 +32,21 @@ use Rattle.point.specs.Point.{Look, grid_look, grid_names, grid_point, look_on, 
 
 -- ---- runs step by step, of two that read the same
 
-on_same : {A : Type 0} (o u : NumberRead) (f g : ℕ → ℕ → Out A) → o ≡ u → ((v n : ℕ) → o ≡ Number v n → f v n ≡ g v n) → on_number o f ≡ on_number u g
+on_same : {A : Type 0} (o u : Out (ℕ × ℕ)) (f g : ℕ → ℕ → Out A) → o ≡ u → ((v n : ℕ) → o ≡ Ok (v, n) → f v n ≡ g v n) → on_number o f ≡ on_number u g
 unfolding on_number
-on_same o u f g e k = go o refl ∙ ap (λ (w : NumberRead). on_number w g) e
+on_same o u f g e k = go o refl ∙ ap (λ (w : Out (ℕ × ℕ)). on_number w g) e
   where
-    go : (w : NumberRead) → o ≡ w → on_number w f ≡ on_number w g
-    go (Number v n) q = k v n q
-    go Malformed q = refl
+    go : (w : Out (ℕ × ℕ)) → o ≡ w → on_number w f ≡ on_number w g
+    go (Ok (v, n)) q = k v n q
+    go (Err r) q = refl
 
-then-alike : {A B : Type 0} (o u : Out A) (f g : A → Out B) → o ≡ u → ((a : A) → o ≡ done a → f a ≡ g a) → and_then o f ≡ and_then u g
+then-alike : {A B : Type 0} (o u : Out A) (f g : A → Out B) → o ≡ u → ((a : A) → o ≡ Ok a → f a ≡ g a) → and_then o f ≡ and_then u g
 unfolding and_then
 then-alike {A} {B} o u f g e k = go o refl ∙ ap (λ (w : Out A). and_then w g) e
   where
     go : (w : Out A) → o ≡ w → and_then w f ≡ and_then w g
-    go (refused r) q = refl
-    go (done a) q = k a q
+    go (Err r) q = refl
+    go (Ok a) q = k a q
 
 module _ (s t : List ℕ) (long : length s ≡ length t) where
   fewer : (from to a b : ℕ) → from ≤ a → b ≤ to → SameBytes s t from to → SameBytes s t a b
@@ -57,7 +56,7 @@ module _ (s t : List ℕ) (long : length s ≡ length t) where
   -- ---- numbers
 
   -- one that was read depends on its own bytes
-  groups-same : (k i least w v x n : ℕ) → read_from k s i least w v ≡ Number x n → SameBytes s t i n → (i < n) × (read_from k t i least w v ≡ Number x n)
+  groups-same : (k i least w v x n : ℕ) → read_from k s i least w v ≡ Ok (x, n) → SameBytes s t i n → (i < n) × (read_from k t i least w v ≡ Ok (x, n))
   unfolding SameBytes
   groups-same zero i least w v x n e f = let q = read_none s i least w v in apart (cc)
   groups-same (suc k) i least w v x n e f =
@@ -72,9 +71,9 @@ module _ (s t : List ℕ) (long : length s ≡ length t) where
       by_order (v + get_or s i 0 * w) (2 ^ 32)
       (λ g.
       let q = read-last (suc k) s i least w v m h l p g in
-      let b : i + 1 ≡ n = cc in
+      let b : i + 1 ≡ n = (done-pair _ x _ n (sym q ∙ e)).1 in
       let z : get_or s i 0 ≡ get_or t i 0 = f i (omega arith) (omega arith) in
-      (omega arith, read-last (suc k) t i least w v m (rw long at h) (rw z at l) (rw z at p) (rw z at g) ∙ ap (λ (c : ℕ). Number (v + c * w) (i + 1)) (sym z) ∙ sym q ∙ e))
+      (omega arith, read-last (suc k) t i least w v m (rw long at h) (rw z at l) (rw z at p) (rw z at g) ∙ ap (λ (c : ℕ). Ok ((v + c * w), (i + 1))) (sym z) ∙ sym q ∙ e))
       (λ g. let q = read-large (suc k) s i least w v m h l p g in apart (cc))))
       (λ l.
       let q = read_more (suc k) s i least w v m h l in
@@ -93,7 +92,7 @@ module _ (s t : List ℕ) (long : length s ≡ length t) where
       (λ h. rw (f i (omega arith) h, ← long, rest-same k (i + 1) 1 (w * 128) (v + (get_or t i 0 - 128) * w) (λ c a b. f c (omega arith) b)))
       (λ h. read-end (suc k) s i least w v (omega arith) h ∙ sym (read-end (suc k) t i least w v (omega arith) (rw long at h)))
 
-  number_same : (at v n : ℕ) → read_number s at ≡ Number v n → SameBytes s t at n → read_number t at ≡ Number v n
+  number_same : (at v n : ℕ) → read_number s at ≡ Ok (v, n) → SameBytes s t at n → read_number t at ≡ Ok (v, n)
   unfolding read_number
   number_same at v n e f = (groups-same 5 at 0 1 0 v n e f).1
 
@@ -101,17 +100,17 @@ module _ (s t : List ℕ) (long : length s ≡ length t) where
   unfolding read_number
   number-rest at f = rest-same 5 at 0 1 0 f
 
-  same_number : (at : ℕ) (k : ℕ → ℕ → Type 0) → SameNumber s t at (read_number s at) k → (read_number s at ≡ read_number t at) × ((v n : ℕ) → read_number s at ≡ Number v n → k v n)
+  same_number : (at : ℕ) (k : ℕ → ℕ → Type 0) → SameNumber s t at (read_number s at) k → (read_number s at ≡ read_number t at) × ((v n : ℕ) → read_number s at ≡ Ok (v, n) → k v n)
   unfolding SameNumber
   same_number at k h = (go (read_number s at) refl h, λ v n e. (rw e at h).1)
     where
-      go : (o : NumberRead) → read_number s at ≡ o → SameNumber s t at o k → read_number s at ≡ read_number t at
-      go (Number v n) e f = e ∙ sym (number_same at v n e f.0)
-      go Malformed e f = number-rest at f
+      go : (o : Out (ℕ × ℕ)) → read_number s at ≡ o → SameNumber s t at o k → read_number s at ≡ read_number t at
+      go (Ok (v, n)) e f = e ∙ sym (number_same at v n e f.0)
+      go (Err r) e f = number-rest at f
 
   -- ---- headers
 
-  head-same : (at : ℕ) (h : Head) → head_at s at ≡ done h → SameBytes s t at h.next → head_at s at ≡ head_at t at
+  head-same : (at : ℕ) (h : Form × ℕ) → head_at s at ≡ Ok h → SameBytes s t at h.1 → head_at s at ≡ head_at t at
   unfolding head_at head_of on_number
   head-same at h e f =
       let a = on-number _ _ h e in
@@ -120,7 +119,7 @@ module _ (s t : List ℕ) (long : length s ≡ length t) where
       let d = on-number _ _ h c.3 in
       let g = on-number _ _ h d.3 in
       let u = and_then-done _ _ h g.3 in
-      let z : g.1 ≡ h.next = ap (λ (x : Head). x.next) (done-same _ h u.2) in
+      let z : g.1 ≡ h.1 = ap (λ (x : Form × ℕ). x.1) (done-same _ h u.2) in
       let a' = (read-bounds s _ _ _ a.2).2 in
       let b' = (read-bounds s _ _ _ b.2).2 in
       let c' = (read-bounds s _ _ _ c.2).2 in
@@ -128,15 +127,15 @@ module _ (s t : List ℕ) (long : length s ≡ length t) where
       let g' = (read-bounds s _ _ _ g.2).2 in
       rw (
         a.2,
-        number_same at _ _ a.2 (fewer at h.next at a.1 (omega arith) (omega arith) f),
+        number_same at _ _ a.2 (fewer at h.1 at a.1 (omega arith) (omega arith) f),
         b.2,
-        number_same a.1 _ _ b.2 (fewer at h.next a.1 b.1 (omega arith) (omega arith) f),
+        number_same a.1 _ _ b.2 (fewer at h.1 a.1 b.1 (omega arith) (omega arith) f),
         c.2,
-        number_same b.1 _ _ c.2 (fewer at h.next b.1 c.1 (omega arith) (omega arith) f),
+        number_same b.1 _ _ c.2 (fewer at h.1 b.1 c.1 (omega arith) (omega arith) f),
         d.2,
-        number_same c.1 _ _ d.2 (fewer at h.next c.1 d.1 (omega arith) (omega arith) f),
+        number_same c.1 _ _ d.2 (fewer at h.1 c.1 d.1 (omega arith) (omega arith) f),
         g.2,
-        number_same d.1 _ _ g.2 (fewer at h.next d.1 g.1 (omega arith) (omega arith) f),
+        number_same d.1 _ _ g.2 (fewer at h.1 d.1 g.1 (omega arith) (omega arith) f),
       )
 
   head-rest : (at : ℕ) → SameBytes s t at (length s) → head_at s at ≡ head_at t at
@@ -148,16 +147,16 @@ module _ (s t : List ℕ) (long : length s ≡ length t) where
       on_same _ _ _ _ (number-rest c (later b c r (later a b q (later at a p f)))) (λ depth d u.
       on_same _ _ _ _ (number-rest d (later c d u (later b c r (later a b q (later at a p f))))) (λ alpha e v. refl)))))
     where
-      later : (i n : ℕ) {v : ℕ} → read_number s i ≡ Number v n → SameBytes s t i (length s) → SameBytes s t n (length s)
+      later : (i n : ℕ) {v : ℕ} → read_number s i ≡ Ok (v, n) → SameBytes s t i (length s) → SameBytes s t n (length s)
       later i n e g = fewer i (length s) n (length s) (omega (arith, (read-bounds s i _ n e).2)) (omega arith) g
 
-  same_head : (at : ℕ) (k : Head → Type 0) → SameHead s t at (head_at s at) k → (head_at s at ≡ head_at t at) × ((h : Head) → head_at s at ≡ done h → k h)
+  same_head : (at : ℕ) (k : Form × ℕ → Type 0) → SameHead s t at (head_at s at) k → (head_at s at ≡ head_at t at) × ((h : Form × ℕ) → head_at s at ≡ Ok h → k h)
   unfolding SameHead
   same_head at k h = (go (head_at s at) refl h, λ x e. (rw e at h).1)
     where
-      go : (o : Out Head) → head_at s at ≡ o → SameHead s t at o k → head_at s at ≡ head_at t at
-      go (refused r) e f = head-rest at f
-      go (done x) e f = head-same at x e f.0
+      go : (o : Out (Form × ℕ)) → head_at s at ≡ o → SameHead s t at o k → head_at s at ≡ head_at t at
+      go (Err r) e f = head-rest at f
+      go (Ok x) e f = head-same at x e f.0
 
   -- ---- planes
 
@@ -170,7 +169,7 @@ module _ (s t : List ℕ) (long : length s ≡ length t) where
         let b = same_number n _ (a.1 stride n e) in
         on_same _ _ _ _ b.0 (λ len m q. rw long))
 
-    plane-next : (q : Plane) → plane_at s at rows row ≡ done q → k (past q)
+    plane-next : (q : Plane) → plane_at s at rows row ≡ Ok q → k (past q)
     unfolding plane_at past
     plane-next q e =
         let a = on-number _ _ q e in
@@ -189,14 +188,14 @@ module _ (s t : List ℕ) (long : length s ≡ length t) where
         (λ e. pick_true _ _ _ e ∙ plane-same at (rows_of m p) (row_size m p) (λ a. SameParts s t m ps a k) (rw (pick_true _ _ _ e) at h) ∙ sym (pick_true _ _ _ e))
         (λ e. pick-false _ _ _ e ∙ sym (pick-false _ _ _ e))
 
-    part-next : (q : Plane) → part_at s at m p ≡ done q → SameParts s t m ps (past q) k
+    part-next : (q : Plane) → part_at s at m p ≡ Ok q → SameParts s t m ps (past q) k
     unfolding part_at SameParts past
     part-next q f =
         by-test (has_part m.format p)
         (λ e. plane-next at (rows_of m p) (row_size m p) (λ a. SameParts s t m ps a k) (rw (pick_true _ _ _ e) at h) q (sym (pick_true _ _ _ e) ∙ f))
         (λ e. none q (sym (pick-false _ _ _ e) ∙ f) (rw (pick-false _ _ _ e) at h))
       where
-        none : (q : Plane) → done (record { start = at; len = 0; stride = 0 }) ≡ done q → SameParts s t m ps at k → SameParts s t m ps (past q) k
+        none : (q : Plane) → ◌≡◌ {A = Out Plane} (Ok (record { start = at; len = 0; stride = 0 })) (Ok q) → SameParts s t m ps at k → SameParts s t m ps (past q) k
         none q e g =
             let w : at ≡ q.start + q.len = omega (arith, ap (λ (x : Plane). x.start + x.len) (done-same _ q e)) in
             rw w at g
@@ -216,7 +215,7 @@ module _ (s t : List ℕ) (long : length s ≡ length t) where
         let l = part-next m Cr (Alpha ∷ []) (past cb) k j cr c in
         then-alike _ _ _ _ (part_same m Alpha [] (past cr) k l) (λ alpha d. refl))))
 
-    planes-next : (fr : Frame) → planes_at s at m ≡ done fr → k fr.end
+    planes-next : (fr : Frame) → planes_at s at m ≡ Ok fr → k fr.end
     unfolding planes_at SameParts
     planes-next fr e =
         let a = and_then-done _ _ fr e in
@@ -231,28 +230,28 @@ module _ (s t : List ℕ) (long : length s ≡ length t) where
 
   -- ---- records
 
-  module _ (at : ℕ) (k : ℕ → Type 0) (h : SameHead s t at (head_at s at) (λ x. SameParts s t x.form parts x.next k)) where
+  module _ (at : ℕ) (k : ℕ → Type 0) (h : SameHead s t at (head_at s at) (λ x. SameParts s t x.0 parts x.1 k)) where
     record_same : record_at s at ≡ record_at t at
     unfolding record_at
-    record_same = let a = same_head at _ h in then-alike _ _ _ _ a.0 (λ x e. planes-same x.form x.next k (a.1 x e))
+    record_same = let a = same_head at _ h in then-alike _ _ _ _ a.0 (λ x e. planes-same x.0 x.1 k (a.1 x e))
 
-    record-next : (fr : Frame) → record_at s at ≡ done fr → k fr.end
+    record-next : (fr : Frame) → record_at s at ≡ Ok fr → k fr.end
     unfolding record_at
-    record-next fr e = let b = and_then-done _ _ fr e in planes-next b.0.form b.0.next k ((same_head at _ h).1 b.0 b.1) fr b.2
+    record-next fr e = let b = and_then-done _ _ fr e in planes-next b.0.0 b.0.1 k ((same_head at _ h).1 b.0 b.1) fr b.2
 
   records-same : (n at : ℕ) → SameRecords n s t at → frames_at n s at ≡ frames_at n t at
   unfolding frames_at SameRecords
   records-same zero at h = rw long
   records-same (suc n) at h =
-      then-alike _ _ _ _ (ap (about 1 0) (record_same at (λ a. SameRecords n s t a) h)) (λ fr e.
-      then-alike _ _ _ _ (ap (after 1) (records-same n fr.end (record-next at (λ a. SameRecords n s t a) h fr (about-done 1 0 _ _ e)))) (λ frs q. refl))
+      then-alike _ _ _ _ (ap (about Record 0) (record_same at (λ a. SameRecords n s t a) h)) (λ fr e.
+      then-alike _ _ _ _ (ap (after 1) (records-same n fr.end (record-next at (λ a. SameRecords n s t a) h fr (about-done Record 0 _ _ e)))) (λ frs q. refl))
 
 -- ---- trays
 
 pub same_count : (s t : List ℕ) → SameTray s t → read_number s 0 ≡ read_number t 0
 same_count s t h = (same_number s t h.long 0 _ h.bytes).0
 
-pub same-frames : (s t : List ℕ) → SameTray s t → (n at : ℕ) → read_number s 0 ≡ Number n at → frames_at n s at ≡ frames_at n t at
+pub same-frames : (s t : List ℕ) → SameTray s t → (n at : ℕ) → read_number s 0 ≡ Ok (n, at) → frames_at n s at ≡ frames_at n t at
 same-frames s t h n at e = records-same s t h.long n at ((same_number s t h.long 0 (λ n at. SameRecords n s t at) h.bytes).1 n at e)
 
 -- ---- the point calls
@@ -274,8 +273,8 @@ overlay-looks body s t chain flag list h =
     sym (on_same _ _ _ _ (same_count s t h) (λ n at e.
     ap (λ (o : Out (List Frame)).
     and_then (chain_at chain 0) (λ es.
-    and_then (and_then (overlay_of body n) (λ d. refuse (eqb n 0) 15 (refuse (not (eqb (length list) n)) 11 (and_then o (λ frs. refuse_item 1 (other_depth_of (first_format frs)) 14 frs (done (record { descriptor = d; frames = frs })))))))
-    (λ q. refuse_item 1 see_through_frame 18 q.frames (look_on es flag q.descriptor.output_width q.descriptor.output_height (overlay_names body q)))))
+    and_then (and_then (overlay_of body n) (λ d. refuse (eqb n 0) 15 (refuse (not (eqb (length list) n)) 11 (and_then o (λ frs. refuse_item Record (other_depth_of (first_format frs)) 14 frs (Ok (record { descriptor = d; frames = frs })))))))
+    (λ q. refuse_item Record see_through_frame 18 q.frames (look_on es flag q.descriptor.output_width q.descriptor.output_height (overlay_names body q)))))
     (same-frames s t h n at e)))
 
 pub overlay-blind : (body s t chain : List ℕ) (flag : Bool) (list : List ℕ) (x y : ℕ) → SameTray s t → overlay_point body t chain flag list x y ≡ overlay_point body s chain flag list x y

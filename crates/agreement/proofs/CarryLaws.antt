@@ -1,5 +1,6 @@
 -- The rectangle of a chain is what its entries, one by one, do not crop away, and its turn carries each place that stays to where they
 -- do.
+use Rattle.std.specs.Prelude.{Ok}
 use mathlib.Core.Bool.{Bool, false, true}
 use mathlib.Core.List.{List, [], ◌∷◌}
 use mathlib.Core.Path.{◌∙◌, ◌≡◌, ap, ap₂, refl, sym}
@@ -8,7 +9,6 @@ use native.Mathlib.Omega.{arith}
 use borrow.Author.Tests.{le-leb, leb-true, lt-ltb, ltb-true}
 use Rattle.laws.proofs.Order.{and-true, apart, by-test, pick-false, pick_true, true-and}
 use Rattle.laws.proofs.Out.{Same, alike, both, holds-done, same_left, then-both}
-use Rattle.laws.specs.Out.{done}
 use Rattle.laws.specs.Pick.{pick}
 use Rattle.image.specs.Format.{odd}
 use Rattle.sizes.proofs.ApertureLaws.{resolve-holds}
@@ -249,8 +249,8 @@ chain-goes es flag w h l i j =
 
 -- THE RECTANGLE IS WHAT STAYS: where the chain is accepted, each place of the picture is carried to where the turn carries it, or
 -- cropped away and outside the rectangle
-pub sight-carries : (es : List PropertyEntry) (flag : Bool) (w h : ℕ) (l : Place) → l.x < w → l.y < h → (s : Sight) → sight_of es flag w h ≡ done s
-    → (c : Tracked) × (carry_of es flag w h l ≡ done c) × Follows w h l s c
+pub sight-carries : (es : List PropertyEntry) (flag : Bool) (w h : ℕ) (l : Place) → l.x < w → l.y < h → (s : Sight) → sight_of es flag w h ≡ Ok s
+    → (c : Tracked) × (carry_of es flag w h l ≡ Ok c) × Follows w h l s c
 sight-carries es flag w h l i j s e =
     let g = same_left _ _ _ (chain-goes es flag w h l i j) s e in (
       g.0,
@@ -265,8 +265,8 @@ sight-carries es flag w h l i j s e =
     )
 
 -- the canvas place that a final place shows is carried to it
-pub back-carried : (es : List PropertyEntry) (flag : Bool) (w h : ℕ) (s : Sight) → 1 ≤ w → 1 ≤ h → sight_of es flag w h ≡ done s → (x y : ℕ) → x < final_width s → y < final_height s
-    → (c : Tracked) × (carry_of es flag w h (back s x y) ≡ done c) × (c.place ≡ kept (record { x = x; y = y }))
+pub back-carried : (es : List PropertyEntry) (flag : Bool) (w h : ℕ) (s : Sight) → 1 ≤ w → 1 ≤ h → sight_of es flag w h ≡ Ok s → (x y : ℕ) → x < final_width s → y < final_height s
+    → (c : Tracked) × (carry_of es flag w h (back s x y) ≡ Ok c) × (c.place ≡ kept (record { x = x; y = y }))
 unfolding Ends
 back-carried es flag w h s i j e x y a b =
     let n = back_in s w h k x y a b in

@@ -1,4 +1,5 @@
 -- A chain on a composed picture and the point run on its size: they agree, for any naming of places that the picture reads by.
+use Rattle.std.specs.Prelude.{Ok, Err}
 use mathlib.Core.Bool.{Bool, true}
 use mathlib.Core.List.{List, []}
 use mathlib.Core.Path.{◌∙◌, ◌≡◌, ap, refl, sym}
@@ -7,7 +8,7 @@ use native.Mathlib.Omega.{arith}
 use lib.ListN.{length}
 use borrow.Author.Tests.{le-ltb, leb-false}
 use Rattle.laws.proofs.Out.{Holds, Same, alike, and_then-done, both, done-same, holds-done, refuse-done, refuse-no, then-done}
-use Rattle.laws.specs.Out.{Out, and_then, done, refused}
+use Rattle.laws.specs.Out.{Out, and_then}
 use Rattle.laws.specs.Pick.{pick}
 use Rattle.image.proofs.FormLaws.{cover-in}
 use Rattle.image.specs.Format.{Covers, columns_of, half_x, half_y, has_part, rows_of}
@@ -48,10 +49,10 @@ use Rattle.point.specs.declared.Spot.{Spot}
 unfoldable Carries : Drawn → Pic → Type 0
 Carries d Q = d.pic ≡ Q
 
-carried : (o : Out Pic) (n : ℕ) → Same Carries (and_then o (λ Q. done (record { pic = Q; longest = max n (length (encode Q)) }))) o
+carried : (o : Out Pic) (n : ℕ) → Same Carries (and_then o (λ Q. Ok (record { pic = Q; longest = max n (length (encode Q)) }))) o
 unfolding and_then Carries
-carried (refused r) n = alike
-carried (done Q) n = both refl
+carried (Err r) n = alike
+carried (Ok Q) n = both refl
 
 drawn-after : (p : Property) (d : Drawn) (Q : Pic) → Unit {0} → Carries d Q → Same Carries (drawn_after p d) (pic_after scaled p Q)
 unfolding drawn_after Carries
@@ -76,7 +77,7 @@ same-holds H R o u h (both {a = a} {b = b} r) = both (h, r)
 
 -- it is a record, and shows the picture
 abbrev pub ReadsBack : Pic → Type 0
-ReadsBack Q = (record_of (encode Q) ≡ done (tight_at Q.form 0)) × Agree (decode (encode Q) (tight_at Q.form 0)) Q
+ReadsBack Q = (record_of (encode Q) ≡ Ok (tight_at Q.form 0)) × Agree (decode (encode Q) (tight_at Q.form 0)) Q
 
 pictured : (Q : Pic) → ReadsBack Q → (M : Pic → Type 0) → ((D : Pic) → Agree D Q → M D) → Pictured (encode Q) M
 pictured Q k M f = record { frame = tight_at Q.form 0; taken = k.0; holds = f _ k.1 }
@@ -118,15 +119,15 @@ module _ (reads : Named → Part → ℕ) (P : Pic) (names : Place → Named)
     (x y : ℕ) where
   -- what is answered at a place of the composed picture
   abbrev answer : Sight → Place → Out Point
-  answer s l = done (record { named = names l; sight = s })
+  answer s l = Ok (record { named = names l; sight = s })
 
-  at_place : (Q : Pic) (s : Sight) → ReadsBack Q → Seen P Q s → (o : Out Place) → PlaceAgrees P Q x y o → Agreement reads x y (done (encode Q)) (and_then o (answer s))
+  at_place : (Q : Pic) (s : Sight) → ReadsBack Q → Seen P Q s → (o : Out Place) → PlaceAgrees P Q x y o → Agreement reads x y (Ok (encode Q)) (and_then o (answer s))
   unfolding PlaceAgrees and_then
-  at_place Q s h v (refused r) k = rw k.0 (outside (pictured Q h _ (λ D e. not_in D e k.1)))
+  at_place Q s h v (Err r) k = rw k.0 (outside (pictured Q h _ (λ D e. not_in D e k.1)))
     where
       not_in : (D : Pic) → Agree D Q → (x < Q.form.width → y < Q.form.height → ⊥) → x < D.form.width → y < D.form.height → ⊥
       not_in D e f = rw e.form f
-  at_place Q s h v (done l) k =
+  at_place Q s h v (Ok l) k =
       inside
       (pictured Q h _
       (λ D e. shown-agree reads D Q _ x y e
@@ -139,7 +140,7 @@ module _ (reads : Named → Part → ℕ) (P : Pic) (names : Place → Named)
       })))
 
   -- there is room
-  room-is : (d : Drawn) (output spare : ℕ) → d.longest ≤ output → d.longest ≤ spare → room_for output spare d ≡ done (encode d.pic)
+  room-is : (d : Drawn) (output spare : ℕ) → d.longest ≤ output → d.longest ≤ spare → room_for output spare d ≡ Ok (encode d.pic)
   unfolding room_for
   room-is d output spare l m = refuse-no _ _ (le-ltb output d.longest l) ∙ refuse-no _ _ (le-ltb spare d.longest m)
 
@@ -178,19 +179,19 @@ whole_back : (w h u v : ℕ) → back (whole w h) u v ≡ record { x = u; y = v 
 unfolding whole back back_from exchange quarter_of unturn pick
 whole_back w h u v = place-path (omega arith) (omega arith)
 
-whole-place : (w h u v : ℕ) → u < w → v < h → source_place (whole w h) u v ≡ done (record { x = u; y = v })
+whole-place : (w h u v : ℕ) → u < w → v < h → source_place (whole w h) u v ≡ Ok (record { x = u; y = v })
 unfolding whole final_width final_height wide_of high_of quarter_of sideways swaps pick
-whole-place w h u v l m = place_in (whole w h) u v l m ∙ ap done (whole_back w h u v)
+whole-place w h u v l m = place_in (whole w h) u v l m ∙ ap Ok (whole_back w h u v)
 
 whole-sides : (w h : ℕ) → (final_width (whole w h) ≡ w) × (final_height (whole w h) ≡ h)
 unfolding whole final_width final_height wide_of high_of quarter_of sideways swaps pick
 whole-sides w h = (refl, refl)
 
-whole-sight : (flag : Bool) (w h : ℕ) (s : Sight) → sight_of [] flag w h ≡ done s → whole w h ≡ s
+whole-sight : (flag : Bool) (w h : ℕ) (s : Sight) → sight_of [] flag w h ≡ Ok s → whole w h ≡ s
 unfolding sight_of fold_chain
 whole-sight flag w h s e = done-same _ s e
 
-bare-point : (flag : Bool) (w h u v : ℕ) (names : Place → Named) → u < w → v < h → point_on [] flag w h u v names ≡ done (record { named = names (record { x = u; y = v }); sight = whole w h })
+bare-point : (flag : Bool) (w h u v : ℕ) (names : Place → Named) → u < w → v < h → point_on [] flag w h u v names ≡ Ok (record { named = names (record { x = u; y = v }); sight = whole w h })
 unfolding point_on point_from sight_of fold_chain and_then
 bare-point flag w h u v names l m = then-done _ (whole-place w h u v l m)
 
@@ -205,14 +206,14 @@ module _ (w h : ℕ) (wide : 1 ≤ w) (tall : 1 ≤ h) (es : List PropertyEntry)
 
   -- a point run that answers: the canvas place that it names
   record Answered (x y : ℕ) (a : Point) : Type 0 where
-    sighted : sight_of es flag w h ≡ done a.sight
+    sighted : sight_of es flag w h ≡ Ok a.sight
     across : x < final_width a.sight
     down : y < final_height a.sight
     column : (back a.sight x y).x < w
     row : (back a.sight x y).y < h
     named : names (back a.sight x y) ≡ a.named
 
-  answered : (x y : ℕ) (a : Point) → pointed x y ≡ done a → Answered x y a
+  answered : (x y : ℕ) (a : Point) → pointed x y ≡ Ok a → Answered x y a
   unfolding point_on point_from source_place
   answered x y a e =
       let i = and_then-done _ _ a e in
@@ -225,11 +226,11 @@ module _ (w h : ℕ) (wide : 1 ≤ w) (tall : 1 ≤ h) (es : List PropertyEntry)
       let down : y < final_height i.0 = leb-false _ _ g.0 in
       let q : back i.0 x y ≡ j.0 = done-same _ _ g.1 in
       let b = back_in i.0 w h (holds-done (λ (z : Sight). Inside z.area w h) _ i.0 (sight-inside es flag w h wide tall) i.1) x y across down in
-      record { sighted = i.1 ∙ ap done s; across = rw s at across; down = rw s at down; column = rw s at b.0; row = rw s at b.1; named = ap (λ (z : Sight). names (back z x y)) (sym s) ∙ ap names q ∙ n }
+      record { sighted = i.1 ∙ ap Ok s; across = rw s at across; down = rw s at down; column = rw s at b.0; row = rw s at b.1; named = ap (λ (z : Sight). names (back z x y)) (sym s) ∙ ap names q ∙ n }
 
   -- no two places name one spot, if no two places of the canvas do
   pub chain-once : ((l m : Place) (k : Spot) → l.x < w → l.y < h → m.x < w → m.y < h → names l ≡ Named.Spot k → names m ≡ Named.Spot k → l ≡ m)
-      → (x y u v : ℕ) (a b : Point) (k : Spot) → pointed x y ≡ done a → pointed u v ≡ done b → a.named ≡ Named.Spot k → b.named ≡ Named.Spot k → (x ≡ u) × (y ≡ v)
+      → (x y u v : ℕ) (a b : Point) (k : Spot) → pointed x y ≡ Ok a → pointed u v ≡ Ok b → a.named ≡ Named.Spot k → b.named ≡ Named.Spot k → (x ≡ u) × (y ≡ v)
   chain-once apart x y u v a b k p q e f =
       let i = answered x y a p in
       let j = answered u v b q in
@@ -238,7 +239,7 @@ module _ (w h : ℕ) (wide : 1 ≤ w) (tall : 1 ≤ h) (es : List PropertyEntry)
       (apart (back a.sight x y) (back a.sight u v) k i.column i.row (rw s j.column) (rw s j.row) (i.named ∙ e) (rw s j.named ∙ f))
 
   -- what holds of the names of all places of the canvas
-  pub chain-names : (M : Named → Type 0) → ((l : Place) → l.x < w → l.y < h → M (names l)) → (x y : ℕ) (a : Point) → pointed x y ≡ done a → M a.named
+  pub chain-names : (M : Named → Type 0) → ((l : Place) → l.x < w → l.y < h → M (names l)) → (x y : ℕ) (a : Point) → pointed x y ≡ Ok a → M a.named
   chain-names M f x y a e =
       let i = answered x y a e in
       rw i.named at (f (back a.sight x y) i.column i.row)
@@ -250,7 +251,7 @@ module _ (w h : ℕ) (wide : 1 ≤ w) (tall : 1 ≤ h) (es : List PropertyEntry)
     column : u < w
     row : v < h
 
-  canvas : (u v : ℕ) (b : Point) → bare u v ≡ done b → Canvas u v b
+  canvas : (u v : ℕ) (b : Point) → bare u v ≡ Ok b → Canvas u v b
   unfolding point_on point_from source_place
   canvas u v b e =
       let i = and_then-done _ _ b e in
@@ -266,11 +267,11 @@ module _ (w h : ℕ) (wide : 1 ≤ w) (tall : 1 ≤ h) (es : List PropertyEntry)
       record { width = sym (ap final_width s) ∙ wide; height = sym (ap final_height s) ∙ high; column = rw wide at across; row = rw high at down }
 
   -- the rectangle and the turn of an answer are the chain's
-  pub chain-sighted : (x y u v : ℕ) (a b : Point) → pointed x y ≡ done a → bare u v ≡ done b → sight_of es flag (canvas_width b) (canvas_height b) ≡ done a.sight
+  pub chain-sighted : (x y u v : ℕ) (a b : Point) → pointed x y ≡ Ok a → bare u v ≡ Ok b → sight_of es flag (canvas_width b) (canvas_height b) ≡ Ok a.sight
   chain-sighted x y u v a b p q = let c = canvas u v b q in rw (c.width, c.height) (answered x y a p).sighted
 
   -- the rectangle is what stays
-  pub chain-stays : (u v : ℕ) (b : Point) (s : Sight) → bare u v ≡ done b → sight_of es flag (canvas_width b) (canvas_height b) ≡ done s
+  pub chain-stays : (u v : ℕ) (b : Point) (s : Sight) → bare u v ≡ Ok b → sight_of es flag (canvas_width b) (canvas_height b) ≡ Ok s
       → CarriedTo (carry_of es flag) (canvas_width b) (canvas_height b) (record { x = u; y = v }) s
   chain-stays u v b s q e =
       let c = canvas u v b q in
@@ -278,7 +279,7 @@ module _ (w h : ℕ) (wide : 1 ≤ w) (tall : 1 ≤ h) (es : List PropertyEntry)
       record { end = k.0; carried = k.1; follows = k.2 }
 
   -- a final place names what the canvas place that is carried there names
-  pub chain-through : (x y : ℕ) (a : Point) → pointed x y ≡ done a → CarriedFrom (carry_of es flag) bare a x y
+  pub chain-through : (x y : ℕ) (a : Point) → pointed x y ≡ Ok a → CarriedFrom (carry_of es flag) bare a x y
   chain-through x y a e =
       let i = answered x y a e in
       let c = back-carried es flag w h a.sight wide tall i.sighted x y i.across i.down in

@@ -1,13 +1,13 @@
 -- A point call as one run: the steps before the place, then the place.
+use Rattle.laws.specs.declared.Item.TheVariants.{Record}
+use Rattle.std.specs.Prelude.{Ok, Err}
 use mathlib.Core.Bool.{Bool}
 use mathlib.Core.List.{List}
 use mathlib.Core.Path.{◌∙◌, ◌≡◌, ap, refl}
 use Prim.Native.Nat.{ℕ}
 use Rattle.laws.proofs.Out.{item-then}
-use Rattle.laws.specs.Out.{Out, and_then, done, refuse_item, refused}
+use Rattle.laws.specs.Out.{Out, and_then, refuse_item}
 use Rattle.numbers.specs.Number.{on_number, read_number}
-use Rattle.numbers.specs.declared.NumberRead.{NumberRead}
-use Rattle.numbers.specs.declared.NumberRead.TheVariants.{Malformed, Number}
 use Rattle.props.specs.Chain.{chain_at}
 use Rattle.props.specs.declared.entry.PropertyEntry.{PropertyEntry}
 use Rattle.motions.specs.Place.{Place}
@@ -26,13 +26,13 @@ point_on es flag width height x y names = and_then (sight_of es flag width heigh
 
 then-then : {A B C : Type 0} (o : Out A) (f : A → Out B) (g : B → Out C) (h : A → Out C) → ((a : A) → and_then (f a) g ≡ h a) → and_then (and_then o f) g ≡ and_then o h
 unfolding and_then
-then-then (refused r) f g h k = refl
-then-then (done a) f g h k = k a
+then-then (Err r) f g h k = refl
+then-then (Ok a) f g h k = k a
 
-number-then : {B C : Type 0} (o : NumberRead) (f : ℕ → ℕ → Out B) (g : B → Out C) (h : ℕ → ℕ → Out C) → ((n at : ℕ) → and_then (f n at) g ≡ h n at) → and_then (on_number o f) g ≡ on_number o h
+number-then : {B C : Type 0} (o : Out (ℕ × ℕ)) (f : ℕ → ℕ → Out B) (g : B → Out C) (h : ℕ → ℕ → Out C) → ((n at : ℕ) → and_then (f n at) g ≡ h n at) → and_then (on_number o f) g ≡ on_number o h
 unfolding and_then on_number
-number-then (Number n at) f g h k = k n at
-number-then Malformed f g h k = refl
+number-then (Ok (n, at)) f g h k = k n at
+number-then (Err r) f g h k = refl
 
 look-point : (es : List PropertyEntry) (flag : Bool) (w h x y : ℕ) (names : Place → Named) → and_then (look_on es flag w h names) (λ k. point_from k x y) ≡ point_on es flag w h x y names
 unfolding look_on point_on and_then
@@ -62,7 +62,7 @@ overlay_steps body tray chain flag list x y =
     on_number (read_number tray 0) (λ n at.
     and_then (chain_at chain 0) (λ es.
     and_then (inputs_at body tray list n at) (λ q.
-    refuse_item 1 see_through_frame 18 q.frames
+    refuse_item Record see_through_frame 18 q.frames
     (point_on es flag q.descriptor.output_width q.descriptor.output_height x y (overlay_names body q)))))
 
 pub overlay-steps : (body tray chain : List ℕ) (flag : Bool) (list : List ℕ) (x y : ℕ) → overlay_point body tray chain flag list x y ≡ overlay_steps body tray chain flag list x y
@@ -71,4 +71,4 @@ overlay-steps body tray chain flag list x y =
     number-then (read_number tray 0) _ _ _ (λ n at.
     then-then (chain_at chain 0) _ _ _ (λ es.
     then-then (inputs_at body tray list n at) _ _ _ (λ q.
-    item-then 1 _ 18 _ _ _ ∙ ap (refuse_item 1 see_through_frame 18 q.frames) (look-point es flag _ _ x y (overlay_names body q)))))
+    item-then Record _ 18 _ _ _ ∙ ap (refuse_item Record see_through_frame 18 q.frames) (look-point es flag _ _ x y (overlay_names body q)))))

@@ -1,8 +1,9 @@
 -- What a picture run and the point runs over the same descriptor, tray, chain and settings have to do with each other, in the words of
 -- document 01 ("Point call"): demand 3 is said with these.
+use Rattle.std.specs.Prelude.{Ok, Err}
 use Rattle.std.specs.Prelude.{Bool, false, true, List, [], ◌∷◌, ◌≡◌, ◌<◌, ◌≤◌, ℕ}
 use Rattle.laws.specs.Any.{any}
-use Rattle.laws.specs.Out.{Out, and_then, done, reason, refused}
+use Rattle.laws.specs.Out.{Out, and_then, reason}
 use Rattle.laws.specs.declared.Refusal.{Refusal}
 use Rattle.image.specs.Format.{Covers, has_part}
 use Rattle.image.specs.declared.format.Part.{Part}
@@ -37,18 +38,18 @@ pub record Shown (reads : Named → Part → ℕ) (Q : Pic) (a : Point) (x y : �
 -- the bytes that a picture run writes are a record; of its picture something holds
 pub record Pictured (bytes : List ℕ) (M : Pic → Type 0) : Type 0 where
   pub frame : Frame
-  pub taken : record_of bytes ≡ done frame
+  pub taken : record_of bytes ≡ Ok frame
   pub holds : M (decode bytes frame)
 
 -- the same refusal; or 18 for a place outside the final picture; or an answer, and the final picture shows what it names
 pub data Agreement (reads : Named → Part → ℕ) (x y : ℕ) : Out (List ℕ) → Out Point → Type 0 where
-  alike : {r : Refusal} → Agreement reads x y (refused r) (refused r)
-  outside : {bytes : List ℕ} → Pictured bytes (λ Q. x < Q.form.width → y < Q.form.height → ⊥) → Agreement reads x y (done bytes) (refused (reason 18))
-  inside : {bytes : List ℕ} {a : Point} → Pictured bytes (λ Q. Shown reads Q a x y) → Agreement reads x y (done bytes) (done a)
+  alike : {r : Refusal} → Agreement reads x y (Err r) (Err r)
+  outside : {bytes : List ℕ} → Pictured bytes (λ Q. x < Q.form.width → y < Q.form.height → ⊥) → Agreement reads x y (Ok bytes) (Err (reason 18))
+  inside : {bytes : List ℕ} {a : Point} → Pictured bytes (λ Q. Shown reads Q a x y) → Agreement reads x y (Ok bytes) (Ok a)
 
 -- enough room: output and spare are as long as the longest record of the run
 unfoldable pub Room : Out Drawn → ℕ → ℕ → Type 0
-Room o output spare = (d : Drawn) → o ≡ done d → (d.longest ≤ output) × (d.longest ≤ spare)
+Room o output spare = (d : Drawn) → o ≡ Ok d → (d.longest ≤ output) × (d.longest ≤ spare)
 
 -- ---- what the entries of a chain make of a canvas
 
@@ -73,17 +74,17 @@ chain_carries chain essential_only width height l = and_then (chain_at chain 0) 
 -- the entries carry the place l to a final place or crop it away, as a rectangle and a turn say
 pub record CarriedTo (carries : ℕ → ℕ → Place → Out Tracked) (width height : ℕ) (l : Place) (s : Sight) : Type 0 where
   pub end : Tracked
-  pub carried : carries width height l ≡ done end
+  pub carried : carries width height l ≡ Ok end
   pub follows : Follows width height l s end
 
 -- the canvas place that the entries carry to the final place (x, y) names what the final place does
 pub record CarriedFrom (carries : ℕ → ℕ → Place → Out Tracked) (bare : ℕ → ℕ → Out Point) (a : Point) (x y : ℕ) : Type 0 where
   pub place : Place
   pub answer : Point
-  pub answers : bare place.x place.y ≡ done answer
+  pub answers : bare place.x place.y ≡ Ok answer
   pub named : answer.named ≡ a.named
   pub end : Tracked
-  pub carried : carries (canvas_width answer) (canvas_height answer) place ≡ done end
+  pub carried : carries (canvas_width answer) (canvas_height answer) place ≡ Ok end
   pub arrived : end.place ≡ kept (record { x = x; y = y })
 
 -- ---- the runs that demand 3 speaks of
@@ -95,7 +96,7 @@ Unscaled essential_only (e ∷ es) = (applies essential_only e ≡ true → NotI
 
 -- a chain whose applied entries are clap, irot and imir in any order, whatever they hold; a damaged one has no entries
 unfoldable pub NoScaling : List ℕ → Bool → Type 0
-NoScaling chain essential_only = (es : List PropertyEntry) → chain_at chain 0 ≡ done es → Unscaled essential_only es
+NoScaling chain essential_only = (es : List PropertyEntry) → chain_at chain 0 ≡ Ok es → Unscaled essential_only es
 
 -- inputs without alpha; a damaged tray has none
 unfoldable pub NoAlpha : List ℕ → Type 0

@@ -1,6 +1,7 @@
 -- Where the entries of a chain carry a place of the canvas, one by one, or crop it away (document 01, "Point call").
+use Rattle.std.specs.Prelude.{Ok, Err}
 use Rattle.std.specs.Prelude.{Bool, ◌&&◌, false, true, List, ◌≡◌, ◌+◌, ◌-◌, ◌<◌, ℕ, leb, ltb}
-use Rattle.laws.specs.Out.{Out, and_then, done, reason, refused}
+use Rattle.laws.specs.Out.{Out, and_then, reason}
 use Rattle.laws.specs.Pick.{pick}
 use Rattle.image.specs.Format.{odd}
 use Rattle.sizes.specs.Aperture.{resolve_of}
@@ -55,18 +56,18 @@ pub record Tracked : Type 0 where
   pub place : Carried
 
 unfoldable pub carry_after : Property → Tracked → Out Tracked
-carry_after Property.Other c = done c
-carry_after (Property.Clap k) c = and_then (resolve_of k c.width c.height) (λ q. done (record { width = q.rect.width; height = q.rect.height; place = onward (crop_place q.rect) c.place }))
+carry_after Property.Other c = Ok c
+carry_after (Property.Clap k) c = and_then (resolve_of k c.width c.height) (λ q. Ok (record { width = q.rect.width; height = q.rect.height; place = onward (crop_place q.rect) c.place }))
 carry_after (Property.Irot k) c =
     let q = quarter_of k.angle in
-    done
+    Ok
     (record {
       width = sideways (swaps q) c.width c.height;
       height = sideways (swaps q) c.height c.width;
       place = onward (λ l. kept (turn_place q c.width c.height l)) c.place;
     })
-carry_after (Property.Imir k) c = done (record { width = c.width; height = c.height; place = onward (λ l. kept (mirror_place (odd k.axis) c.width c.height l)) c.place })
-carry_after (Property.Iscl k) c = refused (reason 18)
+carry_after (Property.Imir k) c = Ok (record { width = c.width; height = c.height; place = onward (λ l. kept (mirror_place (odd k.axis) c.width c.height l)) c.place })
+carry_after (Property.Iscl k) c = Err (reason 18)
 
 -- a chain on a place of a picture of that size, under the flag its essential entries alone
 unfoldable pub carry_of : List PropertyEntry → Bool → ℕ → ℕ → Place → Out Tracked

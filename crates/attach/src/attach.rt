@@ -4,39 +4,32 @@ ghost use Rattle.laws.specs.Out.{answer_of, written};
 ghost use Rattle.laws.specs.Puts.{puts};
 ghost use Rattle.image.specs.Sound.{FormSound};
 ghost use Rattle.attach.specs.Attach.{luma_form, kept_plane, kept_part, alpha_kept, alpha_bytes, attach_bytes, attach_run};
-ghost use Rattle.attach.specs.inner.Kept.{KeptFits, Whole};
+ghost use Rattle.attach.specs.inner.Kept.{KeptFits, Short};
 
 use image::{Form, Part, PixelFormat};
-use laws::{Answer, Refusal};
-use records::{Frame, FrameRead, Plane};
+use laws::Refusal;
+use records::{Picture, Plane};
 use sampling::{Depths, Rule};
 
 // The form of a luma plane alone for a picture of a form.
+#[tactic(auto, unfolding(crate::specs::Attach::luma_form))]
 fn alpha_form(m: Form) -> Form
     ensures { result ≡ luma_form m }
 {
-    let f = m.format;
-    Form {
-        width: m.width,
-        height: m.height,
-        format: PixelFormat {
-            chroma: PixelFormat::MONO,
-            depth: f.depth,
-            alpha: 0,
-        },
-    }
+    let format = PixelFormat {
+        chroma: PixelFormat::MONO,
+        alpha: 0,
+        ..m.format
+    };
+    Form { format, ..m }
 }
 
 // Whether a luma plane serves as it stands.
+#[tactic(auto, unfolding(crate::specs::Attach::alpha_kept))]
 fn alpha_kept(m: Form, n: Form) -> bool
     ensures { result ≡ alpha_kept m n }
 {
-    let f = m.format;
-    let g = n.format;
-    if n.has_size(m.width, m.height) {
-        return f.depth == g.depth;
-    }
-    false
+    n.has_size(m.width, m.height) && m.format.depth == n.format.depth
 }
 
 // Writes a plane as it stands, its two numbers with it, and returns the place past it.
@@ -54,104 +47,112 @@ fn kept_size(s: &[u8], q: Plane) -> usize
     requires { KeptFits s.now q }
     ensures { (result ≡ length (kept_plane s.now q)) × (result < 2 ^ 33) }
 {
-    let len = q.len;
-    numbers::number_length(q.stride as u32) + numbers::number_length(len as u32) + len
+    numbers::number_length(q.stride as u32) + numbers::number_length(q.len as u32) + q.len
 }
 
-// Writes a colour plane as it stands, if the picture has it, and returns the place past it.
-fn keep_part(out: &mut [u8], at: usize, s: &[u8], fr: Frame, part: Part) -> usize
-    requires { Whole s.now fr × (at + length (kept_part s.now fr part) ≤ length out.old) }
-    ensures { (result ≡ at + length (kept_part s.now fr part)) × (out.new ≡ puts out.old at (kept_part s.now fr part)) }
-{
-    let m = fr.form;
-    let f = m.format;
-    if f.has(part) {
-        return keep_plane(out, at, s, fr.plane(part));
+// A picture whose planes can be written as they stand: their lengths fit a number.
+#[derive(Clone, Copy)]
+struct Kept<'a> {
+    picture: Picture<'a>,
+    ghost short: { Short picture.frame },
+}
+
+impl Kept<'_> {
+    // Writes a colour plane as it stands, if the picture has it, and returns the place past it.
+    fn keep_part(self, out: &mut [u8], at: usize, part: Part) -> usize
+        requires { at + length (kept_part self.picture.«record».now self.picture.frame part) ≤ length out.old }
+        ensures { (result ≡ at + length (kept_part self.entry.picture.«record».now self.entry.picture.frame part)) × (out.new ≡ puts out.old at (kept_part self.entry.picture.«record».now self.entry.picture.frame part)) }
+    {
+        if self.picture.frame.form.format.has(part) {
+            keep_plane(out, at, self.picture.record, self.picture.frame.plane(part))
+        } else {
+            at
+        }
     }
-    at
-}
 
-fn part_size(s: &[u8], fr: Frame, part: Part) -> usize
-    requires { Whole s.now fr }
-    ensures { (result ≡ length (kept_part s.now fr part)) × (result < 2 ^ 33) }
-{
-    let m = fr.form;
-    let f = m.format;
-    if f.has(part) {
-        return kept_size(s, fr.plane(part));
+    fn part_size(self, part: Part) -> usize
+        ensures { (result ≡ length (kept_part self.entry.picture.«record».now self.entry.picture.frame part)) × (result < 2 ^ 33) }
+    {
+        if self.picture.frame.form.format.has(part) {
+            kept_size(self.picture.record, self.picture.frame.plane(part))
+        } else {
+            0
+        }
     }
-    0
-}
 
-// Writes the alpha plane of a picture of a form, from a record's luma.
-fn write_alpha(out: &mut [u8], at: usize, m: Form, t: &[u8], gr: Frame) -> usize
-    requires { FormSound m × Whole t.now gr × (at + length (alpha_bytes m t.now gr) ≤ length out.old) }
-    ensures { (result ≡ at + length (alpha_bytes m t.now gr)) × (out.new ≡ puts out.old at (alpha_bytes m t.now gr)) }
-{
-    let n = gr.form;
-    if alpha_kept(m, n) {
-        return keep_plane(out, at, t, gr.luma);
+    // Writes its luma as the alpha plane of a picture of a form.
+    fn write_alpha(self, out: &mut [u8], at: usize, m: Form) -> usize
+        requires { FormSound m × (at + length (alpha_bytes m self.picture.«record».now self.picture.frame) ≤ length out.old) }
+        ensures { (result ≡ at + length (alpha_bytes m self.entry.picture.«record».now self.entry.picture.frame)) × (out.new ≡ puts out.old at (alpha_bytes m self.entry.picture.«record».now self.entry.picture.frame)) }
+    {
+        let form = self.picture.frame.form;
+        if alpha_kept(m, form) {
+            return keep_plane(out, at, self.picture.record, self.picture.frame.luma);
+        }
+        let rule = Rule::Near(Depths {
+            old: form.format.depth,
+            new: m.format.depth,
+        });
+        resample::write_plane(out, at, self.picture, alpha_form(m), rule, Part::Luma)
     }
-    let f = m.format;
-    let g = n.format;
-    let rule = Rule::Near(Depths {
-        old: g.depth,
-        new: f.depth,
-    });
-    resample::write_plane(out, at, t, gr, alpha_form(m), rule, Part::Luma)
-}
 
-fn alpha_size(m: Form, t: &[u8], gr: Frame) -> usize
-    requires { FormSound m × Whole t.now gr }
-    ensures { (result ≡ length (alpha_bytes m t.now gr)) × (result < 2 ^ 33) }
-{
-    let n = gr.form;
-    if alpha_kept(m, n) {
-        return kept_size(t, gr.luma);
+    fn alpha_size(self, m: Form) -> usize
+        requires { FormSound m }
+        ensures { (result ≡ length (alpha_bytes m self.entry.picture.«record».now self.entry.picture.frame)) × (result < 2 ^ 33) }
+    {
+        if alpha_kept(m, self.picture.frame.form) {
+            kept_size(self.picture.record, self.picture.frame.luma)
+        } else {
+            planes::plane_size(alpha_form(m), Part::Luma)
+        }
     }
-    planes::plane_size(alpha_form(m), Part::Luma)
-}
 
-fn attached_size(s: &[u8], fr: Frame, t: &[u8], gr: Frame) -> usize
-    requires { Whole s.now fr × Whole t.now gr }
-    ensures { result ≡ length (attach_bytes s.now fr t.now gr) }
-{
-    let m = fr.form;
-    let head = planes::head_size(m.with_alpha(1));
-    let luma = part_size(s, fr, Part::Luma);
-    let cb = part_size(s, fr, Part::Cb);
-    let cr = part_size(s, fr, Part::Cr);
-    head + luma + cb + cr + alpha_size(m, t, gr)
-}
+    // How many bytes it takes with another's luma as its alpha.
+    fn attached_size(self, alpha: Kept<'_>) -> usize
+        ensures { result ≡ length (attach_bytes self.entry.picture.«record».now self.entry.picture.frame alpha.entry.picture.«record».now alpha.entry.picture.frame) }
+    {
+        let m = self.picture.frame.form;
+        let head = planes::head_size(m.with_alpha(1));
+        let luma = self.part_size(Part::Luma);
+        let cb = self.part_size(Part::Cb);
+        let cr = self.part_size(Part::Cr);
+        head + luma + cb + cr + alpha.alpha_size(m)
+    }
 
-fn write_attached(out: &mut [u8], s: &[u8], fr: Frame, t: &[u8], gr: Frame) -> usize
-    requires { Whole s.now fr × Whole t.now gr × (length (attach_bytes s.now fr t.now gr) ≤ length out.old) }
-    ensures { (result ≡ length (attach_bytes s.now fr t.now gr))
-        × (out.new ≡ puts out.old 0 (attach_bytes s.now fr t.now gr)) }
-{
-    let m = fr.form;
-    let a = planes::write_head(out, 0, m.with_alpha(1));
-    let b = keep_part(out, a, s, fr, Part::Luma);
-    let c = keep_part(out, b, s, fr, Part::Cb);
-    let d = keep_part(out, c, s, fr, Part::Cr);
-    write_alpha(out, d, m, t, gr)
+    fn write_attached(self, alpha: Kept<'_>, out: &mut [u8]) -> usize
+        requires { length (attach_bytes self.picture.«record».now self.picture.frame alpha.picture.«record».now alpha.picture.frame) ≤ length out.old }
+        ensures { (result ≡ length (attach_bytes self.entry.picture.«record».now self.entry.picture.frame alpha.entry.picture.«record».now alpha.entry.picture.frame))
+            × (out.new ≡ puts out.old 0 (attach_bytes self.entry.picture.«record».now self.entry.picture.frame alpha.entry.picture.«record».now alpha.entry.picture.frame)) }
+    {
+        let m = self.picture.frame.form;
+        let a = planes::write_head(out, 0, m.with_alpha(1));
+        let b = self.keep_part(out, a, Part::Luma);
+        let c = self.keep_part(out, b, Part::Cb);
+        let d = self.keep_part(out, c, Part::Cr);
+        alpha.write_alpha(out, d, m)
+    }
 }
 
 // The master's picture with another record's luma as its alpha. Refusals: the master's, the alpha record's, 17.
-pub fn attach_alpha(master: &[u8], alpha: &[u8], out: &mut [u8]) -> Answer
+#[tactic(auto, unfolding(crate::specs::Attach::attach_run, laws::specs::Out::and_then, laws::specs::Out::answer_of, laws::specs::Out::written))]
+pub fn attach_alpha(master: &[u8], alpha: &[u8], out: &mut [u8]) -> Result<usize, Refusal>
     ensures { (result ≡ answer_of (attach_run master.now alpha.now (length out.old)))
         × (out.new ≡ written (attach_run master.now alpha.now (length out.old)) out.old) }
 {
-    match records::parse_record(master) {
-        FrameRead::Refused(e) => Answer::Refused(e),
-        FrameRead::Read(f) => match records::parse_record(alpha) {
-            FrameRead::Refused(e) => Answer::Refused(e),
-            FrameRead::Read(g) => {
-                if out.len() < attached_size(master, f, alpha, g) {
-                    return Answer::Refused(Refusal::ROOM);
-                }
-                Answer::Wrote(write_attached(out, master, f, alpha, g))
-            }
-        },
+    let f = records::parse_record(master)?;
+    let g = records::parse_record(alpha)?;
+    let picture = Picture {
+        record: master,
+        frame: f,
+    };
+    let other = Picture {
+        record: alpha,
+        frame: g,
+    };
+    let colours = Kept { picture };
+    let luma = Kept { picture: other };
+    if out.len() < colours.attached_size(luma) {
+        return Err(Refusal::ROOM);
     }
+    Ok(colours.write_attached(luma, out))
 }

@@ -7,7 +7,6 @@ use native.Mathlib.Omega.{arith}
 use lib.Arith.{digits_div, digits_mod}
 use borrow.Author.Tests.{le-leb, leb-true, lt-ltb, ltb-true}
 use Rattle.laws.proofs.Order.{and-true, item-within, mul-below, true-and}
-use Rattle.laws.specs.Any.{any}
 use Rattle.laws.specs.Pick.{pick}
 use Rattle.numbers.specs.declared.Offset.{Offset}
 use Rattle.image.specs.Format.{side_of}

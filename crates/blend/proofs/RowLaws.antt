@@ -2,22 +2,25 @@
 use mathlib.Core.Bool.{Bool, false, true, true≢false}
 use mathlib.Core.List.{List}
 use mathlib.Core.Path.{◌∙◌, ◌≡◌, ap, ap₂, refl, sym}
-use Prim.Native.Nat.{◌*◌, ◌+◌, ◌-◌, ◌<◌, ◌≤◌, min, ℕ}
+use Prim.Native.Nat.{◌*◌, ◌+◌, ◌-◌, ◌<◌, ◌^◌, ◌≤◌, min, ℕ}
 use native.Mathlib.Omega.{arith}
 use lib.ListN.{get_or, length, set}
-use Rattle.laws.proofs.Order.{by-test, pick-false, pick_true, within, within-no, within_none, within-true}
+use borrow.Author.Tests.{le-leb, lt-leb}
+use Rattle.laws.proofs.Order.{by_order, by-test, pick-false, pick_true, within, within-no, within_none, within-true}
 use Rattle.laws.specs.Pick.{pick}
-use Rattle.image.specs.Format.{bytes_of, cover, has_alpha, has_part}
+use Rattle.image.specs.Format.{bytes_of, cover, has_alpha, has_part, top_at}
+use Rattle.laws.specs.Puts.{Bytes}
+use Rattle.planes.proofs.ByteLaws.{sample-small}
 use Rattle.image.specs.declared.format.Part.{Part}
 use Rattle.image.specs.declared.format.Part.TheVariants.{Alpha, Cb, Cr, Luma}
 use Rattle.image.specs.declared.format.PixelFormat.{PixelFormat}
-use Rattle.planes.specs.Bytes.{sample_at, sample_in}
+use Rattle.planes.specs.Bytes.{sample_in}
 use Rattle.planes.specs.inner.Promoted.{promoted_in}
 use Rattle.blend.proofs.OverLaws.{over-colour-opaque}
 use Rattle.blend.proofs.StripeLaws.{stored_more}
 use Rattle.blend.specs.Overlay.{over, over_alpha, over_colour}
 use Rattle.blend.specs.declared.over.Source.{Source}
-use Rattle.blend.specs.inner.Row.{RowInside, RowLaid, Stands, StripeHolds, bytes_at, is_colour}
+use Rattle.blend.specs.inner.Row.{DepthTop, RowInside, RowLaid, Stands, StripeHolds, bytes_at, is_colour}
 use Rattle.blend.specs.inner.Stripe.{OverRowFits, alpha_in, row_over}
 
 -- ---- sample after sample
@@ -55,10 +58,22 @@ laid_as old new k n f g e h j = h j ∙ by-test (within k n j) inside outside
     outside : within k n j ≡ false → pick (within k n j) (f (j - k) (get_or old j 0)) (get_or old j 0) ≡ pick (within k n j) (g (j - k) (get_or old j 0)) (get_or old j 0)
     outside w = pick-false _ _ _ w ∙ sym (pick-false _ _ _ w)
 
--- a sample of one byte
-pub byte_low : (d : List ℕ) (stride x y : ℕ) → ((i : ℕ) → get_or d i 0 < 256) → sample_in d 1 stride x y ≤ 255
-unfolding sample_in sample_at pick
-byte_low d stride x y h = omega (arith, h (y * stride + x * 1))
+-- a sample of so many bytes
+pub sample-low : (d : List ℕ) (bytes stride x y : ℕ) → Bytes d → 1 ≤ bytes → bytes ≤ 2 → sample_in d bytes stride x y < 256 ^ bytes
+unfolding sample_in
+sample-low d bytes stride x y small l h = sample-small d bytes (y * stride + x * bytes) small l h
+
+-- the bytes of a sample of a depth: one, and then the depth is 8, or two
+module _ (d b : ℕ) (e : b ≡ bytes_at d) where
+  pub depth-bytes : (1 ≤ b) × (b ≤ 2)
+  depth-bytes =
+      by_order 8 d (λ l. let z : b ≡ 2 = e ∙ pick-false _ _ _ (lt-leb d 8 l) in (omega arith, omega arith))
+      (λ l. let z : b ≡ 1 = e ∙ pick_true _ _ _ (le-leb d 8 l) in (omega arith, omega arith))
+
+  pub depth-byte : (top : ℕ) → DepthTop d top → 8 ≤ d → b ≡ 1 → top ≡ 255
+  depth-byte top k low one =
+      by_order 8 d (λ l. let z : b ≡ 2 = e ∙ pick-false _ _ _ (lt-leb d 8 l) in absurd (omega arith))
+      (λ l. let z : d ≡ 8 = omega arith in k.same ∙ ap top_at z)
 
 -- ---- a plane that stands sample for sample
 

@@ -1,4 +1,5 @@
 -- Samples of a stripe over one after the other, row after row.
+use Rattle.std.specs.Prelude.{Ok, Err}
 use mathlib.Core.Bool.{Bool, ◌&&◌, false, not, true, true≢false}
 use mathlib.Core.List.{List}
 use mathlib.Core.Path.{◌∙◌, ◌≡◌, ap, ap₂, refl, sym}
@@ -10,7 +11,6 @@ use lib.Seq.{get_or-set_other, get_or-set_same}
 use borrow.Author.Tests.{eq-eqb, le-ltb, lt-ltb, ne_eqb}
 use Rattle.laws.proofs.Order.{and_no, by_equal, by_order, by-test, pick-false, pick-le, pick_true, true-and, within, within-no, within-yes}
 use Rattle.laws.specs.Any.{any}
-use Rattle.laws.specs.Out.{done, refused}
 use Rattle.laws.specs.Pick.{pick}
 use Rattle.laws.specs.declared.Refusal.{Refusal}
 use Rattle.image.proofs.FormLaws.{cover-in, width-le}
@@ -344,7 +344,7 @@ module _ (tray : List ℕ) (fr : Frame) (place : Placement) (pm : Bool) (p : Par
 -- ---- all inputs
 
 module _ (top : ℕ) (p : Part) (x y : ℕ) (body tray list : List ℕ) (d : OverlayDescriptor) where
-  pub all-refused : (n at i v : ℕ) (r : Refusal) → record_at tray at ≡ refused r → over_all top p x y (layers_of body tray list d i (frames_from n tray at)) v ≡ v
+  pub all-refused : (n at i v : ℕ) (r : Refusal) → record_at tray at ≡ Err r → over_all top p x y (layers_of body tray list d i (frames_from n tray at)) v ≡ v
   unfolding over_all layers_of
   all-refused n at i v r e = rw (from-refused n tray at r e)
 
@@ -352,12 +352,12 @@ module _ (top : ℕ) (p : Part) (x y : ℕ) (body tray list : List ℕ) (d : Ove
   unfolding over_all layers_of frames_from
   all_none n at i v h = let e : n ≡ 0 = omega arith in rw e
 
-  pub all-next : (n at i v w : ℕ) (fr : Frame) → 0 < n → record_at tray at ≡ done fr → w ≡ over_at top p x y (layer_of body tray list d i fr) v
+  pub all-next : (n at i v w : ℕ) (fr : Frame) → 0 < n → record_at tray at ≡ Ok fr → w ≡ over_at top p x y (layer_of body tray list d i fr) v
       → over_all top p x y (layers_of body tray list d i (frames_from n tray at)) v ≡ over_all top p x y (layers_of body tray list d (i + 1) (frames_from (n - 1) tray fr.end)) w
   unfolding over_all layers_of
   all-next n at i v w fr h e k = rw (from_next n tray at fr h e, k)
 
-  pub all-over : (n at i v w : ℕ) (fr : Frame) (o : Placement) (m : Bool) → i < n → record_at tray at ≡ done fr → o ≡ placement_at body d i → m ≡ not (eqb (get_or list i 0) 0)
+  pub all-over : (n at i v w : ℕ) (fr : Frame) (o : Placement) (m : Bool) → i < n → record_at tray at ≡ Ok fr → o ≡ placement_at body d i → m ≡ not (eqb (get_or list i 0) 0)
       → w ≡ over_at top p x y (layer_with tray fr o m) v
       → over_all top p x y (layers_of body tray list d i (frames_from (n - i) tray at)) v ≡ over_all top p x y (layers_of body tray list d (i + 1) (frames_from (n - (i + 1)) tray fr.end)) w
   unfolding layer_of layer_with

@@ -6,7 +6,7 @@ ghost use Rattle.derived.specs.inner.Sound.{OverlaySound};
 ghost use Rattle.blend.specs.Overlay.{over_colour, over_alpha, over, covers, base, spot_at, over_at, over_all};
 ghost use Rattle.inputs.specs.Layers.{layers_of};
 ghost use Rattle.records.specs.inner.Frames.{frames_from};
-ghost use Rattle.blend.specs.inner.Row.{RowLaid, DepthTop, Stands, is_colour};
+ghost use Rattle.blend.specs.inner.Row.{RowLaid, DepthTop, Stands, bytes_at, is_colour};
 ghost use Rattle.blend.specs.inner.Stripe.{layer_with, across_at, down_at, StripeFits, Held, alpha_in, OverRowFits, row_over};
 ghost use Rattle.records.specs.inner.Placed.{InSlice};
 
@@ -15,7 +15,7 @@ use derived::{OverlayDescriptor, Placement};
 use image::{Part, PixelFormat};
 use numbers::Offset;
 use opaque::{reach, step_of};
-use records::{Frame, FrameRead};
+use records::Frame;
 
 // Colour times opacity under an input's sample m of alpha a.
 fn over_colour(top: u16, m: u16, a: u16, premultiplied: bool, v: u32) -> u32
@@ -25,11 +25,12 @@ fn over_colour(top: u16, m: u16, a: u16, premultiplied: bool, v: u32) -> u32
     let t = top as usize;
     let m = m as usize;
     let a = a as usize;
-    let under = (v as usize * numbers::saturating_sub(t, a) + t / 2) / t;
+    let under = (v as usize * t.saturating_sub(a) + t / 2) / t;
     if premultiplied {
-        return numbers::min(m * t + under, t * t) as u32;
+        (m * t + under).min(t * t) as u32
+    } else {
+        (m * a + under).min(t * t) as u32
     }
-    numbers::min(m * a + under, t * t) as u32
 }
 
 // Opacity under an input's alpha a.
@@ -39,34 +40,28 @@ fn over_alpha(top: u16, a: u16, v: u32) -> u32
 {
     let t = top as usize;
     let a = a as usize;
-    numbers::min(
-        a + (v as usize * numbers::saturating_sub(t, a) + t / 2) / t,
-        t,
-    ) as u32
+    (a + (v as usize * t.saturating_sub(a) + t / 2) / t).min(t) as u32
 }
 
 // What a plane carries, under an input.
+#[tactic(auto, unfolding(crate::specs::Overlay::over))]
 fn over(top: u16, part: Part, m: u16, a: u16, premultiplied: bool, v: u32) -> u32
     requires { 1 ≤ top }
     ensures { result ≡ over top part m a premultiplied v }
 {
     match part {
-        Part::Luma => over_colour(top, m, a, premultiplied, v),
-        Part::Cb => over_colour(top, m, a, premultiplied, v),
-        Part::Cr => over_colour(top, m, a, premultiplied, v),
+        Part::Luma | Part::Cb | Part::Cr => over_colour(top, m, a, premultiplied, v),
         Part::Alpha => over_alpha(top, a, v),
     }
 }
 
 // The first place that a sample covers along an axis.
+#[tactic(auto, unfolding(crate::specs::Overlay::base))]
 fn first_place(half: bool, c: usize) -> usize
     requires { c < 2 ^ 40 }
     ensures { result ≡ base half c }
 {
-    if half {
-        return 2 * c;
-    }
-    c
+    if half { 2 * c } else { c }
 }
 
 // A run of samples of a plane of the canvas, row after row: so many from the start-th on, in rows of so many columns, of places that
@@ -97,38 +92,32 @@ fn source_alpha(alpha: &[u8], s: Source, x: usize, y: usize) -> u16
 {
     let f = s.format;
     if f.has(Part::Alpha) {
-        return planes::sample(alpha, f.bytes_per_sample(), s.alpha_stride, x, y);
+        planes::sample(alpha, f.bytes_per_sample(), s.alpha_stride, x, y)
+    } else {
+        s.top
     }
-    s.top
 }
 
 // Whether a picture has the plane, and does not halve it.
 fn stands(format: PixelFormat, part: Part) -> bool
     ensures { result ≡ true → Stands format part }
 {
-    if format.half_width(part) {
-        return false;
-    }
-    if format.half_height(part) {
-        return false;
-    }
-    format.has(part)
+    !format.half_width(part) && !format.half_height(part) && format.has(part)
 }
 
+#[tactic(auto, unfolding(crate::specs::inner::Row::is_colour))]
 fn is_colour(part: Part) -> bool
     ensures { result ≡ is_colour part }
 {
     match part {
-        Part::Luma => true,
-        Part::Cb => true,
-        Part::Cr => true,
+        Part::Luma | Part::Cb | Part::Cr => true,
         Part::Alpha => false,
     }
 }
 
 // Lays n samples of an input's row over those from k on, from the input's place x on, where they stand sample for sample and their top
 // is the canvas's.
-fn over_plain(
+fn over_plain<const BYTES: usize>(
     acc: &mut [u32],
     k: usize,
     n: usize,
@@ -138,48 +127,30 @@ fn over_plain(
     x: usize,
     y: usize,
 )
-    requires { OverRowFits acc.old plane.now alpha.now s k n x 1 y × Stands s.format s.part × DepthTop s.format.depth s.top × (8 ≤ s.format.depth) }
+    requires { OverRowFits acc.old plane.now alpha.now s k n x 1 y × Stands s.format s.part × DepthTop s.format.depth s.top × (8 ≤ s.format.depth) × (BYTES ≡ bytes_at s.format.depth) }
     ensures { RowLaid acc.old acc.new k n (λ i v. row_over plane.now alpha.now s (x + i) y v) }
 {
-    let format = s.format;
-    let part = s.part;
-    let depth = format.depth;
-    let top = s.top;
-    let stride = s.stride;
-    let alpha_stride = s.alpha_stride;
-    let premultiplied = s.premultiplied;
-    if !format.has(Part::Alpha) {
-        opaque_row(
+    let depth = s.format.depth;
+    if !s.format.has(Part::Alpha) {
+        opaque_row::<BYTES>(acc, k, n, plane, s.stride, x, y, s.top);
+    } else if is_colour(s.part) {
+        colour_row::<BYTES>(
             acc,
             k,
             n,
             plane,
-            format.bytes_per_sample(),
-            stride,
-            x,
-            y,
-            top,
-        );
-        return;
-    }
-    if is_colour(part) {
-        colour_row(
-            acc,
-            k,
-            n,
-            plane,
-            stride,
+            s.stride,
             alpha,
-            alpha_stride,
-            premultiplied,
+            s.alpha_stride,
+            s.premultiplied,
             x,
             y,
             depth,
-            top,
+            s.top,
         );
-        return;
+    } else {
+        opacity_row::<BYTES>(acc, k, n, alpha, s.alpha_stride, x, y, depth, s.top);
     }
-    opacity_row(acc, k, n, alpha, alpha_stride, x, y, depth, top);
 }
 
 // Lays n samples of an input's row over those from k on, from the input's place x on, by so many places a sample.
@@ -199,18 +170,20 @@ fn over_row(
         ≡ pick (leb k j && ltb j (k + n)) (row_over plane.now alpha.now s (x + (j - k) * step) y (get_or acc.old j 0)) (get_or acc.old j 0) }
 {
     let format = s.format;
-    let part = s.part;
-    if step == 1 {
-        if PixelFormat::is_depth(format.depth) {
-            if format.top() == s.top {
-                if stands(format, part) {
-                    over_plain(acc, k, n, plane, alpha, s, x, y);
-                    return;
-                }
-            }
+    let depth = format.depth;
+    if step == 1
+        && PixelFormat::is_depth(depth)
+        && format.top() == s.top
+        && stands(format, s.part)
+    {
+        if depth == 8 {
+            over_plain::<1>(acc, k, n, plane, alpha, s, x, y);
+        } else {
+            over_plain::<2>(acc, k, n, plane, alpha, s, x, y);
         }
+    } else {
+        over_row_each(acc, k, n, plane, alpha, s, x, step, y);
     }
-    over_row_each(acc, k, n, plane, alpha, s, x, step, y);
 }
 
 // The same, sample by sample.
@@ -229,29 +202,22 @@ fn over_row_each(
     ensures { (j : ℕ) → get_or acc.new j 0
         ≡ pick (leb k j && ltb j (k + n)) (row_over plane.now alpha.now s (x + (j - k) * step) y (get_or acc.old j 0)) (get_or acc.old j 0) }
 {
-    let top = s.top;
-    let part = s.part;
-    let premultiplied = s.premultiplied;
-    let format = s.format;
-    let stride = s.stride;
-    let mut i: usize = 0;
-    while i < n {
+    for i in 0..n {
         let u = x + i * step;
-        let m = planes::promoted(plane, format, stride, part, u, y);
+        let m = planes::promoted(plane, s.format, s.stride, s.part, u, y);
         let a = source_alpha(alpha, s, u, y);
         let at = k + i;
-        let v = acc[at];
-        acc[at] = over(top, part, m, a, premultiplied, v);
-        i += 1;
+        acc[at] = over(s.top, s.part, m, a, s.premultiplied, acc[at]);
     }
 }
 
 // The spot of an input at a place.
+#[tactic(auto, unfolding(crate::specs::Overlay::spot_at))]
 fn spot(o: Offset, x: usize) -> usize
     requires { x < 2 ^ 41 }
     ensures { result ≡ spot_at o x }
 {
-    numbers::saturating_sub(x + o.behind as usize, o.ahead as usize)
+    (x + o.behind as usize).saturating_sub(o.ahead as usize)
 }
 
 // Lays a row of an input over what a stripe has of the plane's row r.
@@ -277,8 +243,8 @@ fn over_line(
     let columns = run.columns;
     let start = run.start;
     let row = r * columns;
-    let a = numbers::max(row + across.from, start);
-    let e = numbers::min(row + numbers::min(across.to, columns), start + run.count);
+    let a = (row + across.from).max(start);
+    let e = (row + across.to.min(columns)).min(start + run.count);
     if a < e {
         let q = fr.plane(part);
         let qa = fr.plane(Part::Alpha);
@@ -314,16 +280,13 @@ pub fn over_input(
     ensures { (j : ℕ) → j < run.count → get_or acc.new j 0
         ≡ over_at top part (across_at run j) (down_at run j) (layer_with tray.now fr place premultiplied) (get_or acc.old j 0) }
 {
-    let form = fr.form;
-    let down = reach(run.half_down, place.vertical, form.height);
+    let down = reach(run.half_down, place.vertical, fr.form.height);
     let columns = run.columns;
-    let start = run.start;
-    let end = start + run.count;
-    let last = numbers::min(down.to, (end + columns - 1) / columns);
-    let mut r = numbers::max(down.from, start / columns);
-    while r < last {
+    let end = run.start + run.count;
+    let first = down.from.max(run.start / columns);
+    let last = down.to.min((end + columns - 1) / columns);
+    for r in first..last {
         over_line(acc, tray, fr, place, premultiplied, part, top, run, r);
-        r += 1;
     }
 }
 
@@ -343,22 +306,16 @@ pub fn over_inputs(
     ensures { (j : ℕ) → j < run.count → get_or acc.new j 0
         ≡ over_all top part (across_at run j) (down_at run j) (layers_of body.now tray.now premultiplied.now d 0 (frames_from d.count tray.now first)) (get_or acc.old j 0) }
 {
-    let count = d.count;
     let mut at = first;
-    let mut i: u32 = 0;
-    while i < count {
+    for i in 0..d.count {
         match records::read_record(tray, at) {
-            FrameRead::Refused(_) => {
-                return;
-            }
-            FrameRead::Read(fr) => {
+            Err(_) => return,
+            Ok(fr) => {
                 let place = d.offset(body, i);
-                let n = i as usize;
-                let multiplied = premultiplied[n] != 0;
+                let multiplied = premultiplied[i as usize] != 0;
                 over_input(acc, tray, fr, place, multiplied, part, top, run);
                 at = fr.end;
             }
         }
-        i += 1;
     }
 }

@@ -1,19 +1,10 @@
-// A row of an input that stands sample for sample, laid over a stripe (document 01, Overlay): a loop for each of one byte and two, in
-// arithmetic that the compiler does for several samples at a time.
+// A row of an input that stands sample for sample, laid over a stripe (document 01, Overlay): each loop is compiled for one byte and for
+// two, in arithmetic that the compiler does for several samples at a time.
 ghost use Rattle.std.specs.Prelude.{◌≡◌, ◌+◌, ◌*◌, ◌/◌, ◌≤◌, ◌<◌, ◌^◌, min, length};
 ghost use Rattle.planes.specs.Bytes.{sample_in};
 ghost use Rattle.image.specs.Format.{top_at};
 ghost use Rattle.blend.specs.Overlay.{over_colour, over_alpha};
 ghost use Rattle.blend.specs.inner.Row.{DepthTop, bytes_at, RowInside, RowLaid, StripeHolds};
-
-fn least(a: u32, b: u32) -> u32
-    ensures { result ≡ min a b }
-{
-    if a < b {
-        return a;
-    }
-    b
-}
 
 // ---- one byte
 
@@ -26,9 +17,10 @@ fn byte_colour(m: u16, a: u16, premultiplied: bool, v: u32) -> u32
     let a = a as u32;
     let under = (v * (255 - a) + 127) / 255;
     if premultiplied {
-        return least(m * 255 + under, 65025);
+        (m * 255 + under).min(65025)
+    } else {
+        (m * a + under).min(65025)
     }
-    least(m * a + under, 65025)
 }
 
 // Opacity under an input's alpha a, at depth 8.
@@ -37,58 +29,7 @@ fn byte_opacity(a: u16, v: u32) -> u32
     ensures { result ≡ over_alpha 255 a v }
 {
     let a = a as u32;
-    least(a + (v * (255 - a) + 127) / 255, 255)
-}
-
-// Lays a row of an input with alpha over the n samples of a colour plane from k on.
-fn colour_bytes(
-    acc: &mut [u32],
-    k: usize,
-    n: usize,
-    plane: &[u8],
-    stride: usize,
-    alpha: &[u8],
-    alpha_stride: usize,
-    premultiplied: bool,
-    x: usize,
-    y: usize,
-)
-    requires { StripeHolds 255 acc.old k n × RowInside plane.now 1 stride x y n × RowInside alpha.now 1 alpha_stride x y n }
-    ensures { RowLaid acc.old acc.new k n
-        (λ i v. over_colour 255 (sample_in plane.now 1 stride (x + i) y) (sample_in alpha.now 1 alpha_stride (x + i) y) premultiplied v) }
-{
-    let mut i: usize = 0;
-    while i < n {
-        let m = planes::sample(plane, 1, stride, x + i, y);
-        let a = planes::sample(alpha, 1, alpha_stride, x + i, y);
-        let at = k + i;
-        let v = acc[at];
-        acc[at] = byte_colour(m, a, premultiplied, v);
-        i += 1;
-    }
-}
-
-// The same for opacity.
-fn opacity_bytes(
-    acc: &mut [u32],
-    k: usize,
-    n: usize,
-    alpha: &[u8],
-    stride: usize,
-    x: usize,
-    y: usize,
-)
-    requires { StripeHolds 255 acc.old k n × RowInside alpha.now 1 stride x y n }
-    ensures { RowLaid acc.old acc.new k n (λ i v. over_alpha 255 (sample_in alpha.now 1 stride (x + i) y) v) }
-{
-    let mut i: usize = 0;
-    while i < n {
-        let a = planes::sample(alpha, 1, stride, x + i, y);
-        let at = k + i;
-        let v = acc[at];
-        acc[at] = byte_opacity(a, v);
-        i += 1;
-    }
+    (a + (v * (255 - a) + 127) / 255).min(255)
 }
 
 // ---- two bytes
@@ -111,11 +52,12 @@ fn pair_colour(m: u16, a: u16, premultiplied: bool, v: u32, d: u32, top: u16) ->
     let t = top as usize;
     let m = m as usize;
     let a = a as usize;
-    let under = by_top(v as usize * numbers::saturating_sub(t, a) + t / 2, d);
+    let under = by_top(v as usize * t.saturating_sub(a) + t / 2, d);
     if premultiplied {
-        return numbers::min(m * t + under, t * t) as u32;
+        (m * t + under).min(t * t) as u32
+    } else {
+        (m * a + under).min(t * t) as u32
     }
-    numbers::min(m * a + under, t * t) as u32
 }
 
 // Opacity under an input's alpha a, at a depth d.
@@ -125,69 +67,45 @@ fn pair_opacity(a: u16, v: u32, d: u32, top: u16) -> u32
 {
     let t = top as usize;
     let a = a as usize;
-    let under = by_top(v as usize * numbers::saturating_sub(t, a) + t / 2, d);
-    numbers::min(a + under, t) as u32
-}
-
-// Lays a row of an input with alpha over the n samples of a colour plane from k on.
-fn colour_pairs(
-    acc: &mut [u32],
-    k: usize,
-    n: usize,
-    plane: &[u8],
-    stride: usize,
-    alpha: &[u8],
-    alpha_stride: usize,
-    premultiplied: bool,
-    x: usize,
-    y: usize,
-    d: u32,
-    top: u16,
-)
-    requires { StripeHolds top acc.old k n × RowInside plane.now 2 stride x y n × RowInside alpha.now 2 alpha_stride x y n × DepthTop d top }
-    ensures { RowLaid acc.old acc.new k n
-        (λ i v. over_colour top (sample_in plane.now 2 stride (x + i) y) (sample_in alpha.now 2 alpha_stride (x + i) y) premultiplied v) }
-{
-    let mut i: usize = 0;
-    while i < n {
-        let m = planes::sample(plane, 2, stride, x + i, y);
-        let a = planes::sample(alpha, 2, alpha_stride, x + i, y);
-        let at = k + i;
-        let v = acc[at];
-        acc[at] = pair_colour(m, a, premultiplied, v, d, top);
-        i += 1;
-    }
-}
-
-// The same for opacity.
-fn opacity_pairs(
-    acc: &mut [u32],
-    k: usize,
-    n: usize,
-    alpha: &[u8],
-    stride: usize,
-    x: usize,
-    y: usize,
-    d: u32,
-    top: u16,
-)
-    requires { StripeHolds top acc.old k n × RowInside alpha.now 2 stride x y n × DepthTop d top }
-    ensures { RowLaid acc.old acc.new k n (λ i v. over_alpha top (sample_in alpha.now 2 stride (x + i) y) v) }
-{
-    let mut i: usize = 0;
-    while i < n {
-        let a = planes::sample(alpha, 2, stride, x + i, y);
-        let at = k + i;
-        let v = acc[at];
-        acc[at] = pair_opacity(a, v, d, top);
-        i += 1;
-    }
+    let under = by_top(v as usize * t.saturating_sub(a) + t / 2, d);
+    (a + under).min(t) as u32
 }
 
 // ---- either
 
+// Colour times opacity under an input's sample m of alpha a, of so many bytes.
+fn sample_colour<const BYTES: usize>(
+    m: u16,
+    a: u16,
+    premultiplied: bool,
+    v: u32,
+    d: u32,
+    top: u16,
+) -> u32
+    requires { DepthTop d top × (8 ≤ d) × (BYTES ≡ bytes_at d) × (m < 256 ^ BYTES) × (a < 256 ^ BYTES) × (v ≤ top * top) }
+    ensures { result ≡ over_colour top m a premultiplied v }
+{
+    if BYTES == 1 {
+        byte_colour(m, a, premultiplied, v)
+    } else {
+        pair_colour(m, a, premultiplied, v, d, top)
+    }
+}
+
+// The same for opacity.
+fn sample_opacity<const BYTES: usize>(a: u16, v: u32, d: u32, top: u16) -> u32
+    requires { DepthTop d top × (8 ≤ d) × (BYTES ≡ bytes_at d) × (a < 256 ^ BYTES) × (v ≤ top * top) }
+    ensures { result ≡ over_alpha top a v }
+{
+    if BYTES == 1 {
+        byte_opacity(a, v)
+    } else {
+        pair_opacity(a, v, d, top)
+    }
+}
+
 // Lays a row of an input with alpha over the n samples of a colour plane from k on.
-pub(crate) fn colour_row(
+pub(crate) fn colour_row<const BYTES: usize>(
     acc: &mut [u32],
     k: usize,
     n: usize,
@@ -201,43 +119,20 @@ pub(crate) fn colour_row(
     d: u32,
     top: u16,
 )
-    requires { StripeHolds top acc.old k n × RowInside plane.now (bytes_at d) stride x y n × RowInside alpha.now (bytes_at d) alpha_stride x y n × DepthTop d top × (8 ≤ d) }
+    requires { StripeHolds top acc.old k n × RowInside plane.now BYTES stride x y n × RowInside alpha.now BYTES alpha_stride x y n × DepthTop d top × (8 ≤ d) × (BYTES ≡ bytes_at d) }
     ensures { RowLaid acc.old acc.new k n
-        (λ i v. over_colour top (sample_in plane.now (bytes_at d) stride (x + i) y) (sample_in alpha.now (bytes_at d) alpha_stride (x + i) y) premultiplied v) }
+        (λ i v. over_colour top (sample_in plane.now BYTES stride (x + i) y) (sample_in alpha.now BYTES alpha_stride (x + i) y) premultiplied v) }
 {
-    if d == 8 {
-        colour_bytes(
-            acc,
-            k,
-            n,
-            plane,
-            stride,
-            alpha,
-            alpha_stride,
-            premultiplied,
-            x,
-            y,
-        );
-        return;
+    for i in 0..n {
+        let m = planes::sample(plane, BYTES, stride, x + i, y);
+        let a = planes::sample(alpha, BYTES, alpha_stride, x + i, y);
+        let at = k + i;
+        acc[at] = sample_colour::<BYTES>(m, a, premultiplied, acc[at], d, top);
     }
-    colour_pairs(
-        acc,
-        k,
-        n,
-        plane,
-        stride,
-        alpha,
-        alpha_stride,
-        premultiplied,
-        x,
-        y,
-        d,
-        top,
-    );
 }
 
 // The same for opacity.
-pub(crate) fn opacity_row(
+pub(crate) fn opacity_row<const BYTES: usize>(
     acc: &mut [u32],
     k: usize,
     n: usize,
@@ -248,39 +143,34 @@ pub(crate) fn opacity_row(
     d: u32,
     top: u16,
 )
-    requires { StripeHolds top acc.old k n × RowInside alpha.now (bytes_at d) stride x y n × DepthTop d top × (8 ≤ d) }
-    ensures { RowLaid acc.old acc.new k n (λ i v. over_alpha top (sample_in alpha.now (bytes_at d) stride (x + i) y) v) }
+    requires { StripeHolds top acc.old k n × RowInside alpha.now BYTES stride x y n × DepthTop d top × (8 ≤ d) × (BYTES ≡ bytes_at d) }
+    ensures { RowLaid acc.old acc.new k n (λ i v. over_alpha top (sample_in alpha.now BYTES stride (x + i) y) v) }
 {
-    if d == 8 {
-        opacity_bytes(acc, k, n, alpha, stride, x, y);
-        return;
+    for i in 0..n {
+        let a = planes::sample(alpha, BYTES, stride, x + i, y);
+        let at = k + i;
+        acc[at] = sample_opacity::<BYTES>(a, acc[at], d, top);
     }
-    opacity_pairs(acc, k, n, alpha, stride, x, y, d, top);
 }
 
-// ---- an input without alpha
-
 // Lays a row of an input without alpha over the n samples of a colour plane from k on.
-pub(crate) fn opaque_row(
+pub(crate) fn opaque_row<const BYTES: usize>(
     acc: &mut [u32],
     k: usize,
     n: usize,
     plane: &[u8],
-    bytes: usize,
     stride: usize,
     x: usize,
     y: usize,
     top: u16,
 )
-    requires { (k + n ≤ length acc.old) × RowInside plane.now bytes stride x y n × (1 ≤ bytes) × (bytes ≤ 2) }
-    ensures { RowLaid acc.old acc.new k n (λ i v. min (sample_in plane.now bytes stride (x + i) y * top) (top * top)) }
+    requires { (k + n ≤ length acc.old) × RowInside plane.now BYTES stride x y n × (1 ≤ BYTES) × (BYTES ≤ 2) }
+    ensures { RowLaid acc.old acc.new k n (λ i v. min (sample_in plane.now BYTES stride (x + i) y * top) (top * top)) }
 {
     let t = top as u32;
     let most = t * t;
-    let mut i: usize = 0;
-    while i < n {
-        let m = planes::sample(plane, bytes, stride, x + i, y) as u32;
-        acc[k + i] = least(m * t, most);
-        i += 1;
+    for i in 0..n {
+        let m = planes::sample(plane, BYTES, stride, x + i, y) as u32;
+        acc[k + i] = (m * t).min(most);
     }
 }

@@ -1,21 +1,20 @@
 -- Laws of a list of the inputs that meet a block.
+use Rattle.std.specs.Prelude.{Ok, Err}
 use mathlib.Core.Bool.{Bool, ◌&&◌, ◌||◌, false, not, true, true≢false}
 use mathlib.Core.List.{List}
 use mathlib.Core.Path.{◌∙◌, ◌≡◌, ap, ap₂, refl, sym}
-use Prim.Native.Nat.{◌*◌, ◌+◌, ◌-◌, ◌<◌, ◌^◌, ◌≤◌, min, suc, zero, ℕ}
+use Prim.Native.Nat.{◌*◌, ◌+◌, ◌-◌, ◌<◌, ◌^◌, ◌≤◌, suc, zero, ℕ}
 use native.Mathlib.Nat.{mul-le-mul_right, sub-zero}
 use native.Mathlib.Omega.{arith}
 use lib.Dec.{eqb, leb, ltb}
-use lib.ListN.{get_or, length, length-set, set}
-use lib.Seq.{get_or-set_other, get_or-set_same}
+use lib.ListN.{get_or, length}
 use borrow.Author.Tests.{leb-true, lt-ltb}
 use Rattle.laws.proofs.Order.{and-true, by_equal, by-test, pick-false, true-and}
-use Rattle.laws.specs.Out.{Out, done, refused}
+use Rattle.laws.specs.Out.{Out}
 use Rattle.laws.specs.declared.Refusal.{Refusal}
 use Rattle.numbers.specs.declared.Offset.{Offset}
 use Rattle.image.specs.Format.{side_of}
 use Rattle.records.specs.Record.{record_at}
-use Rattle.image.specs.declared.format.Form.{Form}
 use Rattle.image.specs.declared.format.Part.{Part}
 use Rattle.records.specs.declared.record.Frame.{Frame}
 use Rattle.records.specs.inner.Frames.{frames_from}
@@ -33,7 +32,8 @@ use Rattle.blend.proofs.StripeLaws.{all-next, all_none, all-refused}
 use Rattle.blend.specs.Overlay.{base, covers_at, over_all, over_at}
 use Rattle.blend.specs.declared.over.Stripe.{Stripe}
 use Rattle.blend.specs.inner.Stripe.{across_at, down_at, layer_with}
-use Rattle.blocks.specs.inner.Listed.{AllMissed, Listed, Listing, Whole, hull_of, missed, over_entries, over_entry, over_taken}
+use Rattle.blocks.specs.declared.list.Entry.{Entry}
+use Rattle.blocks.specs.inner.Listed.{Listed, Listing, Whole, hull_of, missed, no_entry, over_entries, over_entry, over_taken}
 
 -- ---- numbers
 
@@ -43,96 +43,53 @@ never_both h l = omega arith
 pub none_below : (k : ℕ) → k < 0 → ⊥
 none_below k h = omega arith
 
--- ---- an entry stored
-
-pub four-stored : (l : List ℕ) (n a b c d : ℕ) → 4 * n + 4 ≤ length l
-    → (get_or (set (set (set (set l (4 * n) a) (4 * n + 1) b) (4 * n + 2) c) (4 * n + 3) d) (4 * n) 0 ≡ a)
-    × (get_or (set (set (set (set l (4 * n) a) (4 * n + 1) b) (4 * n + 2) c) (4 * n + 3) d) (4 * n + 1) 0 ≡ b)
-    × (get_or (set (set (set (set l (4 * n) a) (4 * n + 1) b) (4 * n + 2) c) (4 * n + 3) d) (4 * n + 2) 0 ≡ c)
-    × (get_or (set (set (set (set l (4 * n) a) (4 * n + 1) b) (4 * n + 2) c) (4 * n + 3) d) (4 * n + 3) 0 ≡ d)
-    × ((k : ℕ) → k < 4 * n → get_or (set (set (set (set l (4 * n) a) (4 * n + 1) b) (4 * n + 2) c) (4 * n + 3) d) k 0 ≡ get_or l k 0)
-four-stored l n a b c d h = (
-  past3 (4 * n) (λ e. omega arith) ∙ past2 (4 * n) (λ e. omega arith) ∙ past1 (4 * n) (λ e. omega arith) ∙ get_or-set_same l (4 * n) a 0 (omega arith),
-  past3 (4 * n + 1) (λ e. omega arith) ∙ past2 (4 * n + 1) (λ e. omega arith) ∙ get_or-set_same l1 (4 * n + 1) b 0 (omega (arith, n1)),
-  past3 (4 * n + 2) (λ e. omega arith) ∙ get_or-set_same l2 (4 * n + 2) c 0 (omega (arith, n1, n2)),
-  get_or-set_same l3 (4 * n + 3) d 0 (omega (arith, n1, n2, n3)),
-  λ k q. past3 k (λ e. omega arith) ∙ past2 k (λ e. omega arith) ∙ past1 k (λ e. omega arith) ∙ get_or-set_other l (4 * n) k a 0 (λ e. omega arith),
-)
-  where
-    l1 : List ℕ
-    l1 = set l (4 * n) a
-
-    l2 : List ℕ
-    l2 = set l1 (4 * n + 1) b
-
-    l3 : List ℕ
-    l3 = set l2 (4 * n + 2) c
-
-    n1 : length l1 ≡ length l
-    n1 = length-set l (4 * n) a
-
-    n2 : length l2 ≡ length l1
-    n2 = length-set l1 (4 * n + 1) b
-
-    n3 : length l3 ≡ length l2
-    n3 = length-set l2 (4 * n + 2) c
-
-    past1 : (k : ℕ) → (k ≡ 4 * n + 1 → ⊥) → get_or l2 k 0 ≡ get_or l1 k 0
-    past1 k e = get_or-set_other l1 (4 * n + 1) k b 0 e
-
-    past2 : (k : ℕ) → (k ≡ 4 * n + 2 → ⊥) → get_or l3 k 0 ≡ get_or l2 k 0
-    past2 k e = get_or-set_other l2 (4 * n + 2) k c 0 e
-
-    past3 : (k : ℕ) → (k ≡ 4 * n + 3 → ⊥) → get_or (set l3 (4 * n + 3) d) k 0 ≡ get_or l3 k 0
-    past3 k e = get_or-set_other l3 (4 * n + 3) k d 0 e
-
 -- ---- what a list leaves as it was
 
 module _ (body tray list : List ℕ) (d : OverlayDescriptor) (top : ℕ) (p : Part) (x y : ℕ) where
-  pub entry-same : (e e' : List ℕ) (k v : ℕ) → get_or e (4 * k) 0 ≡ get_or e' (4 * k) 0 → get_or e (4 * k + 1) 0 ≡ get_or e' (4 * k + 1) 0
+  pub entry-same : (e e' : List Entry) (k v : ℕ) → get_or e k no_entry ≡ get_or e' k no_entry
       → over_entry body tray list d e top p x y k v ≡ over_entry body tray list d e' top p x y k v
   unfolding over_entry
-  entry-same e e' k v a b = ap₂ (λ (i at : ℕ). over_taken body tray list d top p x y i (record_at tray at) v) b a
+  entry-same e e' k v a = ap (λ (q : Entry). over_taken body tray list d top p x y q.number (record_at tray q.at) v) a
 
-  pub entries-same : (e e' : List ℕ) (n v : ℕ) → ((k : ℕ) → k < 4 * n → get_or e k 0 ≡ get_or e' k 0) → over_entries body tray list d e top p x y n v ≡ over_entries body tray list d e' top p x y n v
+  pub entries-same : (e e' : List Entry) (n v : ℕ) → ((k : ℕ) → k < n → get_or e k no_entry ≡ get_or e' k no_entry) → over_entries body tray list d e top p x y n v ≡ over_entries body tray list d e' top p x y n v
   unfolding over_entries
   entries-same e e' zero v f = refl
   entries-same e e' (suc n) v f =
-      entry-same e e' n _ (f (4 * n) (omega arith)) (f (4 * n + 1) (omega arith))
+      entry-same e e' n _ (f n (omega arith))
       ∙ ap (over_entry body tray list d e' top p x y n) (entries-same e e' n v (λ k h. f k (omega arith)))
 
   -- an entry is the input of its number
-  pub entry-is : (e : List ℕ) (k v i at : ℕ) (fr : Frame) → get_or e (4 * k) 0 ≡ at → get_or e (4 * k + 1) 0 ≡ i → record_at tray at ≡ done fr
+  pub entry-is : (e : List Entry) (k v i at : ℕ) (fr : Frame) → (get_or e k no_entry).at ≡ at → (get_or e k no_entry).number ≡ i → record_at tray at ≡ Ok fr
       → over_entry body tray list d e top p x y k v ≡ over_at top p x y (layer_of body tray list d i fr) v
   unfolding over_entry over_taken
   entry-is e k v i at fr a b r = rw (a, b, r)
 
-  pub entry-refused : (e : List ℕ) (k v at : ℕ) (r : Refusal) → get_or e (4 * k) 0 ≡ at → record_at tray at ≡ refused r → over_entry body tray list d e top p x y k v ≡ v
+  pub entry-refused : (e : List Entry) (k v at : ℕ) (r : Refusal) → (get_or e k no_entry).at ≡ at → record_at tray at ≡ Err r → over_entry body tray list d e top p x y k v ≡ v
   unfolding over_entry over_taken
   entry-refused e k v at r a q = rw (a, q)
 
-  pub entry-over : (e : List ℕ) (k v w i at : ℕ) (fr : Frame) (o : Placement) (m : Bool) → get_or e (4 * k) 0 ≡ at → get_or e (4 * k + 1) 0 ≡ i → record_at tray at ≡ done fr
+  pub entry-over : (e : List Entry) (k v w i at : ℕ) (fr : Frame) (o : Placement) (m : Bool) → (get_or e k no_entry).at ≡ at → (get_or e k no_entry).number ≡ i → record_at tray at ≡ Ok fr
       → o ≡ placement_at body d i → m ≡ not (eqb (get_or list i 0) 0) → w ≡ over_at top p x y (layer_with tray fr o m) v → w ≡ over_entry body tray list d e top p x y k v
   unfolding layer_of layer_with
   entry-over e k v w i at fr o m a b r q z h =
       h ∙ ap₂ (λ (u : Placement) (t : Bool). over_at top p x y (record { pic = decode tray fr; placement = u; premultiplied = t }) v) q z
       ∙ sym (entry-is e k v i at fr a b r)
 
-  pub entries_next : (e : List ℕ) (n v : ℕ) → over_entries body tray list d e top p x y (n + 1) v ≡ over_entry body tray list d e top p x y n (over_entries body tray list d e top p x y n v)
+  pub entries_next : (e : List Entry) (n v : ℕ) → over_entries body tray list d e top p x y (n + 1) v ≡ over_entry body tray list d e top p x y n (over_entries body tray list d e top p x y n v)
   unfolding over_entries
   entries_next e n v = let one : n + 1 ≡ suc n = omega arith in rw one refl
 
-  pub entries_none : (e : List ℕ) (v : ℕ) → over_entries body tray list d e top p x y 0 v ≡ v
+  pub entries_none : (e : List Entry) (v : ℕ) → over_entries body tray list d e top p x y 0 v ≡ v
   unfolding over_entries
   entries_none e v = refl
 
-  pub entry-held : (e : List ℕ) (k v : ℕ) → v ≤ top * top → 1 ≤ top → over_entry body tray list d e top p x y k v ≤ top * top
+  pub entry-held : (e : List Entry) (k v : ℕ) → v ≤ top * top → 1 ≤ top → over_entry body tray list d e top p x y k v ≤ top * top
   unfolding over_entry over_taken
-  entry-held e k v h t = go (record_at tray (get_or e (4 * k) 0))
+  entry-held e k v h t = go (record_at tray ((get_or e k no_entry).at))
     where
-      go : (o : Out Frame) → over_taken body tray list d top p x y (get_or e (4 * k + 1) 0) o v ≤ top * top
-      go (refused r) = h
-      go (done fr) = over_at-held top p x y _ v h t
+      go : (o : Out Frame) → over_taken body tray list d top p x y ((get_or e k no_entry).number) o v ≤ top * top
+      go (Err r) = h
+      go (Ok fr) = over_at-held top p x y _ v h t
 
 -- ---- where an input lies
 
@@ -165,7 +122,7 @@ layer-beside body tray list d c top p i fr x y v h f = hull-beside c top p (laye
 -- ---- the list, input by input
 
 module _ (body tray : List ℕ) (d : OverlayDescriptor) (first c start count : ℕ) where
-  pub listing-begin : (e : List ℕ) → Listing body tray d first c start count e 0 0 first
+  pub listing-begin : (e : List Entry) → Listing body tray d first c start count e 0 0 first
   unfolding over_entries
   listing-begin e = record {
     room = omega arith;
@@ -175,7 +132,7 @@ module _ (body tray : List ℕ) (d : OverlayDescriptor) (first c start count : �
     all = λ list top p x y v w s t. rw (sub-zero d.count) refl;
   }
 
-  module _ (e : List ℕ) (n i at : ℕ) (l : Listing body tray d first c start count e n i at) where
+  module _ (e : List Entry) (n i at : ℕ) (l : Listing body tray d first c start count e n i at) where
     -- all were seen, or the next cannot be read
     pub listing-ends : d.count ≤ i → Listing body tray d first c start count e n d.count 0
     listing-ends h = record {
@@ -187,7 +144,7 @@ module _ (body tray : List ℕ) (d : OverlayDescriptor) (first c start count : �
           all_none top p x y body tray list d _ _ _ _ (omega arith) ∙ sym (all_none top p x y body tray list d _ _ _ _ (omega arith)) ∙ l.all list top p x y v w s t;
     }
 
-    pub listing-refused : (r : Refusal) → record_at tray at ≡ refused r → Listing body tray d first c start count e n d.count 0
+    pub listing-refused : (r : Refusal) → record_at tray at ≡ Err r → Listing body tray d first c start count e n d.count 0
     listing-refused r q = record {
       room = l.room;
       numbers = l.numbers;
@@ -197,7 +154,7 @@ module _ (body tray : List ℕ) (d : OverlayDescriptor) (first c start count : �
           all_none top p x y body tray list d _ _ _ _ (omega arith) ∙ sym (all-refused top p x y body tray list d _ _ _ _ r q) ∙ l.all list top p x y v w s t;
     }
 
-    module _ (fr : Frame) (q : record_at tray at ≡ done fr) (more : i < d.count) (h : Stretch) (eh : h ≡ hull_of c (placement_at body d i) fr.form) where
+    module _ (fr : Frame) (q : record_at tray at ≡ Ok fr) (more : i < d.count) (h : Stretch) (eh : h ≡ hull_of c (placement_at body d i) fr.form) where
       next : (list : List ℕ) (top : ℕ) (p : Part) (x y v w : ℕ) → w ≡ over_at top p x y (layer_of body tray list d i fr) v
           → over_all top p x y (layers_of body tray list d (i + 1) (frames_from (d.count - (i + 1)) tray fr.end)) w ≡ over_all top p x y (layers_of body tray list d i (frames_from (d.count - i) tray at)) v
       next list top p x y v w k =
@@ -223,24 +180,24 @@ module _ (body tray : List ℕ) (d : OverlayDescriptor) (first c start count : �
           high s t b = rw eh (omega arith)
 
       -- one that meets it is the last entry
-      pub listing-adds : (e' : List ℕ) → length e' ≡ length e → 4 * n + 4 ≤ length e → (get_or e' (4 * n) 0 ≡ at) × (get_or e' (4 * n + 1) 0 ≡ i) × (get_or e' (4 * n + 2) 0 ≡ h.from) × (get_or e' (4 * n + 3) 0 ≡ h.to) × ((k : ℕ) → k < 4 * n → get_or e' k 0 ≡ get_or e k 0)
+      pub listing-adds : (e' : List Entry) → length e' ≡ length e → n < length e → get_or e' n no_entry ≡ record { at = at; number = i; hull = h } → ((k : ℕ) → k < n → get_or e' k no_entry ≡ get_or e k no_entry)
           → Listing body tray d first c start count e' (n + 1) (i + 1) fr.end
       unfolding over_entries
-      listing-adds e' long room put = record {
+      listing-adds e' long room put kept = record {
         room = omega (arith, long);
-        numbers = λ k b. by_equal k n (λ z. rw (z, put.1) more) (λ z. rw (put.4 (4 * k + 1) (omega arith)) (l.numbers k (omega arith)));
+        numbers = λ k b. by_equal k n (λ z. rw (z, put) more) (λ z. rw (kept k (omega arith)) (l.numbers k (omega arith)));
         sooner = λ list k top p x y v b w s.
             by_equal k n
             (λ z. rw z (here list top p x y v) ∙ layer-beside body tray list d c top p i fr x y v w (λ a g. before k z x y s a))
-            (λ z. earlier list top p x y k v z b ∙ l.sooner list k top p x y v (omega arith) w (rw (put.4 (4 * k + 2) (omega arith)) at s));
+            (λ z. earlier list top p x y k v z b ∙ l.sooner list k top p x y v (omega arith) w (rw (kept k (omega arith)) at s));
         later = λ list k top p x y v b w s.
             by_equal k n
             (λ z. rw z (here list top p x y v) ∙ layer-beside body tray list d c top p i fr x y v w (λ a g. behind k z x y s g))
-            (λ z. earlier list top p x y k v z b ∙ l.later list k top p x y v (omega arith) w (rw (put.4 (4 * k + 3) (omega arith)) at s));
+            (λ z. earlier list top p x y k v z b ∙ l.later list k top p x y v (omega arith) w (rw (kept k (omega arith)) at s));
         all = λ list top p x y v w s t.
             next list top p x y (over_entries body tray list d e top p x y n v) _
             (ap (λ (m : ℕ). over_entries body tray list d e' top p x y m v) one ∙ here list top p x y _
-            ∙ ap (over_at top p x y (layer_of body tray list d i fr)) (entries-same body tray list d top p x y e' e n v put.4))
+            ∙ ap (over_at top p x y (layer_of body tray list d i fr)) (entries-same body tray list d top p x y e' e n v kept))
             ∙ l.all list top p x y v w s t;
       }
         where
@@ -248,16 +205,16 @@ module _ (body tray : List ℕ) (d : OverlayDescriptor) (first c start count : �
           one = omega arith
 
           here : (list : List ℕ) (top : ℕ) (p : Part) (x y v : ℕ) → over_entry body tray list d e' top p x y n v ≡ over_at top p x y (layer_of body tray list d i fr) v
-          here list top p x y v = entry-is body tray list d top p x y e' n v i at fr put.0 put.1 q
+          here list top p x y v = entry-is body tray list d top p x y e' n v i at fr (ap (λ (q : Entry). q.at) put) (ap (λ (q : Entry). q.number) put) q
 
           earlier : (list : List ℕ) (top : ℕ) (p : Part) (x y k v : ℕ) → (k ≡ n → ⊥) → k < n + 1 → over_entry body tray list d e' top p x y k v ≡ over_entry body tray list d e top p x y k v
-          earlier list top p x y k v z b = entry-same body tray list d top p x y e' e k v (put.4 (4 * k) (omega arith)) (put.4 (4 * k + 1) (omega arith))
+          earlier list top p x y k v z b = entry-same body tray list d top p x y e' e k v (kept k (omega arith))
 
-          before : (k : ℕ) → k ≡ n → (x y : ℕ) → y * c + x < get_or e' (4 * k + 2) 0 → (hull_of c (placement_at body d i) fr.form).from ≤ y * c + x → ⊥
-          before k z x y s a = let g : y * c + x < h.from = rw (z, put.2) at s in let f : y * c + x < (hull_of c (placement_at body d i) fr.form).from = rw eh at g in omega arith
+          before : (k : ℕ) → k ≡ n → (x y : ℕ) → y * c + x < (get_or e' k no_entry).hull.from → (hull_of c (placement_at body d i) fr.form).from ≤ y * c + x → ⊥
+          before k z x y s a = let g : y * c + x < h.from = rw (z, put) at s in let f : y * c + x < (hull_of c (placement_at body d i) fr.form).from = rw eh at g in omega arith
 
-          behind : (k : ℕ) → k ≡ n → (x y : ℕ) → get_or e' (4 * k + 3) 0 ≤ y * c + x → y * c + x < (hull_of c (placement_at body d i) fr.form).to → ⊥
-          behind k z x y s a = let g : h.to ≤ y * c + x = rw (z, put.3) at s in let f : (hull_of c (placement_at body d i) fr.form).to ≤ y * c + x = rw eh at g in omega arith
+          behind : (k : ℕ) → k ≡ n → (x y : ℕ) → (get_or e' k no_entry).hull.to ≤ y * c + x → y * c + x < (hull_of c (placement_at body d i) fr.form).to → ⊥
+          behind k z x y s a = let g : h.to ≤ y * c + x = rw (z, put) at s in let f : (hull_of c (placement_at body d i) fr.form).to ≤ y * c + x = rw eh at g in omega arith
 
 -- ---- a stripe of the block
 
@@ -266,15 +223,15 @@ pub stripe-place : (run : Stripe) → Whole run → 1 ≤ run.columns → (j : �
 unfolding across_at down_at base
 stripe-place run w h j = rw (w.across, w.down) (let k = row-column (run.start + j) run.columns h in (k.1, sym k.0))
 
-module _ (body tray list : List ℕ) (d : OverlayDescriptor) (first top : ℕ) (p : Part) (run : Stripe) (whole : Whole run) (wide : 1 ≤ run.columns) (e : List ℕ) (n : ℕ)
+module _ (body tray list : List ℕ) (d : OverlayDescriptor) (first top : ℕ) (p : Part) (run : Stripe) (whole : Whole run) (wide : 1 ≤ run.columns) (e : List Entry) (n : ℕ)
     (l : Listed body tray d first run.columns run.start run.count e n) (j : ℕ) (h : j < run.count) where
   pub entry-missed : (k v : ℕ) → k < n → missed e k run.start run.count ≡ true → over_entry body tray list d e top p (across_at run j) (down_at run j) k v ≡ v
   unfolding missed
   entry-missed k v b m =
       let a = stripe-place run whole wide j in
-      by-test (leb (run.start + run.count) (get_or e (4 * k + 2) 0))
-      (λ q. l.sooner list k top p (across_at run j) (down_at run j) v b a.0 (omega (arith, a.1, leb-true (run.start + run.count) (get_or e (4 * k + 2) 0) q)))
-      (λ q. l.later list k top p (across_at run j) (down_at run j) v b a.0 (omega (arith, a.1, leb-true (get_or e (4 * k + 3) 0) run.start (sym (ap (λ (t : Bool). t || leb (get_or e (4 * k + 3) 0) run.start) q) ∙ m))))
+      by-test (leb (run.start + run.count) ((get_or e k no_entry).hull.from))
+      (λ q. l.sooner list k top p (across_at run j) (down_at run j) v b a.0 (omega (arith, a.1, leb-true (run.start + run.count) ((get_or e k no_entry).hull.from) q)))
+      (λ q. l.later list k top p (across_at run j) (down_at run j) v b a.0 (omega (arith, a.1, leb-true ((get_or e k no_entry).hull.to) run.start (sym (ap (λ (t : Bool). t || leb ((get_or e k no_entry).hull.to) run.start) q) ∙ m))))
 
   pub list_all : (v : ℕ) → over_entries body tray list d e top p (across_at run j) (down_at run j) n v
       ≡ over_all top p (across_at run j) (down_at run j) (layers_of body tray list d 0 (frames_from d.count tray first)) v
@@ -283,16 +240,16 @@ module _ (body tray list : List ℕ) (d : OverlayDescriptor) (first top : ℕ) (
       sym (all_none top p _ _ body tray list d _ _ _ _ (omega arith)) ∙ l.all list top p _ _ v a.0 (omega (arith, a.1)) (omega (arith, a.1))
 
   -- where all lie beside it, nothing changes
-  entries-missed : (m v : ℕ) → m ≤ n → AllMissed e n run.start run.count → over_entries body tray list d e top p (across_at run j) (down_at run j) m v ≡ v
+  entries-missed : (m v : ℕ) → m ≤ n → ((k : ℕ) → k < n → missed e k run.start run.count ≡ true) → over_entries body tray list d e top p (across_at run j) (down_at run j) m v ≡ v
   unfolding over_entries
   entries-missed zero v b a = refl
-  entries-missed (suc m) v b a = entry-missed m _ (omega arith) (a.each m (omega arith)) ∙ entries-missed m v (omega arith) a
+  entries-missed (suc m) v b a = entry-missed m _ (omega arith) (a m (omega arith)) ∙ entries-missed m v (omega arith) a
 
-  pub list-missed : (v : ℕ) → AllMissed e n run.start run.count → over_all top p (across_at run j) (down_at run j) (layers_of body tray list d 0 (frames_from d.count tray first)) v ≡ v
+  pub list-missed : (v : ℕ) → ((k : ℕ) → k < n → missed e k run.start run.count ≡ true) → over_all top p (across_at run j) (down_at run j) (layers_of body tray list d 0 (frames_from d.count tray first)) v ≡ v
   list-missed v a = sym (list_all v) ∙ entries-missed n v (omega arith) a
 
 -- a part of the block
-pub listed-part : (body tray : List ℕ) (d : OverlayDescriptor) (first c start count s n : ℕ) (e : List ℕ) (k : ℕ) → start ≤ s → s + n ≤ start + count
+pub listed-part : (body tray : List ℕ) (d : OverlayDescriptor) (first c start count s n : ℕ) (e : List Entry) (k : ℕ) → start ≤ s → s + n ≤ start + count
     → Listed body tray d first c start count e k → Listed body tray d first c s n e k
 listed-part body tray d first c start count s n e k a b l = record {
   room = l.room;

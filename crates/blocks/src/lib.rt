@@ -4,5 +4,5 @@
 mod list;
 mod stripe;
 
-pub use crate::list::{Block, fit_block};
+pub use crate::list::{Block, Entry, fit_block};
 pub use crate::stripe::{is_clear, over_stripe};

@@ -1,7 +1,5 @@
-// The inputs that meet a block of the canvas, which is a run of its samples, row after row. An entry of the list has four numbers: where
-// the record stands, the input's number, and the samples between which the input lies.
-ghost use Rattle.std.specs.Prelude.{◌≡◌, ◌&&◌, ℕ, ◌+◌, ◌*◌, ◌<◌, ◌≤◌, ◌^◌, ltb, length, get_or};
-ghost use Rattle.laws.specs.Out.{done};
+// The inputs that meet a block of the canvas, which is a run of its samples, row after row.
+ghost use Rattle.std.specs.Prelude.{Some, ◌≡◌, ◌&&◌, ℕ, ◌+◌, ◌*◌, ◌<◌, ◌≤◌, ◌^◌, ltb, length};
 ghost use Rattle.records.specs.Record.{record_at};
 ghost use Rattle.derived.specs.inner.Sound.{OverlaySound};
 ghost use Rattle.blocks.specs.inner.Listed.{Listed, Listing, hull_of};
@@ -9,9 +7,26 @@ ghost use Rattle.blocks.specs.inner.Listed.{Listed, Listing, hull_of};
 use derived::{OverlayDescriptor, Placement};
 use image::Form;
 use opaque::{Stretch, reach};
-use records::{Frame, FrameRead};
+use records::Frame;
 
-// The samples of the canvas, counted row after row, between which an input lies.
+// An input of the list: where its record stands, its number, and the samples of the canvas, counted row after row, between which it lies.
+#[derive(Clone, Copy)]
+pub struct Entry {
+    pub at: usize,
+    pub number: u32,
+    pub hull: Stretch,
+}
+
+impl Entry {
+    // No input, in a list that is to be filled.
+    pub const NONE: Entry = Entry {
+        at: 0,
+        number: 0,
+        hull: Stretch { from: 0, to: 0 },
+    };
+}
+
+// The samples of the canvas between which an input lies.
 fn hull_of(columns: usize, place: Placement, form: Form) -> Stretch
     requires { columns ≤ 2 ^ 30 }
     ensures { result ≡ hull_of columns place form }
@@ -20,7 +35,7 @@ fn hull_of(columns: usize, place: Placement, form: Form) -> Stretch
     let down = reach(false, place.vertical, form.height);
     Stretch {
         from: down.from * columns + across.from,
-        to: numbers::saturating_sub(down.to, 1) * columns + numbers::min(across.to, columns),
+        to: down.to.saturating_sub(1) * columns + across.to.min(columns),
     }
 }
 
@@ -28,25 +43,12 @@ fn meets(h: Stretch, start: usize, count: usize) -> bool
     requires { start + count ≤ 2 ^ 30 }
     ensures { result ≡ ltb h.from (start + count) && ltb start h.to }
 {
-    image::both(h.from < start + count, start < h.to)
+    h.from < start + count && start < h.to
 }
 
-fn put_entry(entries: &mut [usize], n: usize, at: usize, number: usize, h: Stretch)
-    requires { 4 * n + 4 ≤ length entries.old }
-    ensures { (get_or entries.new (4 * n) 0 ≡ at) × (get_or entries.new (4 * n + 1) 0 ≡ number)
-        × (get_or entries.new (4 * n + 2) 0 ≡ h.from) × (get_or entries.new (4 * n + 3) 0 ≡ h.to)
-        × ((k : ℕ) → k < 4 * n → get_or entries.new k 0 ≡ get_or entries.old k 0) }
-{
-    let k = 4 * n;
-    entries[k] = at;
-    entries[k + 1] = number;
-    entries[k + 2] = h.from;
-    entries[k + 3] = h.to;
-}
-
-// The input i, whose record was read at a place, is listed if it meets the block. Returns how many are, 1,025 where they are more than 1,024.
+// The input i, whose record was read at a place, is listed if it meets the block. Returns how many are, None where they are more than 1,024.
 fn list_input(
-    entries: &mut [usize],
+    entries: &mut [Entry],
     n: usize,
     body: &[u8],
     tray: &[u8],
@@ -58,25 +60,29 @@ fn list_input(
     i: u32,
     at: usize,
     fr: Frame,
-) -> usize
-    requires { OverlaySound body.now d × (columns ≤ 2 ^ 30) × (start + count ≤ 2 ^ 30) × (4096 ≤ length entries.old) × (n ≤ 1024) × (i < d.count)
-        × (record_at tray.now at ≡ done fr) × Listing body.now tray.now d first columns start count entries.old n i at }
-    ensures { result ≤ 1024 → Listing body.now tray.now d first columns start count entries.new result (i + 1) fr.end }
+) -> Option<usize>
+    requires { OverlaySound body.now d × (columns ≤ 2 ^ 30) × (start + count ≤ 2 ^ 30) × (1024 ≤ length entries.old) × (n ≤ 1024) × (i < d.count)
+        × (record_at tray.now at ≡ Ok fr) × Listing body.now tray.now d first columns start count entries.old n i at }
+    ensures { (m : ℕ) → result ≡ Some m → (m ≤ 1024) × Listing body.now tray.now d first columns start count entries.new m (i + 1) fr.end }
 {
-    let h = hull_of(columns, d.offset(body, i), fr.form);
-    if !meets(h, start, count) {
-        return n;
+    let hull = hull_of(columns, d.offset(body, i), fr.form);
+    if !meets(hull, start, count) {
+        return Some(n);
     }
     if n == 1024 {
-        return 1025;
+        return None;
     }
-    put_entry(entries, n, at, i as usize, h);
-    n + 1
+    entries[n] = Entry {
+        at,
+        number: i,
+        hull,
+    };
+    Some(n + 1)
 }
 
-// Lists the inputs that meet a block, and returns how many; 1,025 where they are more than 1,024.
+// Lists the inputs that meet a block, and returns how many; None where they are more than 1,024.
 fn list_inputs(
-    entries: &mut [usize],
+    entries: &mut [Entry],
     body: &[u8],
     tray: &[u8],
     d: OverlayDescriptor,
@@ -84,44 +90,36 @@ fn list_inputs(
     columns: usize,
     start: usize,
     count: usize,
-) -> usize
-    requires { OverlaySound body.now d × (columns ≤ 2 ^ 30) × (start + count ≤ 2 ^ 30) × (4096 ≤ length entries.old) }
-    ensures { result ≤ 1024 → Listed body.now tray.now d first columns start count entries.new result }
+) -> Option<usize>
+    requires { OverlaySound body.now d × (columns ≤ 2 ^ 30) × (start + count ≤ 2 ^ 30) × (1024 ≤ length entries.old) }
+    ensures { (m : ℕ) → result ≡ Some m → (m ≤ 1024) × Listed body.now tray.now d first columns start count entries.new m }
 {
-    let inputs = d.count;
     let mut at = first;
     let mut n: usize = 0;
-    let mut i: u32 = 0;
-    while i < inputs {
+    for i in 0..d.count {
         match records::read_record(tray, at) {
-            FrameRead::Refused(_) => {
-                return n;
-            }
-            FrameRead::Read(fr) => {
+            Err(_) => return Some(n),
+            Ok(fr) => {
                 n = list_input(
                     entries, n, body, tray, d, first, columns, start, count, i, at, fr,
-                );
-                if n > 1024 {
-                    return n;
-                }
+                )?;
                 at = fr.end;
             }
         }
-        i += 1;
     }
-    n
+    Some(n)
 }
 
-// A block: so many samples, which so many inputs meet; where these are more than 1,024 they are not listed.
+// A block: so many samples, which so many inputs meet; None where these are more than 1,024, which are not listed.
 #[derive(Clone, Copy)]
 pub struct Block {
     pub count: usize,
-    pub inputs: usize,
+    pub inputs: Option<usize>,
 }
 
 // A block of so many samples, made shorter by a quarter until at most 1,024 inputs meet it, or until it has at most 1,024 samples.
 pub fn fit_block(
-    entries: &mut [usize],
+    entries: &mut [Entry],
     body: &[u8],
     tray: &[u8],
     d: OverlayDescriptor,
@@ -130,13 +128,13 @@ pub fn fit_block(
     start: usize,
     most: usize,
 ) -> Block
-    requires { OverlaySound body.now d × (columns ≤ 2 ^ 30) × (start + most ≤ 2 ^ 30) × (1 ≤ most) × (4096 ≤ length entries.old) }
+    requires { OverlaySound body.now d × (columns ≤ 2 ^ 30) × (start + most ≤ 2 ^ 30) × (1 ≤ most) × (1024 ≤ length entries.old) }
     ensures { (1 ≤ result.count) × (result.count ≤ most)
-        × (result.inputs ≤ 1024 → Listed body.now tray.now d first columns start result.count entries.new result.inputs) }
+        × ((m : ℕ) → result.inputs ≡ Some m → (m ≤ 1024) × Listed body.now tray.now d first columns start result.count entries.new m) }
 {
     let mut count = most;
     let mut inputs = list_inputs(entries, body, tray, d, first, columns, start, count);
-    while image::both(inputs > 1024, count > 1024) {
+    while inputs.is_none() && count > 1024 {
         count = count - count / 4;
         inputs = list_inputs(entries, body, tray, d, first, columns, start, count);
     }

@@ -1,4 +1,5 @@
 -- Laws of writing what was read: a body without trailing bytes, in the form that the rule picks, comes out as it was.
+use Rattle.std.specs.Prelude.{Ok}
 use mathlib.Core.Bool.{Bool}
 use mathlib.Core.List.{List, [], ◌++◌, ◌∷◌, append_assoc, append-nil}
 use mathlib.Core.Path.{◌∙◌, ◌≡◌, ap, refl, sym}
@@ -13,7 +14,7 @@ use borrow.Author.Tests.{eqb-true, le-leb, not-false}
 use Rattle.laws.proofs.Order.{by_equal, by_order, item-within, true-and}
 use Rattle.laws.proofs.Out.{and_then-done, done-same, refuse-done}
 use Rattle.laws.proofs.Span.{item-at, length-span-all, span-end, span-split, span-step}
-use Rattle.laws.specs.Out.{done, fitted}
+use Rattle.laws.specs.Out.{fitted}
 use Rattle.laws.specs.Puts.{Bytes}
 use Rattle.laws.specs.Span.{span}
 use Rattle.image.proofs.JudgedLaws.{judged-same, size-taken}
@@ -46,7 +47,7 @@ module _ (s : List ℕ) (small : (i : ℕ) → get_or s i 0 < 256) where
       let b : big_endian s at 1 % 256 ≡ big_endian s at 1 = omega (arith, big_endian-below s at 1 small) in
       field-again s at 1 small h ∙ ap (λ (v : ℕ). v ∷ drop (at + 1) s) b
 
-  start-again : (h : _) → start_of s ≡ done h → (s ≡ 0 ∷ get_or s 1 0 ∷ drop 2 s) × (h.bytes ≡ field_bytes (get_or s 1 0)) × (h.next.at ≡ 2) × (2 ≤ length s)
+  start-again : (h : _) → start_of s ≡ Ok h → (s ≡ 0 ∷ get_or s 1 0 ∷ drop 2 s) × (h.0 ≡ field_bytes (get_or s 1 0)) × (h.1.at ≡ 2) × (2 ≤ length s)
   unfolding start_of big_endian
   start-again h e =
       let v = on_field-done _ _ h e in
@@ -61,15 +62,15 @@ module _ (s : List ℕ) (small : (i : ℕ) → get_or s i 0 < 256) where
       let h' = done-same _ h f.3 in
       let long : 2 ≤ length s = omega (arith, at, b.2) in (
         byte-again 0 (omega arith) ∙ ap (λ (k : ℕ). k ∷ drop 1 s) version ∙ ap (λ (q : List ℕ). 0 ∷ q) (byte-again 1 (omega arith) ∙ ap (λ (k : ℕ). k ∷ drop 2 s) byte),
-        ap (λ k. k.bytes) (sym h') ∙ ap field_bytes flags,
-        ap (λ k. k.next.at) (sym h') ∙ b.1 ∙ ap (λ (k : ℕ). k + 1) at,
+        ap (λ k. k.0) (sym h') ∙ ap field_bytes flags,
+        ap (λ k. k.1.at) (sym h') ∙ b.1 ∙ ap (λ (k : ℕ). k + 1) at,
         long,
       )
 
-  canvas-again : (at n p m : ℕ) (c : _) → p ≡ at → m ≡ n → canvas_at s p m ≡ done c → (drop at s ≡ canvas_bytes n c.width c.height ++ drop (at + n + n) s) × (c.next.at ≡ at + n + n) × (at + n + n ≤ length s)
+  canvas-again : (at n p m : ℕ) (c : _) → p ≡ at → m ≡ n → canvas_at s p m ≡ Ok c → (drop at s ≡ canvas_bytes n c.0.width c.0.height ++ drop (at + n + n) s) × (c.1.at ≡ at + n + n) × (at + n + n ≤ length s)
   unfolding canvas_at canvas_bytes
   canvas-again at n p m c e1 e2 q =
-      let e : canvas_at s at n ≡ done c = rw (e1, e2) at q in
+      let e : canvas_at s at n ≡ Ok c = rw (e1, e2) at q in
       let w = on_field-done _ _ c e in
       let h = on_field-done _ _ c w.3 in
       let j = and_then-done _ _ c h.3 in
@@ -77,13 +78,13 @@ module _ (s : List ℕ) (small : (i : ℕ) → get_or s i 0 < 256) where
       let b = field-read s w.1.at n h.0 h.1 h.2 in
       let k = done-same _ c j.2 in
       let z = judged-same w.0 h.0 j.0 j.1 in
-      let width : big_endian s at n ≡ c.width = sym a.0 ∙ ap (λ (q : Size). q.width) (sym z) ∙ ap (λ q. q.width) k in
-      let height : big_endian s (at + n) n ≡ c.height =
-      ap (λ (p : ℕ). big_endian s p n) (sym a.1) ∙ sym b.0 ∙ ap (λ (q : Size). q.height) (sym z) ∙ ap (λ q. q.height) k in
+      let width : big_endian s at n ≡ c.0.width = sym a.0 ∙ ap (λ (q : Size). q.width) (sym z) ∙ ap (λ q. q.0.width) k in
+      let height : big_endian s (at + n) n ≡ c.0.height =
+      ap (λ (p : ℕ). big_endian s p n) (sym a.1) ∙ sym b.0 ∙ ap (λ (q : Size). q.height) (sym z) ∙ ap (λ q. q.0.height) k in
       let long : at + n + n ≤ length s = omega (arith, a.1, b.2) in (
         field-again s at n small (omega arith) ∙ ap (λ (q : List ℕ). big_endian_bytes n (big_endian s at n) ++ q) (field-again s (at + n) n small long)
-            ∙ rw (width, height) (sym (append_assoc (big_endian_bytes n c.width) (big_endian_bytes n c.height) (drop (at + n + n) s))),
-        ap (λ q. q.next.at) (sym k) ∙ b.1 ∙ ap (λ (p : ℕ). p + n) a.1,
+            ∙ rw (width, height) (sym (append_assoc (big_endian_bytes n c.0.width) (big_endian_bytes n c.0.height) (drop (at + n + n) s))),
+        ap (λ q. q.1.at) (sym k) ∙ b.1 ∙ ap (λ (p : ℕ). p + n) a.1,
         long,
       )
 
@@ -97,7 +98,7 @@ flags-same flags b h e =
 
 -- ---- a grid
 
-module _ (s : List ℕ) (small : (i : ℕ) → get_or s i 0 < 256) (g : GridDescriptor) (read : grid_of s ≡ done g) where
+module _ (s : List ℕ) (small : (i : ℕ) → get_or s i 0 < 256) (g : GridDescriptor) (read : grid_of s ≡ Ok g) where
   grid-again : s ≡ grid_body_in (get_or s 1 0) g ++ drop (4 + 2 * field_bytes (get_or s 1 0)) s
   unfolding grid_of grid_at grid_body_in
   grid-again =
@@ -106,7 +107,7 @@ module _ (s : List ℕ) (small : (i : ℕ) → get_or s i 0 < 256) (g : GridDesc
       let q = on_field-done _ _ g r.3 in
       let c = and_then-done _ _ g q.3 in
       let start = start-again s small h.0 h.1 in
-      let a = field-read s h.0.next.at 1 r.0 r.1 r.2 in
+      let a = field-read s h.0.1.at 1 r.0 r.1 r.2 in
       let b = field-read s r.1.at 1 q.0 q.1 q.2 in
       let at2 : r.1.at ≡ 3 = a.1 ∙ ap (λ (k : ℕ). k + 1) start.2 in
       let at3 : q.1.at ≡ 4 = b.1 ∙ ap (λ (k : ℕ). k + 1) at2 in
@@ -115,8 +116,8 @@ module _ (s : List ℕ) (small : (i : ℕ) → get_or s i 0 < 256) (g : GridDesc
       let g' = done-same _ g c.2 in
       let rows : big_endian s 2 1 ≡ g.rows - 1 = ap (λ (k : ℕ). big_endian s k 1) (sym start.2) ∙ sym a.0 ∙ omega (arith, ap (λ (k : GridDescriptor). k.rows) g') in
       let columns : big_endian s 3 1 ≡ g.columns - 1 = ap (λ (k : ℕ). big_endian s k 1) (sym at2) ∙ sym b.0 ∙ omega (arith, ap (λ (k : GridDescriptor). k.columns) g') in
-      let width : c.0.width ≡ g.output_width = ap (λ (k : GridDescriptor). k.output_width) g' in
-      let height : c.0.height ≡ g.output_height = ap (λ (k : GridDescriptor). k.output_height) g' in
+      let width : c.0.0.width ≡ g.output_width = ap (λ (k : GridDescriptor). k.output_width) g' in
+      let height : c.0.0.height ≡ g.output_height = ap (λ (k : GridDescriptor). k.output_height) g' in
       let e : 4 + n + n ≡ 4 + 2 * n = omega arith in
       start.0
       ∙ ap (λ (t : List ℕ). 0 ∷ get_or s 1 0 ∷ t)
@@ -139,7 +140,7 @@ module _ (s : List ℕ) (small : (i : ℕ) → get_or s i 0 < 256) (g : GridDesc
       ∙ ap (λ (x : ℕ). fitted room (grid_body_in x g)) (sym (flags-same (get_or s 1 0) (narrow_canvas g.output_width g.output_height) f e)) ∙ ap (fitted room) body
 
 -- "a parsed body with flags 0 or 1 is rewritten to the same bytes when it had no trailing bytes and its form was the one this rule picks"
-pub grid-rewritten : (s : List ℕ) (g : GridDescriptor) (room : ℕ) → Bytes s → grid_of s ≡ done g → get_or s 1 0 ≤ 1 → length s ≡ 4 + 2 * field_bytes (get_or s 1 0)
+pub grid-rewritten : (s : List ℕ) (g : GridDescriptor) (room : ℕ) → Bytes s → grid_of s ≡ Ok g → get_or s 1 0 ≤ 1 → length s ≡ 4 + 2 * field_bytes (get_or s 1 0)
     → field_bytes (get_or s 1 0) ≡ field_bytes (flags_of (narrow_canvas g.output_width g.output_height)) → grid_body_run g room ≡ fitted room s
 unfolding Bytes
 grid-rewritten s g room small read = grid-same s small g read room
@@ -158,10 +159,10 @@ span-again s at m (suc n) f h =
     ∙ ap (λ (q : List ℕ). q ++ drop (at + suc n * m) s) (ap (λ (q : List ℕ). span f 0 n ++ q) (sym one) ∙ sym (span-split f 0 n (suc n) (omega arith) (omega arith)))
 
 module _ (s : List ℕ) (small : (i : ℕ) → get_or s i 0 < 256) where
-  fill-again : (at p : ℕ) (f : _) → p ≡ at → fill_at s p ≡ done f → (drop at s ≡ fill_bytes f.fill ++ drop (at + 8) s) × (f.next.at ≡ at + 8) × FillSmall f.fill × (at + 8 ≤ length s)
+  fill-again : (at p : ℕ) (f : _) → p ≡ at → fill_at s p ≡ Ok f → (drop at s ≡ fill_bytes f.0 ++ drop (at + 8) s) × (f.1.at ≡ at + 8) × FillSmall f.0 × (at + 8 ≤ length s)
   unfolding fill_at fill_bytes
   fill-again at p f q e0 =
-      let e : fill_at s at ≡ done f = rw q at e0 in
+      let e : fill_at s at ≡ Ok f = rw q at e0 in
       let r = on_field-done _ _ f e in
       let g = on_field-done _ _ f r.3 in
       let b = on_field-done _ _ f g.3 in
@@ -176,24 +177,24 @@ module _ (s : List ℕ) (small : (i : ℕ) → get_or s i 0 < 256) where
       let at6 : b.1.at ≡ at + 6 = omega (arith, fb.1) in
       let at8 : a.1.at ≡ at + 8 = omega (arith, fa.1) in
       let long : at + 8 ≤ length s = omega (arith, fa.2) in
-      let red : big_endian s at 2 ≡ f.fill.red = sym fr.0 ∙ ap (λ x. x.fill.red) k in
-      let green : big_endian s (at + 2) 2 ≡ f.fill.green = ap (λ (x : ℕ). big_endian s x 2) (sym at2) ∙ sym fg.0 ∙ ap (λ x. x.fill.green) k in
-      let blue : big_endian s (at + 4) 2 ≡ f.fill.blue = ap (λ (x : ℕ). big_endian s x 2) (sym at4) ∙ sym fb.0 ∙ ap (λ x. x.fill.blue) k in
-      let alpha : big_endian s (at + 6) 2 ≡ f.fill.alpha = ap (λ (x : ℕ). big_endian s x 2) (sym at6) ∙ sym fa.0 ∙ ap (λ x. x.fill.alpha) k in
+      let red : big_endian s at 2 ≡ f.0.red = sym fr.0 ∙ ap (λ x. x.0.red) k in
+      let green : big_endian s (at + 2) 2 ≡ f.0.green = ap (λ (x : ℕ). big_endian s x 2) (sym at2) ∙ sym fg.0 ∙ ap (λ x. x.0.green) k in
+      let blue : big_endian s (at + 4) 2 ≡ f.0.blue = ap (λ (x : ℕ). big_endian s x 2) (sym at4) ∙ sym fb.0 ∙ ap (λ x. x.0.blue) k in
+      let alpha : big_endian s (at + 6) 2 ≡ f.0.alpha = ap (λ (x : ℕ). big_endian s x 2) (sym at6) ∙ sym fa.0 ∙ ap (λ x. x.0.alpha) k in
       let two : (x v : ℕ) → x + 2 ≤ length s → big_endian s x 2 ≡ v → drop x s ≡ big_endian_bytes 2 v ++ drop (x + 2) s =
       λ x v h d. field-again s x 2 small h ∙ ap (λ (y : ℕ). big_endian_bytes 2 y ++ drop (x + 2) s) d in
       let p4 : at + 2 + 2 ≡ at + 4 = omega arith in
       let p6 : at + 4 + 2 ≡ at + 6 = omega arith in
       let p8 : at + 6 + 2 ≡ at + 8 = omega arith in
       let below : (x v : ℕ) → big_endian s x 2 ≡ v → v ≤ 65535 = λ x v d. omega (arith, big_endian-below s x 2 small) in (
-        two at f.fill.red (omega arith) red
-            ∙ ap (λ (t : List ℕ). big_endian_bytes 2 f.fill.red ++ t)
-            (two (at + 2) f.fill.green (omega arith) green
-            ∙ ap (λ (t : List ℕ). big_endian_bytes 2 f.fill.green ++ t)
-            (ap (λ (x : ℕ). drop x s) p4 ∙ two (at + 4) f.fill.blue (omega arith) blue
-            ∙ ap (λ (t : List ℕ). big_endian_bytes 2 f.fill.blue ++ t) (ap (λ (x : ℕ). drop x s) p6 ∙ two (at + 6) f.fill.alpha (omega arith) alpha)))
+        two at f.0.red (omega arith) red
+            ∙ ap (λ (t : List ℕ). big_endian_bytes 2 f.0.red ++ t)
+            (two (at + 2) f.0.green (omega arith) green
+            ∙ ap (λ (t : List ℕ). big_endian_bytes 2 f.0.green ++ t)
+            (ap (λ (x : ℕ). drop x s) p4 ∙ two (at + 4) f.0.blue (omega arith) blue
+            ∙ ap (λ (t : List ℕ). big_endian_bytes 2 f.0.blue ++ t) (ap (λ (x : ℕ). drop x s) p6 ∙ two (at + 6) f.0.alpha (omega arith) alpha)))
             ∙ rw p8 (simp append_assoc),
-        ap (λ x. x.next.at) (sym k) ∙ at8,
+        ap (λ x. x.1.at) (sym k) ∙ at8,
         record { red = below at _ red; green = below (at + 2) _ green; blue = below (at + 4) _ blue; alpha = below (at + 6) _ alpha },
         long,
       )
@@ -205,7 +206,7 @@ module _ (s : List ℕ) (small : (i : ℕ) → get_or s i 0 < 256) where
       let b : big_endian s at n < 2 ^ (8 * n) = rw (← patterns n) (big_endian-below s at n small) in
       field-again s at n small h ∙ ap (λ (v : ℕ). big_endian_bytes n v ++ drop (at + n) s) (sym (pattern-signed (2 ^ (8 * n)) (big_endian s at n) b))
 
-module _ (s : List ℕ) (small : (i : ℕ) → get_or s i 0 < 256) (n : ℕ) (d : OverlayDescriptor) (read : overlay_of s n ≡ done d) where
+module _ (s : List ℕ) (small : (i : ℕ) → get_or s i 0 < 256) (n : ℕ) (d : OverlayDescriptor) (read : overlay_of s n ≡ Ok d) where
   sound : OverlaySound s d × (d.count ≡ n)
   sound = overlay-taken s n d read
 
@@ -218,14 +219,14 @@ module _ (s : List ℕ) (small : (i : ℕ) → get_or s i 0 < 256) (n : ℕ) (d 
       let a = refuse-done _ 4 _ d c.2 in
       let b = refuse-done _ 1 _ d a.1 in
       let k = done-same _ d b.1 in
-      let bytes : h.0.bytes ≡ d.bytes = ap (λ (x : OverlayDescriptor). x.bytes) k in
-      let fill : f.0.fill ≡ d.canvas_fill = ap (λ (x : OverlayDescriptor). x.canvas_fill) k in
-      let width : c.0.width ≡ d.output_width = ap (λ (x : OverlayDescriptor). x.output_width) k in
-      let height : c.0.height ≡ d.output_height = ap (λ (x : OverlayDescriptor). x.output_height) k in
-      let offsets : c.0.next.at ≡ d.offsets = ap (λ (x : OverlayDescriptor). x.offsets) k in
+      let bytes : h.0.0 ≡ d.bytes = ap (λ (x : OverlayDescriptor). x.bytes) k in
+      let fill : f.0.0 ≡ d.canvas_fill = ap (λ (x : OverlayDescriptor). x.canvas_fill) k in
+      let width : c.0.0.width ≡ d.output_width = ap (λ (x : OverlayDescriptor). x.output_width) k in
+      let height : c.0.0.height ≡ d.output_height = ap (λ (x : OverlayDescriptor). x.output_height) k in
+      let offsets : c.0.1.at ≡ d.offsets = ap (λ (x : OverlayDescriptor). x.offsets) k in
       let start = start-again s small h.0 h.1 in
-      let colour = fill-again s small 2 h.0.next.at f.0 start.2 f.1 in
-      let canvas = canvas-again s small 10 d.bytes f.0.next.at h.0.bytes c.0 colour.1 bytes c.1 in
+      let colour = fill-again s small 2 h.0.1.at f.0 start.2 f.1 in
+      let canvas = canvas-again s small 10 d.bytes f.0.1.at h.0.0 c.0 colour.1 bytes c.1 in
       let past : 10 + d.bytes + d.bytes ≡ d.offsets = sym canvas.1 ∙ offsets in (
         start.0
             ∙ ap (λ (t : List ℕ). 0 ∷ get_or s 1 0 ∷ t)
@@ -265,12 +266,12 @@ module _ (s : List ℕ) (small : (i : ℕ) → get_or s i 0 < 256) (n : ℕ) (d 
       let picked : get_or s 1 0 ≡ flags_of (narrow_overlay (fields_of s d)) = flags-same (get_or s 1 0) (narrow_overlay (fields_of s d)) f (sym head-again.1 ∙ e) in
       let body : overlay_body (fields_of s d) ≡ s =
       ap (λ (x : ℕ). overlay_body_in x (fields_of s d)) (sym picked) ∙ sym (append-nil _) ∙ ap (λ (q : List ℕ). overlay_body_in (get_or s 1 0) (fields_of s d) ++ q) (sym ends) ∙ sym overlay-again in
-      let judged : judged_size o.width o.height ≡ done (sides d.output_width d.output_height) =
+      let judged : judged_size o.width o.height ≡ Ok (sides d.output_width d.output_height) =
       rw (same.width, same.height) (size-taken (sides d.output_width d.output_height) k.canvas) in
       overlay-run o room tt (judged-overlay o _ judged (omega (arith, sound.1)) (omega (arith, k.count))) ∙ ap (fitted room) (body_same o (fields_of s d) same ∙ body)
 
 -- "an overlay's with an input", from whatever says the same fields
-pub overlay-rewritten : (s : List ℕ) (n : ℕ) (d : OverlayDescriptor) (o : OverlayFields) (room : ℕ) → Bytes s → overlay_of s n ≡ done d → 1 ≤ n → get_or s 1 0 ≤ 1
+pub overlay-rewritten : (s : List ℕ) (n : ℕ) (d : OverlayDescriptor) (o : OverlayFields) (room : ℕ) → Bytes s → overlay_of s n ≡ Ok d → 1 ≤ n → get_or s 1 0 ≤ 1
     → length s ≡ d.offsets + d.count * (2 * d.bytes) → d.bytes ≡ field_bytes (flags_of (narrow_overlay (fields_of s d))) → SameFields o (fields_of s d) → overlay_body_run o room ≡ fitted room s
 unfolding Bytes
 overlay-rewritten s n d o room small read = overlay-same s small n d read o room
@@ -310,7 +311,7 @@ module _ (f g : ℕ → ℕ) (n : ℕ) where
       (λ r. let e : k ≡ 2 * (k / 2) + 1 = omega arith in rw e (rw c.1 (q (k / 2)))))
       (λ h. rw (get_or-eq_default pairs 0 {n = k} (omega (arith, length_pairs))) z)
 
-module _ (s : List ℕ) (small : (i : ℕ) → get_or s i 0 < 256) (n : ℕ) (d : OverlayDescriptor) (read : overlay_of s n ≡ done d) where
+module _ (s : List ℕ) (small : (i : ℕ) → get_or s i 0 < 256) (n : ℕ) (d : OverlayDescriptor) (read : overlay_of s n ≡ Ok d) where
   long : FieldLength d.bytes
   long = rw (head-again s small n d read).1 (field-length (get_or s 1 0))
 
@@ -345,7 +346,7 @@ module _ (s : List ℕ) (small : (i : ℕ) → get_or s i 0 < 256) (n : ℕ) (d 
       )
 
 -- the fields of every body that was read can be handed in as words
-pub words-there : (s : List ℕ) (n : ℕ) (d : OverlayDescriptor) → Bytes s → overlay_of s n ≡ done d
+pub words-there : (s : List ℕ) (n : ℕ) (d : OverlayDescriptor) → Bytes s → overlay_of s n ≡ Ok d
     → (words : List ℕ) × ((k : ℕ) → get_or words k 0 < 2 ^ 32) × SameFields (fields_in d.canvas_fill d.output_width d.output_height words) (fields_of s d)
 unfolding Bytes
 words-there s n d small read = words_of s small n d read

@@ -1,4 +1,6 @@
 -- Laws of reading a body that was written: its fields come back.
+use Rattle.numbers.specs.declared.Cursor.{Cursor}
+use Rattle.std.specs.Prelude.{Ok}
 use mathlib.Core.Bool.{Bool, ◌&&◌, false, true}
 use mathlib.Core.List.{List, ◌++◌, ◌∷◌, append_assoc}
 use mathlib.Core.Path.{◌∙◌, ◌≡◌, ap, ap₂, refl, sym}
@@ -13,7 +15,7 @@ use borrow.Author.Tests.{le-ltb, leb-true}
 use Rattle.laws.proofs.Order.{and-true}
 use Rattle.laws.proofs.Out.{and_then-done, done-same, refuse-done, refuse-no, then-done}
 use Rattle.laws.proofs.Span.{item-at, length-span-all}
-use Rattle.laws.specs.Out.{Out, done, fitted}
+use Rattle.laws.specs.Out.{Out, fitted}
 use Rattle.laws.specs.Pick.{pick}
 use Rattle.laws.specs.Span.{span}
 use Rattle.image.proofs.JudgedLaws.{judged-same, judged-sound}
@@ -23,7 +25,6 @@ use Rattle.image.specs.declared.size.Size.{Size}
 use Rattle.numbers.proofs.Field.{field_back, length-big_endian_bytes, pattern-below, signed-fits, signed-pattern}
 use Rattle.numbers.proofs.Number.{past-append}
 use Rattle.numbers.specs.Field.{big_endian_bytes, field_at, on_field, pattern_of, signed_of}
-use Rattle.numbers.specs.declared.FieldRead.{FieldRead}
 use Rattle.derived.proofs.FieldLaws.{field-inside, patterns}
 use Rattle.derived.specs.Canvas.{canvas_at, field_bytes, start_of}
 use Rattle.derived.specs.Grid.{grid_at, grid_of}
@@ -49,7 +50,7 @@ module _ (s : List ℕ) (at n v : ℕ) (rest : List ℕ) (e : drop at s ≡ big_
   field-there k p h =
       let l : length s - at ≡ n + length rest =
       sym (length-drop at s) ∙ ap length e ∙ length-append (big_endian_bytes n v) rest ∙ ap (λ (m : ℕ). m + length rest) (length-big_endian_bytes n v) in
-      ap (λ (r : FieldRead). on_field r k) (field-inside s at n (omega arith)) ∙ ap (λ (m : ℕ). k m (at + n)) (field_back s at n v rest e h)
+      ap (λ (r : Out (ℕ × Cursor)). on_field r k) (field-inside s at n (omega arith)) ∙ ap (λ (m : ℕ). k m (at + n)) (field_back s at n v rest e h)
 
 -- one byte
 module _ (s : List ℕ) (at v : ℕ) (rest : List ℕ) (e : drop at s ≡ v ∷ rest) (h : v < 256) where
@@ -62,23 +63,23 @@ module _ (s : List ℕ) (at v : ℕ) (rest : List ℕ) (e : drop at s ≡ v ∷ 
 
 -- ---- what both bodies have
 
-start-there : (s : List ℕ) (flags : ℕ) (rest : List ℕ) → s ≡ 0 ∷ flags ∷ rest → flags < 256 → start_of s ≡ done (record { bytes = field_bytes flags; next = record { at = 2 } })
+start-there : (s : List ℕ) (flags : ℕ) (rest : List ℕ) → s ≡ 0 ∷ flags ∷ rest → flags < 256 → start_of s ≡ Ok (field_bytes flags, record { at = 2 })
 unfolding start_of
 start-there s flags rest e h = byte-there s 0 0 (flags ∷ rest) e (lit< tt) _ ∙ refuse-no 2 _ refl ∙ byte-there s 1 flags rest (ap (drop 1) e) h _
 
-canvas-there : (s : List ℕ) (at n w h : ℕ) (rest : List ℕ) (z : Size) → drop at s ≡ canvas_bytes n w h ++ rest → 1 ≤ n → w < 256 ^ n → h < 256 ^ n → judged_size w h ≡ done z
-    → (canvas_at s at n ≡ done (record { width = w; height = h; next = record { at = at + n + n } })) × (drop (at + n + n) s ≡ rest)
+canvas-there : (s : List ℕ) (at n w h : ℕ) (rest : List ℕ) (z : Size) → drop at s ≡ canvas_bytes n w h ++ rest → 1 ≤ n → w < 256 ^ n → h < 256 ^ n → judged_size w h ≡ Ok z
+    → (canvas_at s at n ≡ Ok (sides w h, record { at = at + n + n })) × (drop (at + n + n) s ≡ rest)
 unfolding canvas_at canvas_bytes
 canvas-there s at n w h rest z e p x y j =
     let a : drop at s ≡ big_endian_bytes n w ++ (big_endian_bytes n h ++ rest) = e ∙ append_assoc (big_endian_bytes n w) (big_endian_bytes n h) rest in
     let b : drop (at + n) s ≡ big_endian_bytes n h ++ rest = field_past s at n w (big_endian_bytes n h ++ rest) a in
-    let q : judged_size w h ≡ done (sides w h) = j ∙ ap done (judged-same w h z j) in (
+    let q : judged_size w h ≡ Ok (sides w h) = j ∙ ap Ok (judged-same w h z j) in (
       field-there s at n w _ a _ p x ∙ field-there s (at + n) n h rest b _ p y ∙ then-done _ q,
       field_past s (at + n) n h rest b,
     )
 
 -- the form that the rule picks holds the sides of a canvas that is taken
-canvas-fits : (w h : ℕ) (z : Size) (b : Bool) → judged_size w h ≡ done z → (b ≡ true → narrow_canvas w h ≡ true) → (w < 256 ^ field_bytes (flags_of b)) × (h < 256 ^ field_bytes (flags_of b))
+canvas-fits : (w h : ℕ) (z : Size) (b : Bool) → judged_size w h ≡ Ok z → (b ≡ true → narrow_canvas w h ≡ true) → (w < 256 ^ field_bytes (flags_of b)) × (h < 256 ^ field_bytes (flags_of b))
 unfolding narrow_canvas field_bytes flags_of pick
 canvas-fits w h z true j f = let n = and-true _ _ (f refl) in (omega (arith, leb-true w 65535 n.0), omega (arith, leb-true h 65535 n.1))
 canvas-fits w h z false j f =
@@ -89,9 +90,9 @@ canvas-fits w h z false j f =
 
 -- ---- a grid
 
-module _ (g : GridDescriptor) (room : ℕ) (bs rest : List ℕ) (written : grid_body_run g room ≡ done bs) where
+module _ (g : GridDescriptor) (room : ℕ) (bs rest : List ℕ) (written : grid_body_run g room ≡ Ok bs) where
   -- "Parsing the written body gives the fields back", whatever stands behind it
-  pub grid-back : grid_of (bs ++ rest) ≡ done g
+  pub grid-back : grid_of (bs ++ rest) ≡ Ok g
   unfolding grid_of grid_at grid_body_run grid_body grid_body_in fitted
   grid-back =
       let k = and_then-done _ _ bs written in
@@ -112,12 +113,12 @@ module _ (g : GridDescriptor) (room : ℕ) (bs rest : List ℕ) (written : grid_
       ∙ byte-there s 2 (g.rows - 1) _ (ap (drop 2) e) (omega arith) _
       ∙ byte-there s 3 (g.columns - 1) _ (ap (drop 3) e) (omega arith) _
       ∙ then-done _ canvas.0
-      ∙ ap₂ (λ (x y : ℕ). done (record { rows = x; columns = y; output_width = w; output_height = h })) r q
+      ∙ ap₂ (λ (x y : ℕ). Ok (record { rows = x; columns = y; output_width = w; output_height = h })) r q
 
 -- ---- an overlay
 
 fill-there : (s : List ℕ) (at : ℕ) (f : Fill) (rest : List ℕ) → drop at s ≡ fill_bytes f ++ rest → FillSmall f
-    → (fill_at s at ≡ done (record { fill = f; next = record { at = at + 2 + 2 + 2 + 2 } })) × (drop (at + 2 + 2 + 2 + 2) s ≡ rest)
+    → (fill_at s at ≡ Ok (f, record { at = at + 2 + 2 + 2 + 2 })) × (drop (at + 2 + 2 + 2 + 2) s ≡ rest)
 unfolding fill_at fill_bytes
 fill-there s at f rest e k =
     let r = big_endian_bytes 2 f.red in
@@ -161,7 +162,7 @@ unfolding field_bytes flags_of pick
 offset-fits true z f h = narrow-fits z (f refl)
 offset-fits false z f h = h
 
-module _ (o : OverlayFields) (room : ℕ) (bs rest : List ℕ) (written : overlay_body_run o room ≡ done bs) (fill : FillSmall o.fill)
+module _ (o : OverlayFields) (room : ℕ) (bs rest : List ℕ) (written : overlay_body_run o room ≡ Ok bs) (fill : FillSmall o.fill)
     (across : (i : ℕ) → mag (o.horizontal i) < 2 ^ 31) (down : (i : ℕ) → mag (o.vertical i) < 2 ^ 31) where
   abbrev s : List ℕ
   s = bs ++ rest
@@ -172,7 +173,7 @@ module _ (o : OverlayFields) (room : ℕ) (bs rest : List ℕ) (written : overla
   abbrev read : OverlayDescriptor
   read = record { canvas_fill = o.fill; output_width = o.width; output_height = o.height; count = o.count; offsets = 10 + n + n; bytes = n }
 
-  taken : (z : Size) × (judged_size o.width o.height ≡ done z) × (o.count ≤ 65536) × (bs ≡ overlay_body o)
+  taken : (z : Size) × (judged_size o.width o.height ≡ Ok z) × (o.count ≤ 65536) × (bs ≡ overlay_body o)
   unfolding overlay_body_run fitted
   taken =
       let k = and_then-done _ _ bs written in
@@ -193,7 +194,7 @@ module _ (o : OverlayFields) (room : ℕ) (bs rest : List ℕ) (written : overla
       let a = and-true _ _ e in
       (a.0, λ i h. and-true _ _ (all-at o.count (λ j. narrow_offset (o.horizontal j) && narrow_offset (o.vertical j)) a.1 i h))
 
-  head-there : (overlay_of s o.count ≡ inputs_of s o.fill (record { width = o.width; height = o.height; next = record { at = 10 + n + n } }) n o.count) × (drop (10 + n + n) s ≡ offsets ++ rest)
+  head-there : (overlay_of s o.count ≡ inputs_of s o.fill (sides o.width o.height) (10 + n + n) n o.count) × (drop (10 + n + n) s ≡ offsets ++ rest)
   unfolding overlay_of
   head-there =
       let f = fill-there s 2 o.fill _ (ap (drop 2) laid) fill in
@@ -211,7 +212,7 @@ module _ (o : OverlayFields) (room : ℕ) (bs rest : List ℕ) (written : overla
       let k = length-span-all (input_bytes n o) (2 * n) o.count (length-input n o) in
       omega (arith, length-fill o.fill, length-canvas n o.width o.height)
 
-  overlay_read : overlay_of s o.count ≡ done read
+  overlay_read : overlay_of s o.count ≡ Ok read
   unfolding inputs_of
   overlay_read = head-there.0 ∙ refuse-no 4 _ (le-ltb 65536 o.count taken.2) ∙ refuse-no 1 _ (le-ltb (length s) _ inside)
 
@@ -226,15 +227,15 @@ module _ (o : OverlayFields) (room : ℕ) (bs rest : List ℕ) (written : overla
       (a.0, b.0)
 
   -- "Parsing the written body gives the fields back", whatever stands behind it
-  pub overlay-back : (d : OverlayDescriptor) × (overlay_of s o.count ≡ done d) × SameFields (fields_of s d) o
+  pub overlay-back : (d : OverlayDescriptor) × (overlay_of s o.count ≡ Ok d) × SameFields (fields_of s d) o
   unfolding fields_of
   overlay-back =
       (read, overlay_read, record { fill = refl; width = refl; height = refl; count = refl; horizontal = λ i h. (input-there i h).0; vertical = λ i h. (input-there i h).1 })
 
 -- from words
 pub words_back : (fill : Fill) (w h : ℕ) (words : List ℕ) (room : ℕ) (bs rest : List ℕ) → FillSmall fill → ((k : ℕ) → get_or words k 0 < 2 ^ 32)
-    → overlay_body_run (fields_in fill w h words) room ≡ done bs
-    → (d : OverlayDescriptor) × (overlay_of (bs ++ rest) (length words / 2) ≡ done d) × SameFields (fields_of (bs ++ rest) d) (fields_in fill w h words)
+    → overlay_body_run (fields_in fill w h words) room ≡ Ok bs
+    → (d : OverlayDescriptor) × (overlay_of (bs ++ rest) (length words / 2) ≡ Ok d) × SameFields (fields_of (bs ++ rest) d) (fields_in fill w h words)
 unfolding fields_in offset_in
 words_back fill w h words room bs rest f small e =
     overlay-back (fields_in fill w h words) room bs rest e f (λ i. signed-fits (2 ^ 32) _ (small (2 * i)) refl) (λ i. signed-fits (2 ^ 32) _ (small (2 * i + 1)) refl)

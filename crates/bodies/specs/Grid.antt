@@ -1,6 +1,7 @@
 -- The grid's body (document 02, A4; ISO/IEC 23008-12, 6.6.2.3.2).
+use Rattle.std.specs.Prelude.{Ok}
 use Rattle.std.specs.Prelude.{Bool, ◌&&◌, not, List, ◌∷◌, ◌-◌, ℕ, leb}
-use Rattle.laws.specs.Out.{Out, and_then, done, fitted, refuse}
+use Rattle.laws.specs.Out.{Out, and_then, fitted, refuse}
 use Rattle.image.specs.Format.{judged_size}
 use Rattle.derived.specs.Canvas.{field_bytes}
 use Rattle.derived.specs.declared.grid.GridDescriptor.{GridDescriptor}
@@ -23,7 +24,7 @@ is_tile_count n = leb 1 n && leb n 256
 unfoldable pub grid_judged : GridDescriptor → Out Unit
 grid_judged g =
     refuse (not (is_tile_count g.rows && is_tile_count g.columns)) 19
-    (and_then (judged_size g.output_width g.output_height) (λ _. done tt))
+    (and_then (judged_size g.output_width g.output_height) (λ _. Ok tt))
 
 -- 17 last
 unfoldable pub grid_body_run : GridDescriptor → ℕ → Out (List ℕ)

@@ -1,7 +1,8 @@
 -- The overlay's body (document 02, A4; ISO/IEC 23008-12, 6.6.2.2.2).
+use Rattle.std.specs.Prelude.{Ok}
 use Rattle.std.specs.Prelude.{Bool, ◌&&◌, List, ◌++◌, ◌∷◌, ◌≡◌, ◌*◌, ◌+◌, ◌/◌, ◌<◌, ◌^◌, ◌≤◌, ℕ, eqb, ltb, ℤ, get_or, length}
 use Rattle.laws.specs.Any.{all_below}
-use Rattle.laws.specs.Out.{Out, and_then, done, fitted, refuse}
+use Rattle.laws.specs.Out.{Out, and_then, fitted, refuse}
 use Rattle.laws.specs.Span.{span}
 use Rattle.numbers.specs.Field.{big_endian_bytes, pattern_of, signed_of}
 use Rattle.image.specs.Format.{judged_size}
@@ -51,7 +52,7 @@ unfoldable pub overlay_judged : OverlayFields → Out Unit
 overlay_judged o =
     and_then (judged_size o.width o.height) (λ _.
     refuse (ltb 65536 o.count) 4
-    (refuse (eqb o.count 0) 15 (done tt)))
+    (refuse (eqb o.count 0) 15 (Ok tt)))
 
 -- 17 last
 unfoldable pub overlay_body_run : OverlayFields → ℕ → Out (List ℕ)

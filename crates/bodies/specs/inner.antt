@@ -1,3 +1,2 @@
 -- What only proofs and the contracts of inner functions cite: no public promise does.
-pub mod Judged
 pub mod Words

@@ -1,60 +1,49 @@
 // The overlay's body (ISO/IEC 23008-12, 6.6.2.2.2).
-ghost use Rattle.std.specs.Prelude.{◌&&◌, ◌≡◌, ◌*◌, ◌+◌, ◌≤◌, eqb, ltb, length};
-ghost use Rattle.laws.specs.Out.{answer_of, done, refuse, written};
+ghost use Rattle.std.specs.Prelude.{◌&&◌, ◌≡◌, ◌+◌, ◌/◌, ◌≤◌, eqb, ltb, length};
+ghost use Rattle.laws.specs.Out.{answer_of, refuse, written};
 ghost use Rattle.laws.specs.Puts.{puts};
 ghost use Rattle.laws.specs.Span.{span};
 ghost use Rattle.numbers.specs.inner.Length.{FieldLength};
 ghost use Rattle.bodies.specs.Form.{narrow_canvas};
 ghost use Rattle.bodies.specs.Overlay.{fields_in, fill_bytes, overlay_body_run};
-ghost use Rattle.bodies.specs.inner.Judged.{judged_out};
 ghost use Rattle.bodies.specs.inner.Words.{narrow_inputs, overlay_head, word_bytes};
 
-use crate::form::{
-    Judged, field_bytes, first, flags_of, judge_canvas, narrow_canvas, narrow_offset, put_canvas,
-};
+use crate::form::{field_bytes, flags_of, narrow_canvas, narrow_offset, put_canvas};
 use derived::Fill;
-use laws::{Answer, Refusal};
+use image::Size;
+use laws::Refusal;
 
 // How many inputs: 4 above 65,536, 15 none.
-fn judge_count(count: usize) -> Judged
-    ensures { judged_out result ≡ refuse (ltb 65536 count) 4 (refuse (eqb count 0) 15 (done tt)) }
+#[tactic(auto, unfolding(laws::specs::Out::refuse))]
+fn judge_count(count: usize) -> Result<(), Refusal>
+    ensures { result ≡ refuse (ltb 65536 count) 4 (refuse (eqb count 0) 15 (Ok tt)) }
 {
     if count > 65536 {
-        return Judged::Refused(Refusal::LIMIT);
+        return Err(Refusal::LIMIT);
     }
     if count == 0 {
-        return Judged::Refused(Refusal::MISSING);
+        return Err(Refusal::MISSING);
     }
-    Judged::Taken
+    Ok(())
 }
 
-// Whether 16 bits hold every offset of so many inputs.
-fn narrow_offsets(offsets: &[u32], count: usize) -> bool
-    requires { 2 * count ≤ length offsets.now }
-    ensures { result ≡ narrow_inputs offsets.now count }
+// Whether 16 bits hold both offsets of every input.
+fn narrow_offsets(offsets: &[u32]) -> bool
+    ensures { result ≡ narrow_inputs offsets.now (length offsets.now / 2) }
 {
-    let mut i: usize = 0;
-    while i < count {
-        if !narrow_offset(offsets[2 * i]) {
+    for i in 0..offsets.len() / 2 {
+        if !(narrow_offset(offsets[2 * i]) && narrow_offset(offsets[2 * i + 1])) {
             return false;
         }
-        if !narrow_offset(offsets[2 * i + 1]) {
-            return false;
-        }
-        i += 1;
     }
     true
 }
 
 // Whether 16 bits hold the sides of the canvas, too.
-fn narrow_overlay(width: u32, height: u32, offsets: &[u32], count: usize) -> bool
-    requires { 2 * count ≤ length offsets.now }
-    ensures { result ≡ narrow_canvas width height && narrow_inputs offsets.now count }
+fn narrow_overlay(width: u32, height: u32, offsets: &[u32]) -> bool
+    ensures { result ≡ narrow_canvas width height && narrow_inputs offsets.now (length offsets.now / 2) }
 {
-    if !narrow_canvas(width, height) {
-        return false;
-    }
-    narrow_offsets(offsets, count)
+    narrow_canvas(width, height) && narrow_offsets(offsets)
 }
 
 // Writes the fill at `at`, and returns the place past it.
@@ -79,19 +68,17 @@ fn put_head(out: &mut [u8], flags: u8, fill: Fill, width: u32, height: u32) -> u
     put_canvas(out, at, field_bytes(flags), width, height)
 }
 
-// Writes the offsets of so many inputs at `at`, of so many bytes each, and returns the place past them. A pattern's lowest bytes are
-// the shorter pattern.
-fn put_offsets(out: &mut [u8], at: usize, bytes: usize, offsets: &[u32], count: usize) -> usize
-    requires { FieldLength bytes × (2 * count ≤ length offsets.now) × (at + length (span (word_bytes bytes offsets.now) 0 count) ≤ length out.old) }
-    ensures { (result ≡ at + length (span (word_bytes bytes offsets.now) 0 count))
-        × (out.new ≡ puts out.old at (span (word_bytes bytes offsets.now) 0 count)) }
+// Writes the offsets of every input at `at`, of so many bytes each, and returns the place past them. A pattern's lowest bytes are the
+// shorter pattern.
+fn put_offsets(out: &mut [u8], at: usize, bytes: usize, offsets: &[u32]) -> usize
+    requires { FieldLength bytes × (at + length (span (word_bytes bytes offsets.now) 0 (length offsets.now / 2)) ≤ length out.old) }
+    ensures { (result ≡ at + length (span (word_bytes bytes offsets.now) 0 (length offsets.now / 2)))
+        × (out.new ≡ puts out.old at (span (word_bytes bytes offsets.now) 0 (length offsets.now / 2))) }
 {
     let mut place = at;
-    let mut i: usize = 0;
-    while i < count {
+    for i in 0..offsets.len() / 2 {
         let middle = numbers::write_field(out, place, bytes, offsets[2 * i]);
         place = numbers::write_field(out, middle, bytes, offsets[2 * i + 1]);
-        i += 1;
     }
     place
 }
@@ -99,23 +86,24 @@ fn put_offsets(out: &mut [u8], at: usize, bytes: usize, offsets: &[u32], count: 
 // Writes the body of an overlay from the start of `out` on. Of each input in turn `offsets` has two words, the unsigned patterns of its
 // horizontal and its vertical offset; a last word without a partner is not looked at. Sizes and offsets are of 16 bits where all fit, else
 // of 32. Refusals: 3 a side 0, 4 above 2^30 pixels, 4 above 65,536 inputs, 15 without inputs, 17.
-pub fn write_overlay(fill: Fill, width: u32, height: u32, offsets: &[u32], out: &mut [u8]) -> Answer
+pub fn write_overlay(
+    fill: Fill,
+    width: u32,
+    height: u32,
+    offsets: &[u32],
+    out: &mut [u8],
+) -> Result<usize, Refusal>
     ensures { (result ≡ answer_of (overlay_body_run (fields_in fill width height offsets.now) (length out.old)))
         × (out.new ≡ written (overlay_body_run (fields_in fill width height offsets.now) (length out.old)) out.old) }
 {
     let count = offsets.len() / 2;
-    let canvas = judge_canvas(width, height);
-    let inputs = judge_count(count);
-    match first(canvas, inputs) {
-        Judged::Refused(e) => Answer::Refused(e),
-        Judged::Taken => {
-            let flags = flags_of(narrow_overlay(width, height, offsets, count));
-            let bytes = field_bytes(flags);
-            if out.len() < 10 + 2 * bytes + count * (2 * bytes) {
-                return Answer::Refused(Refusal::ROOM);
-            }
-            let at = put_head(out, flags, fill, width, height);
-            Answer::Wrote(put_offsets(out, at, bytes, offsets, count))
-        }
+    Size::judge(width, height)?;
+    judge_count(count)?;
+    let flags = flags_of(narrow_overlay(width, height, offsets));
+    let bytes = field_bytes(flags);
+    if out.len() < 10 + 2 * bytes + count * (2 * bytes) {
+        return Err(Refusal::ROOM);
     }
+    let at = put_head(out, flags, fill, width, height);
+    Ok(put_offsets(out, at, bytes, offsets))
 }

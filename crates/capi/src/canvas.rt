@@ -5,7 +5,7 @@ ghost use Rattle.session.specs.Session.{drawn_buffer};
 ghost use Rattle.words.specs.Code.{code_of, none_of};
 ghost use Rattle.words.specs.Canvas.{start_run, place_run, blank_run, finish_run, state_after};
 
-use laws::{Answer, Refusal};
+use laws::Refusal;
 use session::Canvas;
 
 // A canvas for a grid's body, in 1034 words. Refusals: the body's; 17 a state below 1034 words.
@@ -14,15 +14,13 @@ pub extern "C" fn compose_canvas_start(body: &[u8], state: &mut [u64]) -> u64
     ensures { (result ≡ code_of (none_of (start_run body.now (length state.old))))
         × (state.new ≡ written (start_run body.now (length state.old)) state.old) }
 {
-    let called = Canvas::start(body);
-    let answer = called.answer;
-    match answer {
-        Answer::Refused(e) => words::refusal_code(e),
-        Answer::Wrote(_) => {
+    match Canvas::start(body) {
+        Err(e) => words::refusal_code(e),
+        Ok(canvas) => {
             if state.len() < 1034 {
                 return words::refusal_code(Refusal::ROOM);
             }
-            words::put_canvas(state, called.canvas);
+            words::put_canvas(state, canvas);
             0
         }
     }
@@ -45,8 +43,7 @@ pub extern "C" fn compose_canvas_place(
         return words::refusal_code(Refusal::ROOM);
     }
     let canvas = words::canvas_of(state);
-    let called = canvas.place(index, record, buffer);
-    words::keep(state, called)
+    words::keep(state, canvas.place(index, record, buffer))
 }
 
 // A blank cell of the first tile's form. Refusals: 17 a state below 1034 words; 5; 15 nothing placed; 11 index outside; 17.
@@ -60,8 +57,7 @@ pub extern "C" fn compose_canvas_blank(state: &mut [u64], index: u32, buffer: &m
         return words::refusal_code(Refusal::ROOM);
     }
     let canvas = words::canvas_of(state);
-    let called = canvas.blank(index, buffer);
-    words::keep(state, called)
+    words::keep(state, canvas.blank(index, buffer))
 }
 
 // The length of the record in the buffer; nothing is written. Refusals: 17 a state below 1034 words; 5; 15 a cell missing; 17.

@@ -4,7 +4,7 @@ ghost use Rattle.laws.specs.Out.{written};
 ghost use Rattle.words.specs.Code.{code_of, none_of};
 ghost use Rattle.words.specs.Descriptors.{grid_words, overlay_words, offset_words, offsets_words};
 
-use derived::{GridDescriptor, GridRead, OverlayDescriptor, OverlayRead};
+use derived::{GridDescriptor, OverlayDescriptor};
 use laws::Refusal;
 
 // What a grid's body says, in 4 words: rows, columns, width, height. Refusals: the body's; 17 an answer below 4 words.
@@ -14,8 +14,8 @@ pub extern "C" fn compose_grid_descriptor(body: &[u8], answer: &mut [u64]) -> u6
         × (answer.new ≡ written (grid_words body.now (length answer.old)) answer.old) }
 {
     match GridDescriptor::parse(body) {
-        GridRead::Refused(e) => words::refusal_code(e),
-        GridRead::Read(g) => {
+        Err(e) => words::refusal_code(e),
+        Ok(g) => {
             if answer.len() < 4 {
                 return words::refusal_code(Refusal::ROOM);
             }
@@ -34,8 +34,8 @@ pub extern "C" fn compose_overlay_descriptor(body: &[u8], count: u32, answer: &m
         × (answer.new ≡ written (overlay_words body.now count (length answer.old)) answer.old) }
 {
     match OverlayDescriptor::parse(body, count) {
-        OverlayRead::Refused(e) => words::refusal_code(e),
-        OverlayRead::Read(d) => {
+        Err(e) => words::refusal_code(e),
+        Ok(d) => {
             if answer.len() < 6 {
                 return words::refusal_code(Refusal::ROOM);
             }
@@ -61,8 +61,8 @@ pub extern "C" fn compose_overlay_offset(
         × (answer.new ≡ written (offset_words body.now count index (length answer.old)) answer.old) }
 {
     match OverlayDescriptor::parse(body, count) {
-        OverlayRead::Refused(e) => words::refusal_code(e),
-        OverlayRead::Read(d) => {
+        Err(e) => words::refusal_code(e),
+        Ok(d) => {
             if index >= count {
                 return words::refusal_code(Refusal::COUNT);
             }
@@ -86,8 +86,8 @@ pub extern "C" fn compose_overlay_offsets(body: &[u8], count: u32, answer: &mut 
         × (answer.new ≡ written (offsets_words body.now count (length answer.old)) answer.old) }
 {
     match OverlayDescriptor::parse(body, count) {
-        OverlayRead::Refused(e) => words::refusal_code(e),
-        OverlayRead::Read(d) => {
+        Err(e) => words::refusal_code(e),
+        Ok(d) => {
             if answer.len() < count as usize * 4 {
                 return words::refusal_code(Refusal::ROOM);
             }

@@ -4,7 +4,6 @@ ghost use Rattle.laws.specs.Out.{written};
 ghost use Rattle.words.specs.Code.{code_of, none_of};
 ghost use Rattle.words.specs.Fill.{colour_of, fill_words};
 
-use fill::Filled;
 use laws::Refusal;
 
 // A fill's samples of red, green and blue, in 3 words. Refusals: 6 a depth outside 8 to 16; 17 an answer below 3 words.
@@ -29,8 +28,8 @@ pub extern "C" fn compose_fill(
         depth,
         words::colour_of(colour, matrix, full_range),
     ) {
-        Filled::Refused(e) => words::refusal_code(e),
-        Filled::Samples(s) => {
+        Err(e) => words::refusal_code(e),
+        Ok(s) => {
             if answer.len() < 3 {
                 return words::refusal_code(Refusal::ROOM);
             }

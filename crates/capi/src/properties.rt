@@ -5,10 +5,8 @@ ghost use Rattle.steps_text.specs.Text.{text_of};
 ghost use Rattle.words.specs.Code.{answer_code, code_of, none_of};
 ghost use Rattle.words.specs.Properties.{chain_count, clap_of, clap_words, iscl_of, iscl_words};
 
-use image::SizeAnswer;
 use laws::Refusal;
-use props::ChainRead;
-use sizes::{Clap, Iscl, Resolved};
+use sizes::{Clap, Iscl};
 
 // How many entries a chain has. Refusals: the chain's.
 #[unsafe(no_mangle)]
@@ -16,8 +14,8 @@ pub extern "C" fn compose_chain(chain: &[u8]) -> u64
     ensures { result ≡ code_of (chain_count chain.now) }
 {
     match props::check_chain(chain, 0) {
-        ChainRead::Refused(e) => words::refusal_code(e),
-        ChainRead::Read(c) => c.count as u64,
+        Err(e) => words::refusal_code(e),
+        Ok(c) => c.count as u64,
     }
 }
 
@@ -50,15 +48,16 @@ pub extern "C" fn compose_clap_resolve(
         vert_off_n,
         vert_off_d,
     };
-    let found = clap.resolve(width, height);
-    let Resolved::Rect(k) = found else {
-        return words::refusal_code(found.refusal());
-    };
-    if answer.len() < 8 {
-        return words::refusal_code(Refusal::ROOM);
+    match clap.resolve(width, height) {
+        Err(e) => words::refusal_code(e),
+        Ok(k) => {
+            if answer.len() < 8 {
+                return words::refusal_code(Refusal::ROOM);
+            }
+            words::put_crop(answer, k);
+            0
+        }
     }
-    words::put_crop(answer, k);
-    0
 }
 
 // The size that an iscl makes of a size, in 2 words: width, height. Refusals: iscl's; 17 an answer below 2 words.
@@ -82,12 +81,12 @@ pub extern "C" fn compose_iscl_size(
         height_den,
     };
     match iscl.output_size(width, height) {
-        SizeAnswer::Refused(e) => words::refusal_code(e),
-        SizeAnswer::Size(z) => {
+        Err(e) => words::refusal_code(e),
+        Ok(z) => {
             if answer.len() < 2 {
                 return words::refusal_code(Refusal::ROOM);
             }
-            words::put_sides(answer, 0, z.width, z.height);
+            words::put_words(answer, 0, z.width, z.height);
             0
         }
     }

@@ -6,7 +6,6 @@ ghost use Rattle.words.specs.Code.{code_of, none_of};
 ghost use Rattle.words.specs.Read.{record_words};
 
 use laws::Refusal;
-use records::{FrameRead, TrayRead};
 
 // What a record says, in 17 words: width, height, chroma, depth, alpha; then of luma, Cb, Cr and alpha each where its bytes
 // start, how many they are, and its stride. Refusals: the record's; 17 an answer below 17 words.
@@ -16,8 +15,8 @@ pub extern "C" fn compose_record(record: &[u8], answer: &mut [u64]) -> u64
         × (answer.new ≡ written (record_words «record».now (length answer.old)) answer.old) }
 {
     match records::parse_record(record) {
-        FrameRead::Refused(e) => words::refusal_code(e),
-        FrameRead::Read(f) => {
+        Err(e) => words::refusal_code(e),
+        Ok(f) => {
             if answer.len() < 17 {
                 return words::refusal_code(Refusal::ROOM);
             }
@@ -37,7 +36,7 @@ pub extern "C" fn compose_tray(tray: &[u8]) -> u64
     ensures { result ≡ code_of (tray_count (tray_of tray.now)) }
 {
     match records::check_tray(tray) {
-        TrayRead::Refused(e) => words::refusal_code(e),
-        TrayRead::Read(n) => n as u64,
+        Err(e) => words::refusal_code(e),
+        Ok(n) => n as u64,
     }
 }

@@ -1,16 +1,15 @@
 // How many bytes a record or a scene takes, before any buffer is lent.
-ghost use Rattle.std.specs.Prelude.{◌≡◌};
-ghost use Rattle.laws.specs.Out.{and_then, done};
+ghost use Rattle.std.specs.Prelude.{◌≡◌, Option};
+ghost use Rattle.laws.specs.Out.{and_then};
 ghost use Rattle.image.specs.Format.{form_of};
 ghost use Rattle.planes.specs.Bytes.{size_of};
-ghost use Rattle.fill.specs.declared.Colour.{Colour};
+ghost use Rattle.fill.specs.declared.Nclx.{Nclx};
 ghost use Rattle.scene_room.specs.Room.{longest_of};
 ghost use Rattle.scene_room.specs.Scene.{grid_drawn, overlay_drawn};
 ghost use Rattle.words.specs.Code.{code_of};
 ghost use Rattle.words.specs.Spots.{flag_of};
 
-use image::{Form, FormRead};
-use scene_room::RoomRead;
+use image::Form;
 
 // The length of the tight record of a form. Refusals: 5 chroma above 3 or alpha above 1, 6 a depth outside 8 to 16, 3 a side 0, 4.
 #[unsafe(no_mangle)]
@@ -21,11 +20,11 @@ pub extern "C" fn compose_record_size(
     depth: u32,
     alpha: u32,
 ) -> u64
-    ensures { result ≡ code_of (and_then (form_of width height chroma depth alpha) (λ m. done (size_of m))) }
+    ensures { result ≡ code_of (and_then (form_of width height chroma depth alpha) (λ m. Ok (size_of m))) }
 {
     match Form::judge(width, height, chroma, depth, alpha) {
-        FormRead::Refused(e) => words::refusal_code(e),
-        FormRead::Form(m) => planes::record_size(m) as u64,
+        Err(e) => words::refusal_code(e),
+        Ok(m) => planes::record_size(m) as u64,
     }
 }
 
@@ -39,10 +38,7 @@ pub extern "C" fn compose_grid_scene_room(
 ) -> u64
     ensures { result ≡ code_of (longest_of (grid_drawn body.now tray.now chain.now (flag_of essential_only))) }
 {
-    match scene_room::grid_room(body, tray, chain, essential_only != 0) {
-        RoomRead::Refused(e) => words::refusal_code(e),
-        RoomRead::Room(n) => n as u64,
-    }
+    words::answer_code(scene_room::grid_room(body, tray, chain, essential_only != 0))
 }
 
 // The same of an overlay's scene, whatever its colour. Refusals: compose_overlay_scene's but 17.
@@ -54,10 +50,13 @@ pub extern "C" fn compose_overlay_scene_room(
     essential_only: u8,
     premultiplied: &[u8],
 ) -> u64
-    ensures { (colour : Colour) → result ≡ code_of (longest_of (overlay_drawn body.now tray.now chain.now (flag_of essential_only) premultiplied.now colour)) }
+    ensures { (colour : Option Nclx) → result ≡ code_of (longest_of (overlay_drawn body.now tray.now chain.now (flag_of essential_only) premultiplied.now colour)) }
 {
-    match scene_room::overlay_room(body, tray, chain, essential_only != 0, premultiplied) {
-        RoomRead::Refused(e) => words::refusal_code(e),
-        RoomRead::Room(n) => n as u64,
-    }
+    words::answer_code(scene_room::overlay_room(
+        body,
+        tray,
+        chain,
+        essential_only != 0,
+        premultiplied,
+    ))
 }

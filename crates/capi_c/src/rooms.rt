@@ -1,9 +1,9 @@
 // How many bytes a record or a scene takes, before any buffer is lent.
-ghost use Rattle.std.specs.Prelude.{◌≡◌};
-ghost use Rattle.laws.specs.Out.{and_then, done};
+ghost use Rattle.std.specs.Prelude.{◌≡◌, Option};
+ghost use Rattle.laws.specs.Out.{and_then};
 ghost use Rattle.image.specs.Format.{form_of};
 ghost use Rattle.planes.specs.Bytes.{size_of};
-ghost use Rattle.fill.specs.declared.Colour.{Colour};
+ghost use Rattle.fill.specs.declared.Nclx.{Nclx};
 ghost use Rattle.scene_room.specs.Room.{longest_of};
 ghost use Rattle.scene_room.specs.Scene.{grid_drawn, overlay_drawn};
 ghost use Rattle.words.specs.Code.{code_of};
@@ -17,7 +17,7 @@ pub extern "C" fn compose_record_size(
     depth: u32,
     alpha: u32,
 ) -> u64
-    ensures { result ≡ code_of (and_then (form_of width height chroma depth alpha) (λ m. done (size_of m))) }
+    ensures { result ≡ code_of (and_then (form_of width height chroma depth alpha) (λ m. Ok (size_of m))) }
 {
     capi::rooms::compose_record_size(width, height, chroma, depth, alpha)
 }
@@ -42,7 +42,7 @@ pub extern "C" fn compose_overlay_scene_room(
     essential_only: u8,
     premultiplied: &[u8],
 ) -> u64
-    ensures { (colour : Colour) → result ≡ code_of (longest_of (overlay_drawn body.now tray.now chain.now (flag_of essential_only) premultiplied.now colour)) }
+    ensures { (colour : Option Nclx) → result ≡ code_of (longest_of (overlay_drawn body.now tray.now chain.now (flag_of essential_only) premultiplied.now colour)) }
 {
     capi::rooms::compose_overlay_scene_room(body, tray, chain, essential_only, premultiplied)
 }

@@ -5,8 +5,6 @@ use Prim.Native.Nat.{◌*◌, ◌+◌, ◌<◌, ◌^◌, ◌≤◌, ℕ}
 use native.Mathlib.Nat.{add-mul, mul_assoc, mul-le-mul_right}
 use native.Mathlib.Omega.{arith}
 use lib.Dec.{eqb}
-use lib.Ieee.{down}
-use lib.Pow.{high}
 use borrow.Author.Tests.{eq-eqb, ne_eqb}
 use Rattle.laws.proofs.Order.{by_equal, item-within, pick-false, pick_true, positive}
 use Rattle.image.proofs.FormLaws.{row-le, size-le}

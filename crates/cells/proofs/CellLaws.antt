@@ -1,7 +1,7 @@
 -- Laws of cells: how much of a tile shows along one axis.
 use mathlib.Core.List.{List}
 use mathlib.Core.Path.{◌∙◌, ◌≡◌, ap}
-use Prim.Native.Nat.{◌*◌, ◌+◌, ◌-◌, ◌<◌, ◌≤◌, ℕ}
+use Prim.Native.Nat.{min, ◌*◌, ◌+◌, ◌-◌, ◌<◌, ◌≤◌, ℕ}
 use native.Mathlib.Omega.{arith}
 use lib.ListN.{length}
 use borrow.Author.Tests.{le-leb, lt-leb}
@@ -32,6 +32,9 @@ unfolding visible_of
 visible-cut canvas tile i h = pick-false _ _ _ (lt-leb _ _ h)
 
 -- no more than the tile has, and no more than the canvas has left
+pub visible-min : (canvas tile i : ℕ) → min tile (canvas - i * tile) ≡ visible_of canvas tile i
+visible-min canvas tile i = by_order (canvas - i * tile) tile (λ h. rw (visible-cut canvas tile i h) (omega arith)) (λ h. rw (visible-whole canvas tile i h) (omega arith))
+
 pub visible-tile : (canvas tile i : ℕ) → visible_of canvas tile i ≤ tile
 visible-tile canvas tile i = by_order (canvas - i * tile) tile (λ h. rw (visible-cut canvas tile i h) (omega arith)) (λ h. rw (visible-whole canvas tile i h) (omega arith))
 

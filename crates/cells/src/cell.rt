@@ -11,29 +11,20 @@ use paste::Source;
 use records::Frame;
 
 // Along one axis: how many samples of a tile show in the cell of an index.
-pub(crate) fn visible(canvas: usize, tile: usize, i: u32) -> usize
+#[tactic(auto, unfolding(crate::specs::Cell::visible_of, laws::specs::Pick::pick))]
+fn visible(canvas: usize, tile: usize, i: u32) -> usize
     requires { tile < 2 ^ 32 }
     ensures { result ≡ visible_of canvas tile i }
 {
-    let before = i as usize * tile;
-    if canvas <= before {
-        return 0;
-    }
-    let left = canvas - before;
-    if tile <= left {
-        return tile;
-    }
-    left
+    tile.min(canvas.saturating_sub(i as usize * tile))
 }
 
 // The form of a tile, promoted to 4:4:4 or as it is.
+#[tactic(auto, unfolding(crate::specs::Cell::tile_form, laws::specs::Pick::pick))]
 pub fn tile_form(promoted: bool, m: Form) -> Form
     ensures { result ≡ tile_form promoted m }
 {
-    if promoted {
-        return m.as_444();
-    }
-    m
+    if promoted { m.as_444() } else { m }
 }
 
 // Where the samples of a part of a tile go in the canvas's record, and how many of them show. A cell that lies beyond the canvas
@@ -57,15 +48,7 @@ pub fn cell_of(to: Frame, tile: Form, column: u32, row: u32, part: Part) -> Cell
     let high = t.rows(tile.height, part);
     let across = visible(c.columns(canvas.width, part), wide, column);
     let down = visible(c.rows(canvas.height, part), high, row);
-    if across == 0 {
-        return Cell {
-            at: 0,
-            stride: 0,
-            across: 0,
-            down: 0,
-        };
-    }
-    if down == 0 {
+    if across == 0 || down == 0 {
         return Cell {
             at: 0,
             stride: 0,
@@ -108,8 +91,8 @@ fn draw_part(
             return;
         }
         let from = fr.plane(part);
-        let half_across = image::both(promoted, f.half_width(part));
-        let half_down = image::both(promoted, f.half_height(part));
+        let half_across = promoted && f.half_width(part);
+        let half_down = promoted && f.half_height(part);
         let data = planes::plane_data(s, from);
         let source = Source {
             bytes: f.bytes_per_sample(),

@@ -1,30 +1,25 @@
 -- The chain from record to record between two buffers.
-use mathlib.Core.Bool.{Bool, ◌&&◌, false, not, true}
+use Rattle.std.specs.Prelude.{Ok, Err}
+use mathlib.Core.Bool.{Bool, ◌&&◌, false, true}
 use mathlib.Core.List.{List, [], ◌++◌, ◌∷◌, append-nil}
 use mathlib.Core.Path.{◌∙◌, ◌≡◌, ap, refl, sym}
-use Prim.Native.Nat.{◌+◌, ◌-◌, ◌<◌, ◌≤◌, max, suc, zero, ℕ}
+use Prim.Native.Nat.{◌-◌, ◌≤◌, max, ℕ}
 use native.Mathlib.Nat.{le-max_left, le-max_right, le_trans}
 use native.Mathlib.Omega.{arith}
-use lib.ListN.{drop, drop_of_length-le, length, length-append, length-drop, length-replicate, replicate, take}
+use lib.ListN.{drop, drop_of_length-le, length, length-append, length-drop, replicate, take}
 use lib.Seq.{length-take-le, take_all, take_at}
 use Rattle.laws.proofs.Order.{by-test, pick-false, pick_true}
 use Rattle.laws.proofs.Out.{and_then-done, done-after, done-same, fitted-room, same-done, then-done}
-use Rattle.laws.proofs.Puts.{puts-split}
-use Rattle.laws.proofs.Span.{span-end, span-step}
-use Rattle.laws.specs.Out.{Out, and_then, answer_of, done, fitted, refused, written}
+use borrow.Rule.Slice.PartMut.{put_mid}
+use Rattle.laws.specs.Out.{Out, and_then, answer_of, fitted, written}
 use Rattle.laws.specs.Pick.{pick}
-use Rattle.laws.specs.Puts.{puts}
-use Rattle.laws.specs.Span.{span}
-use Rattle.laws.specs.declared.Answer.{Answer}
 use Rattle.records.specs.Record.{record_of}
 use Rattle.planes.specs.inner.InRange.{InRange}
-use Rattle.planes.specs.Bytes.{encode, sample_bytes, samples_of}
+use Rattle.planes.specs.Bytes.{encode}
 use Rattle.planes.specs.Picture.{Pic}
 use Rattle.props.proofs.ChainLaws.{fold_done, fold_step}
-use Rattle.props.specs.Chain.{applies, entries_at, fold_chain}
-use Rattle.props.specs.Entry.{entry_at}
+use Rattle.props.specs.Chain.{applies, fold_chain}
 use Rattle.sizes.specs.declared.clap.Clap.{Clap}
-use Rattle.props.specs.declared.entry.EntryAt.{EntryAt}
 use Rattle.props.specs.declared.entry.Imir.{Imir}
 use Rattle.props.specs.declared.entry.Irot.{Irot}
 use Rattle.props.specs.declared.entry.Property.{Property}
@@ -35,7 +30,7 @@ use Rattle.transform.specs.Run.{clap_run, imir_run, irot_run}
 use Rattle.resample.specs.Run.{iscl_run}
 use Rattle.stages.proofs.AfterLaws.{Shows, after-bytes}
 use Rattle.stages.specs.Chain.{Drawn, drawn_after, scaled}
-use Rattle.chains.specs.inner.Apply.{Ended, Finished, Roomy, draws, step_run, wrote_of}
+use Rattle.chains.specs.inner.Apply.{Ended, Roomy, draws, step_run, wrote_of}
 use Rattle.stages.specs.inner.Stage.{record_after}
 use Rattle.stages.specs.inner.Held.{moves}
 
@@ -43,13 +38,13 @@ use Rattle.stages.specs.inner.Held.{moves}
 
 -- one entry of a chain that is drawn
 record Step (flag : Bool) (e : PropertyEntry) (P : Pic) (l : ℕ) (b : Drawn) : Type 0 where
-  bytes : pick (applies flag e) (record_after e.property (encode P)) (done (encode P)) ≡ done (encode b.pic)
+  bytes : pick (applies flag e) (record_after e.property (encode P)) (Ok (encode P)) ≡ Ok (encode b.pic)
   in_range : InRange b.pic
   grows : l ≤ b.longest
   fits : length (encode b.pic) ≤ b.longest
 
 drawn-step : (flag : Bool) (e : PropertyEntry) (P : Pic) (l : ℕ) (b : Drawn) → InRange P → length (encode P) ≤ l
-    → pick (applies flag e) (drawn_after e.property (record { pic = P; longest = l })) (done (record { pic = P; longest = l })) ≡ done b → Step flag e P l b
+    → pick (applies flag e) (drawn_after e.property (record { pic = P; longest = l })) (Ok (record { pic = P; longest = l })) ≡ Ok b → Step flag e P l b
 unfolding drawn_after
 drawn-step flag e P l b k fits q = by-test (applies flag e) applied skipped
   where
@@ -62,7 +57,7 @@ drawn-step flag e P l b k fits q = by-test (applies flag e) applied skipped
         let s = same-done Shows _ _ (after-bytes p P k) a.0 a.1 in
         let i : record { pic = a.0; longest = max l (length (encode a.0)) } ≡ b = done-same _ b a.2 in
         rw (← i) (record {
-          bytes = pick_true _ _ _ t ∙ s.1 ∙ ap done s.2.bytes;
+          bytes = pick_true _ _ _ t ∙ s.1 ∙ ap Ok s.2.bytes;
           in_range = s.2.in_range;
           grows = le-max_left l (length (encode a.0));
           fits = le-max_right l (length (encode a.0));
@@ -76,11 +71,11 @@ drawn-step flag e P l b k fits q = by-test (applies flag e) applied skipped
 -- a chain on a picture, and on its record
 pub record Carried (output spare : ℕ) (flag : Bool) (es : List PropertyEntry) (P : Pic) (l : ℕ) (d : Drawn) : Type 0 where
   pub room : Roomy output spare flag es (encode P)
-  pub ends : fold_chain record_after flag es (encode P) ≡ done (encode d.pic)
+  pub ends : fold_chain record_after flag es (encode P) ≡ Ok (encode d.pic)
   pub grows : l ≤ d.longest
 
 pub chain-carried : (output spare : ℕ) (flag : Bool) (es : List PropertyEntry) (P : Pic) (l : ℕ) (d : Drawn) → InRange P → length (encode P) ≤ l
-    → fold_chain drawn_after flag es (record { pic = P; longest = l }) ≡ done d → d.longest ≤ output → d.longest ≤ spare → Carried output spare flag es P l d
+    → fold_chain drawn_after flag es (record { pic = P; longest = l }) ≡ Ok d → d.longest ≤ output → d.longest ≤ spare → Carried output spare flag es P l d
 unfolding fold_chain Roomy
 chain-carried output spare flag [] P l d k fits q o s =
     let i : record { pic = P; longest = l } ≡ d = done-same _ d q in
@@ -99,7 +94,7 @@ chain-carried output spare flag (e ∷ es) P l d k fits q o s =
 -- ---- the loop
 
 -- the record of an entry that does not draw
-other-is : (p : Property) (bs : List ℕ) → moves p ≡ false → record_after p bs ≡ done bs
+other-is : (p : Property) (bs : List ℕ) → moves p ≡ false → record_after p bs ≡ Ok bs
 unfolding moves record_after
 other-is Property.Other bs e = refl
 other-is (Property.Clap c) bs e = cc
@@ -107,21 +102,21 @@ other-is (Property.Irot k) bs e = cc
 other-is (Property.Imir k) bs e = cc
 other-is (Property.Iscl k) bs e = cc
 
-pub skipped-is : (flag : Bool) (e : PropertyEntry) (bs : List ℕ) → draws flag e ≡ false → pick (applies flag e) (record_after e.property bs) (done bs) ≡ done bs
+pub skipped-is : (flag : Bool) (e : PropertyEntry) (bs : List ℕ) → draws flag e ≡ false → pick (applies flag e) (record_after e.property bs) (Ok bs) ≡ Ok bs
 unfolding draws pick
 skipped-is flag e bs = go (applies flag e)
   where
-    go : (t : Bool) → (t && moves e.property) ≡ false → pick t (record_after e.property bs) (done bs) ≡ done bs
+    go : (t : Bool) → (t && moves e.property) ≡ false → pick t (record_after e.property bs) (Ok bs) ≡ Ok bs
     go true q = other-is e.property bs q
     go false q = refl
 
 -- what an operation answers and writes where there is room
-pub step-wrote : (p : Property) (bs b d : List ℕ) (a : Answer) (e : List ℕ) → record_after p bs ≡ done b → length b ≤ length d
+pub step-wrote : (p : Property) (bs b d : List ℕ) (a : Out ℕ) (e : List ℕ) → record_after p bs ≡ Ok b → length b ≤ length d
     → (a ≡ answer_of (step_run p bs (length d))) × (e ≡ written (step_run p bs (length d)) d)
     → (wrote_of a ≡ length b) × (take (length b) e ≡ b) × (length e ≡ length d)
 unfolding answer_of written wrote_of step_run
 step-wrote p bs b d a e q l h =
-    let o : and_then (record_after p bs) (fitted (length d)) ≡ done b = then-done _ q ∙ fitted-room (length d) b l in
+    let o : and_then (record_after p bs) (fitted (length d)) ≡ Ok b = then-done _ q ∙ fitted-room (length d) b l in
     let w : e ≡ b ++ drop (length b) d = h.1 ∙ ap (λ (u : Out (List ℕ)). written u d) o in (
       ap wrote_of (h.0 ∙ ap answer_of o),
       ap (take (length b)) w ∙ take_at b _ (length b) refl,
@@ -131,21 +126,21 @@ step-wrote p bs b d a e q l h =
 -- ---- one operation
 
 module _ {A : Type 0} (room : ℕ) where
-  fit-one : (o : Out A) (bytes : A → List ℕ) → and_then (and_then o (λ a. done (bytes a))) (fitted room) ≡ and_then o (λ a. fitted room (bytes a))
+  fit-one : (o : Out A) (bytes : A → List ℕ) → and_then (and_then o (λ a. Ok (bytes a))) (fitted room) ≡ and_then o (λ a. fitted room (bytes a))
   unfolding and_then
-  fit-one (refused r) bytes = refl
-  fit-one (done a) bytes = refl
+  fit-one (Err r) bytes = refl
+  fit-one (Ok a) bytes = refl
 
 module _ {A B : Type 0} (room : ℕ) where
   fit-two : (o : Out A) (f : A → Out B) (bytes : A → B → List ℕ)
-      → and_then (and_then o (λ a. and_then (f a) (λ b. done (bytes a b)))) (fitted room) ≡ and_then o (λ a. and_then (f a) (λ b. fitted room (bytes a b)))
+      → and_then (and_then o (λ a. and_then (f a) (λ b. Ok (bytes a b)))) (fitted room) ≡ and_then o (λ a. and_then (f a) (λ b. fitted room (bytes a b)))
   unfolding and_then
-  fit-two (refused r) f bytes = refl
-  fit-two (done a) f bytes = go (f a)
+  fit-two (Err r) f bytes = refl
+  fit-two (Ok a) f bytes = go (f a)
     where
-      go : (o : Out B) → and_then (and_then o (λ b. done (bytes a b))) (fitted room) ≡ and_then o (λ b. fitted room (bytes a b))
-      go (refused r) = refl
-      go (done b) = refl
+      go : (o : Out B) → and_then (and_then o (λ b. Ok (bytes a b))) (fitted room) ≡ and_then o (λ b. fitted room (bytes a b))
+      go (Err r) = refl
+      go (Ok b) = refl
 
 module _ (s : List ℕ) (room : ℕ) (p : Property) where
   pub step_other : p ≡ Property.Other → step_run p s room ≡ fitted room s
@@ -170,22 +165,14 @@ module _ (s : List ℕ) (room : ℕ) (p : Property) where
 
 -- ---- zeros
 
-zeros-from : (m k n : ℕ) → n - k ≡ m → span (λ x. 0 ∷ []) k n ≡ replicate m 0
-zeros-from zero k n e = span-end _ k n (omega arith)
-zeros-from (suc m) k n e = span-step _ k n (omega arith) ∙ ap (λ (l : List ℕ). 0 ∷ l) (zeros-from m (k + 1) n (omega arith))
-
-zeros-are : (n : ℕ) → samples_of 1 (λ x. 0) n ≡ replicate n 0
-unfolding samples_of sample_bytes pick
-zeros-are n = zeros-from n 0 n (omega arith)
-
-pub cleared : (d : List ℕ) (from n : ℕ) → from ≤ length d → n ≡ length d - from → puts d from (samples_of 1 (λ x. 0) n) ≡ take from d ++ replicate (length d - from) 0
-cleared d from n l e =
-    let z : samples_of 1 (λ x. 0) n ≡ replicate (length d - from) 0 = zeros-are n ∙ ap (λ (m : ℕ). replicate m 0) e in
-    let k : length {A = ℕ} (replicate (length d - from) 0) ≡ length d - from = length-replicate (length d - from) 0 in
-    let past : length d ≤ from + length {A = ℕ} (replicate (length d - from) 0) = omega (arith, k) in
-    ap (puts d from) z
-    ∙ puts-split d from _ (omega (arith, k))
-    ∙ ap (λ (l : List ℕ). take from d ++ l) (ap (λ (l : List ℕ). replicate (length d - from) 0 ++ l) (drop_of_length-le d past) ∙ append-nil _)
+pub cleared : (d z : List ℕ) (from : ℕ) → from ≤ length d → z ≡ replicate (length (take (length d - from) (drop from d))) 0
+    → put_mid from (length d - from) d z ≡ take from d ++ replicate (length d - from) 0
+cleared d z from l e =
+    let k : length (drop from d) ≡ length d - from = length-drop from d in
+    let n : length (take (length d - from) (drop from d)) ≡ length d - from = length-take-le _ _ (omega arith) in
+    ap (λ (l : List ℕ). take from d ++ l)
+    (ap (λ (l : List ℕ). l ++ drop (length d - from) (drop from d)) (e ∙ ap (λ (m : ℕ). replicate m 0) n)
+    ∙ ap (λ (l : List ℕ). replicate (length d - from) 0 ++ l) (drop_of_length-le (drop from d) (omega arith)) ∙ append-nil _)
 
 pub cleared-none : (d : List ℕ) (from : ℕ) → length d ≤ from → d ≡ take from d ++ replicate (length d - from) 0
 cleared-none d from l =

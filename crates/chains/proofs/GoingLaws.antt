@@ -1,19 +1,18 @@
 -- From stage to stage of a chain, between two buffers.
+use Rattle.std.specs.Prelude.{Ok, Err}
 use mathlib.Core.Bool.{Bool, ◌&&◌, false, not, true}
 use mathlib.Core.List.{List, [], ◌∷◌}
 use mathlib.Core.Path.{◌∙◌, ◌≡◌, ap, ap₂, refl, subst, sym}
 use Prim.Native.Nat.{◌-◌, ◌<◌, ◌≤◌, max, ℕ}
-use native.Mathlib.Nat.{le_of_eq, le_trans}
 use native.Mathlib.Omega.{arith}
 use lib.ListN.{length, take}
 use lib.Seq.{length-take-le, take_at}
 use Rattle.laws.proofs.Order.{and-true, by-test, pick-false, pick_true, true-and}
 use Rattle.laws.proofs.Out.{and_then-done, done-same, then-done}
 use Rattle.laws.proofs.Puts.{length-puts, puts-start}
-use Rattle.laws.specs.Out.{Out, after, and_then, answer_of, done, refused, written}
+use Rattle.laws.specs.Out.{Out, after, answer_of, written}
 use Rattle.laws.specs.Pick.{pick}
 use Rattle.laws.specs.Puts.{puts}
-use Rattle.laws.specs.declared.Answer.{Answer}
 use Rattle.image.specs.declared.format.Form.{Form}
 use Rattle.planes.proofs.RoundTrip.{length-encode}
 use Rattle.planes.specs.Bytes.{encode, size_of}
@@ -22,17 +21,15 @@ use Rattle.planes.specs.inner.InRange.{InRange}
 use Rattle.props.proofs.ChainLaws.{entries_none, entries-step, fold_done, fold-none, fold_step}
 use Rattle.props.specs.Chain.{applies, entries_at, fold_chain}
 use Rattle.props.specs.Entry.{entry_at}
-use Rattle.props.specs.declared.entry.EntryAt.{EntryAt}
 use Rattle.props.specs.declared.entry.Property.{Property}
 use Rattle.props.specs.declared.entry.PropertyEntry.{PropertyEntry}
-use Rattle.sight.specs.Sight.{sight_after}
 use Rattle.sight.specs.declared.Sight.{Sight}
 use Rattle.chains.proofs.ApplyLaws.{skipped-is, step-wrote}
-use Rattle.stages.proofs.StageLaws.{Held, Next, next_of, pic-form, plain-bytes, stage_at, stage-held, stage-reaches}
+use Rattle.stages.proofs.StageLaws.{Held, Next, next_of, plain-bytes, stage_at, stage-held, stage-reaches}
 use Rattle.stages.specs.declared.stage.Current.{Current}
 use Rattle.stages.specs.declared.stage.Stage.{Stage}
 use Rattle.chains.specs.inner.Apply.{Able, Arrived, Drawable, Ended, Lands, Planned, Ready, Roomy, Staged, bytes_in, chain_bytes, draws, entry_bytes, lying, record_in, settled_in, step_run, wrote_of}
-use Rattle.stages.specs.inner.Stage.{Gives, HeldAfter, StageSound, record_after, sight_here, stage_bytes, stage_drawn, stage_held, stage_start}
+use Rattle.stages.specs.inner.Stage.{Gives, HeldAfter, StageSound, record_after, stage_bytes, stage_drawn, stage_held, stage_start}
 use Rattle.plans.specs.declared.chain_plan.ChainPlan.{ChainPlan}
 use Rattle.stages.specs.inner.Held.{begins, form_after, is_held, moves, shown_after}
 use Rattle.plans.specs.inner.ChainPlan.{chain_plan_after}
@@ -166,7 +163,7 @@ module _ (p : Property) (t : Stage) (output spare : List ℕ) (k : Drawable p t 
       → Drawn (stage_drawn t n m) output e
   unfolding lying
   drawn-over m g i n e a w =
-      let q : record_after p (take t.current.size output) ≡ done k.next = ap (λ (b : Bool). record_after p (lying b t.current.size output spare)) (sym i) ∙ k.made in
+      let q : record_after p (take t.current.size output) ≡ Ok k.next = ap (λ (b : Bool). record_after p (lying b t.current.size output spare)) (sym i) ∙ k.made in
       let z = step-wrote p _ k.next spare _ e q k.broad (refl, w) in
       drawn-on m g n (a ∙ z.0) output e refl z.2 (ap (λ (b : Bool). lying (not b) n output e) i ∙ ap (λ (j : ℕ). take j e) (a ∙ z.0) ∙ z.1)
 
@@ -175,7 +172,7 @@ module _ (p : Property) (t : Stage) (output spare : List ℕ) (k : Drawable p t 
       → Drawn (stage_drawn t n m) e spare
   unfolding lying
   drawn-back m g i n e a w =
-      let q : record_after p (take t.current.size spare) ≡ done k.next = ap (λ (b : Bool). record_after p (lying b t.current.size output spare)) (sym i) ∙ k.made in
+      let q : record_after p (take t.current.size spare) ≡ Ok k.next = ap (λ (b : Bool). record_after p (lying b t.current.size output spare)) (sym i) ∙ k.made in
       let z = step-wrote p _ k.next output _ e q k.long (refl, w) in
       drawn-on m g n (a ∙ z.0) e spare z.2 refl (ap (λ (b : Bool). lying (not b) n e spare) i ∙ ap (λ (j : ℕ). take j e) (a ∙ z.0) ∙ z.1)
 
@@ -183,14 +180,14 @@ module _ (p : Property) (t : Stage) (output spare : List ℕ) (k : Drawable p t 
 
 bytes_after : (n : ℕ) (o : Out (List ℕ)) → bytes_in (after n o) ≡ bytes_in o
 unfolding bytes_in after
-bytes_after n (refused r) = refl
-bytes_after n (done bs) = refl
+bytes_after n (Err r) = refl
+bytes_after n (Ok bs) = refl
 
-taken_is : (bs : List ℕ) → bytes_in (done bs) ≡ bs
+taken_is : (bs : List ℕ) → bytes_in (Ok bs) ≡ bs
 unfolding bytes_in
 taken_is bs = refl
 
-other-form : (p : Property) (m : Form) → moves p ≡ false → form_after p m ≡ done m
+other-form : (p : Property) (m : Form) → moves p ≡ false → form_after p m ≡ Ok m
 unfolding moves form_after
 other-form Property.Other m e = refl
 other-form (Property.Clap c) m e = cc
@@ -250,7 +247,7 @@ module _ (flag : Bool) (x : PropertyEntry) (t : Stage) (output spare : List ℕ)
         planned = record { form = λ m e. done-same t.form m (sym w.0 ∙ e); side = sym w.1; kind = sym w.2 };
       }
     where
-      idle : draws flag x ≡ false → (pick (applies flag x) (form_after p t.form) (done t.form) ≡ done t.form)
+      idle : draws flag x ≡ false → (pick (applies flag x) (form_after p t.form) (Ok t.form) ≡ Ok t.form)
           × (pick (applies flag x && begins p t.form t.shown) (not (settled_in t)) (settled_in t) ≡ settled_in t)
           × (pick (applies flag x) (shown_after p t.form t.shown) t.shown ≡ t.shown)
       idle h = by-test (applies flag x)
@@ -264,7 +261,7 @@ module _ (flag : Bool) (x : PropertyEntry) (t : Stage) (output spare : List ℕ)
   unfolding draws HeldAfter Gives stage_held shown_after
   moved-held h i r g =
       let d = and-true _ _ h in
-      let made : record_after p (stage_bytes t here) ≡ done k.next = sym (pick_true _ _ _ d.0) ∙ k.made in
+      let made : record_after p (stage_bytes t here) ≡ Ok k.next = sym (pick_true _ _ _ d.0) ∙ k.made in
       let w = stage-held p t here k.next k.staged.sound i made in
       let is : r ≡ stage_held t w.form w.sight = g w.form w.sight w.formed w.sighted in
       rw is (record { arrived = arrives w; planned = plans d w })
@@ -338,7 +335,7 @@ lands-on flag x es t r k p =
     at : ℕ → ChainPlan
     at l = record { form = r.form; longest = l; even = settled_in r; shown = r.shown }
 
-    applied : (c : ChainPlan) → pick (applies flag x) (chain_plan_after x.property start) (done start) ≡ done c → applies flag x ≡ true → (l : ℕ) × (at l ≡ c)
+    applied : (c : ChainPlan) → pick (applies flag x) (chain_plan_after x.property start) (Ok start) ≡ Ok c → applies flag x ≡ true → (l : ℕ) × (at l ≡ c)
     applied c e h =
         let b = and_then-done _ _ c (sym (pick_true _ _ _ h) ∙ e) in
         let m : r.form ≡ b.0 = p.form b.0 (pick_true _ _ _ h ∙ b.1) in
@@ -346,7 +343,7 @@ lands-on flag x es t r k p =
         let side = p.side ∙ ap (λ (z : Bool). pick (z && begins x.property t.form t.shown) (not (settled_in t)) (settled_in t)) h in
         (max k.longest (size_of b.0), plan-is m side (p.kind ∙ pick_true _ _ _ h) ∙ q)
 
-    skipped : (c : ChainPlan) → pick (applies flag x) (chain_plan_after x.property start) (done start) ≡ done c → applies flag x ≡ false → (l : ℕ) × (at l ≡ c)
+    skipped : (c : ChainPlan) → pick (applies flag x) (chain_plan_after x.property start) (Ok start) ≡ Ok c → applies flag x ≡ false → (l : ℕ) × (at l ≡ c)
     skipped c e h =
         let m : r.form ≡ t.form = p.form t.form (pick-false _ _ _ h) in
         let q = done-same start c (sym (pick-false _ _ _ h) ∙ e) in
@@ -365,29 +362,29 @@ unfolding stage_start
 going-begins s flag left next m h t output spare e k = rw e (record { ready = k; same = ap (chain_bytes s left next flag) (plain-bytes (stage_start m h) _ refl); long = refl; broad = refl })
 
 module _ (s : List ℕ) (flag : Bool) (end d f : List ℕ) (left next : ℕ) (t : Stage) (output spare : List ℕ)
-    (g : Going s flag end d f left next t output spare) (x : EntryAt) (some : 0 < left) (at : entry_at s next ≡ done x) where
+    (g : Going s flag end d f left next t output spare) (x : PropertyEntry × ℕ) (some : 0 < left) (at : entry_at s next ≡ Ok x) where
   abbrev reached : List ℕ
   reached = stage_bytes t (record_in t output spare)
 
   -- the entry, and what is left after it
-  abbrev split : (rest : List PropertyEntry) × (entries_at (left - 1) s x.next ≡ done rest) × (g.ready.entries ≡ x.entry ∷ rest)
+  abbrev split : (rest : List PropertyEntry) × (entries_at (left - 1) s x.1 ≡ Ok rest) × (g.ready.entries ≡ x.0 ∷ rest)
   split = entries-step left s next g.ready.entries x some g.ready.read at
 
-  abbrev room : Roomy (length output) (length spare) flag (x.entry ∷ split.0) reached
+  abbrev room : Roomy (length output) (length spare) flag (x.0 ∷ split.0) reached
   room = rw (← split.2) g.ready.room
 
-  pub going-able : Able flag x.entry t output spare
+  pub going-able : Able flag x.0 t output spare
   unfolding Roomy
   going-able = let r = room in record { staged = g.ready.staged; next = r.0; made = r.1; long = r.2; broad = r.3 }
 
-  onward : (b : List ℕ) → entry_bytes flag x.entry reached ≡ done b → chain_bytes s (left - 1) x.next flag b ≡ end
+  onward : (b : List ℕ) → entry_bytes flag x.0 reached ≡ Ok b → chain_bytes s (left - 1) x.1 flag b ≡ end
   unfolding chain_bytes
   onward b q =
       ap bytes_in (then-done _ split.1) ∙ sym (bytes_after 1 _)
-      ∙ ap bytes_in (sym (fold_step record_after flag x.entry split.0 reached b q) ∙ ap (λ (es : List PropertyEntry). fold_chain record_after flag es reached) (sym split.2) ∙ sym (then-done _ g.ready.read))
+      ∙ ap bytes_in (sym (fold_step record_after flag x.0 split.0 reached b q) ∙ ap (λ (es : List PropertyEntry). fold_chain record_after flag es reached) (sym split.2) ∙ sym (then-done _ g.ready.read))
       ∙ g.same
 
-  pub going_on : (r : Stage) (output' spare' : List ℕ) → Moved flag x.entry t output spare going-able r output' spare' → Going s flag end d f (left - 1) x.next r output' spare'
+  pub going_on : (r : Stage) (output' spare' : List ℕ) → Moved flag x.0 t output spare going-able r output' spare' → Going s flag end d f (left - 1) x.1 r output' spare'
   unfolding Roomy
   going_on r output' spare' m =
       let w = room in
@@ -398,7 +395,7 @@ module _ (s : List ℕ) (flag : Bool) (end d f : List ℕ) (left next : ℕ) (t 
           entries = split.0;
           read = split.1;
           staged = a.staged;
-          lands = lands-on flag x.entry split.0 t r (rw split.2 at g.ready.lands) m.planned;
+          lands = lands-on flag x.0 split.0 t r (rw split.2 at g.ready.lands) m.planned;
           room = rw (i, a.long, a.broad) w.4;
         };
         same = rw i (onward w.0 w.1);
@@ -431,6 +428,6 @@ starts-at m h t output spare e = ap (λ (u : Stage). record_in u output spare) e
 
 -- the composed record lies where the plan of its form says
 pub start-lands : (flag : Bool) (es : List PropertyEntry) (m : Form) (h : Current) (b : ChainPlan) → h.inside ≡ b.even
-    → (d : ChainPlan) × (fold_chain chain_plan_after flag es (record { form = m; longest = size_of m; even = b.even; shown = false }) ≡ done d) × (d.even ≡ true) → Lands flag es (stage_start m h)
+    → (d : ChainPlan) × (fold_chain chain_plan_after flag es (record { form = m; longest = size_of m; even = b.even; shown = false }) ≡ Ok d) × (d.even ≡ true) → Lands flag es (stage_start m h)
 unfolding stage_start settled_in pick
 start-lands flag es m h b i k = record { longest = size_of m; plan = k.0; run = rw i k.1; even = k.2 }

@@ -8,12 +8,13 @@ ghost use Rattle.chains.specs.inner.Apply.{draws, lying, Ready, chain_bytes, byt
 ghost use Rattle.stages.specs.inner.Stage.{record_after, stage_bytes, stage_start, Gives, StageSound};
 
 use image::Form;
-use laws::Answer;
-use props::{Chain, EntryRead, Property, PropertyEntry};
+use laws::Refusal;
+use props::{Chain, Property, PropertyEntry};
+use records::Picture;
 use stages::{Current, Stage, hold, is_held, is_move, next_form, stage_drawn, stage_start};
 
 // A record after a property. Refusals: the record's, the property's, 17.
-fn draw_step(record: &[u8], property: Property, out: &mut [u8]) -> Answer
+fn draw_step(record: &[u8], property: Property, out: &mut [u8]) -> Result<usize, Refusal>
     ensures { (result ≡ answer_of (step_run property «record».now (length out.old)))
         × (out.new ≡ written (step_run property «record».now (length out.old)) out.old) }
 {
@@ -27,26 +28,11 @@ fn draw_step(record: &[u8], property: Property, out: &mut [u8]) -> Answer
 }
 
 // Whether an entry draws: it is applied, and not any other property.
+#[tactic(auto, unfolding(crate::specs::inner::Apply::draws, props::specs::Chain::applies))]
 fn is_drawn(entry: PropertyEntry, essential_only: bool) -> bool
     ensures { result ≡ draws essential_only entry }
 {
-    let property = entry.property;
-    if essential_only {
-        if entry.essential {
-            return is_move(property);
-        }
-        return false;
-    }
-    is_move(property)
-}
-
-fn wrote(a: Answer) -> usize
-    ensures { result ≡ wrote_of a }
-{
-    match a {
-        Answer::Wrote(n) => n,
-        Answer::Refused(_) => 0,
-    }
+    (!essential_only || entry.essential) && is_move(entry.property)
 }
 
 // The record at the start of one buffer after a property, drawn into another. Answers its length, 0 where it is refused.
@@ -55,8 +41,7 @@ fn draw_into(from: &[u8], size: usize, property: Property, to: &mut [u8]) -> usi
     ensures { (result ≡ wrote_of (answer_of (step_run property (take size from.now) (length to.old))))
         × (to.new ≡ written (step_run property (take size from.now) (length to.old)) to.old) }
 {
-    let record = &from[..size];
-    wrote(draw_step(record, property, to))
+    draw_step(&from[..size], property, to).unwrap_or(0)
 }
 
 // What a sight shows of the record at the start of one buffer, drawn into another. Answers its length.
@@ -64,9 +49,11 @@ fn show_into(from: &[u8], t: Stage, to: &mut [u8]) -> usize
     requires { StageSound t (take t.current.size from.now) × (t.shown ≡ true) × (t.current.size ≤ length from.now) × (size_of t.form ≤ length to.old) }
     ensures { (result ≡ size_of t.form) × (to.new ≡ puts to.old 0 (stage_bytes t (take t.current.size from.now))) }
 {
-    let current = t.current;
-    let record = &from[..current.size];
-    view::draw_sight(to, record, planes::tight(t.from), t.form, t.sight)
+    let picture = Picture {
+        record: &from[..t.current.size],
+        frame: planes::tight(t.from),
+    };
+    view::draw_sight(to, picture, t.form, t.sight)
 }
 
 // What is shown is drawn into the other buffer.
@@ -75,14 +62,13 @@ fn settle(t: Stage, output: &mut [u8], spare: &mut [u8]) -> Stage
     ensures { Arrived (stage_bytes t (record_in t output.old spare.old)) output.old spare.old result output.new spare.new
         × (result.shown ≡ false) × (result.form ≡ t.form) × (result.current.inside ≡ settled_in t) }
 {
-    if t.shown {
-        let current = t.current;
-        if current.inside {
-            return stage_drawn(t, show_into(output, t, spare), t.form);
-        }
-        return stage_drawn(t, show_into(spare, t, output), t.form);
+    if !t.shown {
+        t
+    } else if t.current.inside {
+        stage_drawn(t, show_into(output, t, spare), t.form)
+    } else {
+        stage_drawn(t, show_into(spare, t, output), t.form)
     }
-    t
 }
 
 // A property drawn into the other buffer.
@@ -92,11 +78,12 @@ fn draw_property(t: Stage, property: Property, output: &mut [u8], spare: &mut [u
         × (result.shown ≡ false) × Gives (form_after property t.form) result.form × (result.current.inside ≡ not t.current.inside) }
 {
     let m = next_form(t.form, property);
-    let current = t.current;
-    if current.inside {
-        return stage_drawn(t, draw_into(output, current.size, property, spare), m);
+    let size = t.current.size;
+    if t.current.inside {
+        stage_drawn(t, draw_into(output, size, property, spare), m)
+    } else {
+        stage_drawn(t, draw_into(spare, size, property, output), m)
     }
-    stage_drawn(t, draw_into(spare, current.size, property, output), m)
 }
 
 // The next stage: a property that a sight can hold is drawn with those after it, any other at once.
@@ -111,15 +98,16 @@ fn apply_entry(
     ensures { Arrived (bytes_in (entry_bytes essential_only entry (stage_bytes t (record_in t output.old spare.old)))) output.old spare.old result output.new spare.new
         × Planned essential_only entry t result }
 {
-    if is_drawn(entry, essential_only) {
-        let property = entry.property;
-        if is_held(property, t.form) {
-            return hold(t, property);
-        }
-        let u = settle(t, output, spare);
-        return draw_property(u, property, output, spare);
+    if !is_drawn(entry, essential_only) {
+        return t;
     }
-    t
+    let property = entry.property;
+    if is_held(property, t.form) {
+        hold(t, property)
+    } else {
+        let u = settle(t, output, spare);
+        draw_property(u, property, output, spare)
+    }
 }
 
 // A chain that was judged, on a record of a form that lies so that the last record ends in output. Answers its length.
@@ -135,21 +123,15 @@ fn apply_chain(
     requires { Ready s.now chain.count chain.first essential_only (stage_start m first) output.old spare.old }
     ensures { Ended result (chain_bytes s.now chain.count chain.first essential_only (lying first.inside first.size output.old spare.old)) output.old output.new spare.old spare.new }
 {
+    let count = chain.count;
     let mut next = chain.first;
-    let mut left = chain.count;
     let mut t = stage_start(m, first);
-    while left > 0 {
-        let EntryRead::Read(e) = props::read_entry(s, next) else {
-            let current = t.current;
-            return current.size;
-        };
-        t = apply_entry(t, e.entry, essential_only, output, spare);
-        next = e.next;
-        left -= 1;
+    for _i in 0..count {
+        let (entry, past) = props::read_entry(s, next).unwrap();
+        t = apply_entry(t, entry, essential_only, output, spare);
+        next = past;
     }
-    let u = settle(t, output, spare);
-    let current = u.current;
-    current.size
+    settle(t, output, spare).current.size
 }
 
 // Zeros from a place on.
@@ -157,8 +139,7 @@ fn clear(out: &mut [u8], from: usize)
     ensures { out.new ≡ take from out.old ++ replicate (length out.old - from) 0 }
 {
     if from < out.len() {
-        let n = out.len() - from;
-        planes::fill_row(out, from, 1, 0, n);
+        out[from..].fill(0);
     }
 }
 
@@ -171,12 +152,12 @@ pub fn finish_scene(
     output: &mut [u8],
     spare: &mut [u8],
     first: Current,
-) -> Answer
+) -> Result<usize, Refusal>
     requires { Ready s.now chain.count chain.first essential_only (stage_start m first) output.old spare.old }
     ensures { Finished result (chain_bytes s.now chain.count chain.first essential_only (lying first.inside first.size output.old spare.old)) output.old output.new spare.old spare.new }
 {
     let size = apply_chain(s, chain, essential_only, m, output, spare, first);
     clear(output, size);
     clear(spare, 0);
-    Answer::Wrote(size)
+    Ok(size)
 }

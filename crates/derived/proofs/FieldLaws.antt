@@ -1,4 +1,5 @@
 -- Laws of big-endian fields: how large a value is, and where its field ends.
+use Rattle.std.specs.Prelude.{Ok}
 use mathlib.Core.Bool.{false, true}
 use mathlib.Core.List.{List}
 use mathlib.Core.Path.{◌∙◌, ◌≡◌, ap, refl, sym}
@@ -10,37 +11,33 @@ use lib.ListN.{get_or, length}
 use lib.Pow.{pow-add, pow_mono, shl_exact}
 use borrow.Author.Tests.{le-ltb, lt-ltb}
 use Rattle.laws.proofs.Order.{apart, by_order}
+use Rattle.laws.proofs.Out.{done-pair}
 use Rattle.laws.specs.Pick.{pick}
 use Rattle.numbers.proofs.Field.{big_endian-more, big_endian-none, weight-more}
-use Rattle.numbers.specs.Field.{big_endian, field_at}
+use Rattle.numbers.specs.Field.{big_endian, field_at, short}
 use Rattle.numbers.specs.declared.Cursor.{Cursor}
-use Rattle.numbers.specs.declared.FieldRead.TheVariants.{Field, Short}
 
 -- a field that was read: its value and the place past it
-pub field-read : (s : List ℕ) (at n v : ℕ) (c : Cursor) → field_at s at n ≡ Field v c → (v ≡ big_endian s at n) × (c.at ≡ at + n) × (at + n ≤ length s)
+pub field-read : (s : List ℕ) (at n v : ℕ) (c : Cursor) → field_at s at n ≡ Ok (v, c) → (v ≡ big_endian s at n) × (c.at ≡ at + n) × (at + n ≤ length s)
 unfolding field_at pick
 field-read s at n v c e =
     by_order (length s) at
-    (λ h. let q : field_at s at n ≡ Short = simp (lt-ltb (length s) at h) in apart (cc))
+    (λ h. let q : field_at s at n ≡ short = simp (lt-ltb (length s) at h) in apart (cc))
     (λ h.
     by_order (length s - at) n
-    (λ l. let q : field_at s at n ≡ Short = simp (le-ltb (length s) at h, lt-ltb (length s - at) n l) in apart (cc))
+    (λ l. let q : field_at s at n ≡ short = simp (le-ltb (length s) at h, lt-ltb (length s - at) n l) in apart (cc))
     (λ l.
-    let q : field_at s at n ≡ Field (big_endian s at n) (record { at = at + n }) = simp (le-ltb (length s) at h, le-ltb (length s - at) n l) in
-    let a : big_endian s at n ≡ v = cc in
-    let b : ◌≡◌ {A = Cursor} (record { at = at + n }) c = cc in
-    (sym a, ap (λ k. k.at) (sym b), omega arith)))
+    let q : field_at s at n ≡ Ok ((big_endian s at n), (record { at = at + n })) = simp (le-ltb (length s) at h, le-ltb (length s - at) n l) in
+    let p = done-pair _ v _ c (sym q ∙ e) in
+    (sym p.0, ap (λ k. k.at) (sym p.1), omega arith)))
 
 -- a field that lies inside is read
-pub field-inside : (s : List ℕ) (at n : ℕ) → at + n ≤ length s → field_at s at n ≡ Field (big_endian s at n) (record { at = at + n })
+pub field-inside : (s : List ℕ) (at n : ℕ) → at + n ≤ length s → field_at s at n ≡ Ok ((big_endian s at n), (record { at = at + n }))
 unfolding field_at pick
 field-inside s at n h =
     let a : at ≤ length s = omega arith in
     let b : n ≤ length s - at = omega arith in
     simp (le-ltb (length s) at a, le-ltb (length s - at) n b)
-
-pub field-not-short {ℓ} : {X : Type ℓ} (s : List ℕ) (at n : ℕ) → at + n ≤ length s → field_at s at n ≡ Short → X
-field-not-short s at n h e = let q = field-inside s at n h in apart (cc)
 
 -- a number of n bytes
 pub big_endian-below : (s : List ℕ) (at n : ℕ) → ((i : ℕ) → get_or s i 0 < 256) → big_endian s at n < 256 ^ n
@@ -50,7 +47,7 @@ big_endian-below s at (suc n) h =
     rw (e, big_endian-more s at n) (weight-more n (big_endian s at n) (get_or s (at + n) 0) (big_endian-below s at n h) (h (at + n)))
 
 -- a field's value, of n bytes
-pub field_below : (s : List ℕ) (at n v : ℕ) (c : Cursor) → ((i : ℕ) → get_or s i 0 < 256) → field_at s at n ≡ Field v c → v < 256 ^ n
+pub field_below : (s : List ℕ) (at n v : ℕ) (c : Cursor) → ((i : ℕ) → get_or s i 0 < 256) → field_at s at n ≡ Ok (v, c) → v < 256 ^ n
 field_below s at n v c h e = rw (field-read s at n v c e).0 (big_endian-below s at n h)
 
 -- the patterns of n bytes

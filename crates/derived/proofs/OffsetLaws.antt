@@ -1,4 +1,5 @@
 -- Laws of an overlay's offsets: where they stand, and what they are.
+use Rattle.std.specs.Prelude.{Ok}
 use mathlib.Core.List.{List}
 use mathlib.Core.Path.{◌≡◌, ap}
 use Prim.Native.Nat.{◌%◌, ◌*◌, ◌+◌, ◌-◌, ◌<◌, ◌^◌, ◌≤◌, suc, ℕ}
@@ -10,7 +11,6 @@ use borrow.Author.Tests.{le-ltb, lt-ltb}
 use Rattle.laws.proofs.Order.{item-within, mul-below}
 use Rattle.numbers.specs.Field.{field_at, offset_of, signed_of}
 use Rattle.numbers.specs.declared.Cursor.{Cursor}
-use Rattle.numbers.specs.declared.FieldRead.TheVariants.{Field}
 use Rattle.derived.proofs.FieldLaws.{few-patterns, field_below, field-read, patterns, shift-patterns}
 use Rattle.derived.specs.Overlay.{offset_place, signed_at}
 use Rattle.derived.specs.inner.Sound.{OverlaySound}
@@ -25,11 +25,11 @@ place_inside s d i k h =
     (b, omega (arith, k.inside))
 
 -- a pattern that was read, as the number that it stands for
-pub pattern-read : (s : List ℕ) (at n v : ℕ) (c : Cursor) → n ≤ 4 → field_at s at n ≡ Field v c → offset_of (signed_of ((1 * 2 ^ (8 * n)) % 2 ^ 64) v) ≡ offset_of (signed_at s at n)
+pub pattern-read : (s : List ℕ) (at n v : ℕ) (c : Cursor) → n ≤ 4 → field_at s at n ≡ Ok (v, c) → offset_of (signed_of ((1 * 2 ^ (8 * n)) % 2 ^ 64) v) ≡ offset_of (signed_at s at n)
 unfolding signed_at
 pattern-read s at n v c h e = rw (shift-patterns n h, (field-read s at n v c e).0)
 
-pub pattern-fits : (s : List ℕ) (at n v : ℕ) (c : Cursor) → n ≤ 4 → ((i : ℕ) → get_or s i 0 < 256) → field_at s at n ≡ Field v c → (v < (1 * 2 ^ (8 * n)) % 2 ^ 64) × ((1 * 2 ^ (8 * n)) % 2 ^ 64 ≤ 2 ^ 32)
+pub pattern-fits : (s : List ℕ) (at n v : ℕ) (c : Cursor) → n ≤ 4 → ((i : ℕ) → get_or s i 0 < 256) → field_at s at n ≡ Ok (v, c) → (v < (1 * 2 ^ (8 * n)) % 2 ^ 64) × ((1 * 2 ^ (8 * n)) % 2 ^ 64 ≤ 2 ^ 32)
 pattern-fits s at n v c h k e = rw (shift-patterns n h) (rw (← patterns n) (field_below s at n v c k e), few-patterns n h)
 
 -- a signed number with its sign split off is that number again

@@ -1,4 +1,5 @@
 -- What holds of descriptors that were taken.
+use Rattle.std.specs.Prelude.{Ok, Err}
 use mathlib.Core.List.{List}
 use mathlib.Core.Path.{◌≡◌, ap, refl, sym}
 use Prim.Native.Nat.{◌<◌, ◌^◌, ◌≤◌, ℕ}
@@ -6,42 +7,39 @@ use native.Mathlib.Omega.{arith}
 use lib.ListN.{get_or, length}
 use borrow.Author.Tests.{ltb-false}
 use Rattle.laws.proofs.Out.{and_then-done, done-same, not_done, refuse-done}
-use Rattle.laws.specs.Out.{Out, done, reason}
+use Rattle.laws.specs.Out.{Out}
 use Rattle.laws.specs.Puts.{Bytes}
 use Rattle.numbers.specs.Field.{on_field}
 use Rattle.numbers.specs.declared.Cursor.{Cursor}
-use Rattle.numbers.specs.declared.FieldRead.{FieldRead}
-use Rattle.numbers.specs.declared.FieldRead.TheVariants.{Field, Short}
 use Rattle.image.proofs.JudgedLaws.{judged-sound}
 use Rattle.image.specs.Format.{sides}
 use Rattle.image.specs.Sound.{SizeSound}
+use Rattle.image.specs.declared.size.Size.{Size}
 use Rattle.derived.proofs.FieldLaws.{field_below, field-read}
 use Rattle.derived.specs.Canvas.{canvas_at, field_bytes, start_of}
 use Rattle.derived.specs.Grid.{grid_at, grid_of}
 use Rattle.derived.specs.Overlay.{fill_at, inputs_of, overlay_of}
-use Rattle.derived.specs.declared.canvas.Canvas.{Canvas}
-use Rattle.derived.specs.declared.canvas.Start.{Start}
 use Rattle.derived.specs.declared.grid.GridDescriptor.{GridDescriptor}
 use Rattle.derived.specs.declared.overlay.Fill.{Fill}
 use Rattle.derived.specs.declared.overlay.OverlayDescriptor.{OverlayDescriptor}
 use Rattle.derived.specs.inner.Sound.{GridSound, OverlaySound}
 
 -- a field was read, and what goes on with it answered
-pub on_field-done : {A : Type 0} (o : FieldRead) (k : ℕ → ℕ → Out A) (a : A) → on_field o k ≡ done a → (v : ℕ) × (c : Cursor) × (o ≡ Field v c) × (k v c.at ≡ done a)
+pub on_field-done : {A : Type 0} (o : Out (ℕ × Cursor)) (k : ℕ → ℕ → Out A) (a : A) → on_field o k ≡ Ok a → (v : ℕ) × (c : Cursor) × (o ≡ Ok (v, c)) × (k v c.at ≡ Ok a)
 unfolding on_field
-on_field-done (Field v c) k a e = (v, c, refl, e)
-on_field-done Short k a e = not_done (reason 1) a e
+on_field-done (Ok (v, c)) k a e = (v, c, refl, e)
+on_field-done (Err r) k a e = not_done r a e
 
-pub start-bytes : (s : List ℕ) (h : Start) → start_of s ≡ done h → (2 ≤ h.bytes) × (h.bytes ≤ 4)
+pub start-bytes : (s : List ℕ) (h : _) → start_of s ≡ Ok h → (2 ≤ h.0) × (h.0 ≤ 4)
 unfolding start_of field_bytes
 start-bytes s h e =
     let a = on_field-done _ _ h e in
     let b = refuse-done _ _ _ h a.3 in
     let d = on_field-done _ _ h b.1 in
-    let q = ap (λ x. x.bytes) (done-same _ h d.3) in
+    let q = ap (λ x. x.0) (done-same _ h d.3) in
     (omega arith, omega arith)
 
-pub canvas-taken : (s : List ℕ) (at n : ℕ) (c : Canvas) → canvas_at s at n ≡ done c → SizeSound (sides c.width c.height) × (c.next.at ≤ length s)
+pub canvas-taken : (s : List ℕ) (at n : ℕ) (c : _) → canvas_at s at n ≡ Ok c → SizeSound (sides c.0.width c.0.height) × (c.1.at ≤ length s)
 unfolding canvas_at
 canvas-taken s at n c e =
     let a = on_field-done _ _ c e in
@@ -54,7 +52,7 @@ grid-as : (g g' : GridDescriptor) → g ≡ g' → GridSound g → GridSound g'
 grid-as g g' p k = rw p at k
 
 -- a grid's descriptor, of a body whose items are bytes
-pub grid-taken : (s : List ℕ) (g : GridDescriptor) → ((i : ℕ) → get_or s i 0 < 256) → grid_of s ≡ done g → GridSound g
+pub grid-taken : (s : List ℕ) (g : GridDescriptor) → ((i : ℕ) → get_or s i 0 < 256) → grid_of s ≡ Ok g → GridSound g
 unfolding grid_of grid_at
 grid-taken s g k e =
     let h = and_then-done _ _ g e in
@@ -71,7 +69,7 @@ overlay-as : (s : List ℕ) (d d' : OverlayDescriptor) → d ≡ d' → OverlayS
 overlay-as s d d' p k = rw p at k
 
 -- an overlay's descriptor: the offsets of its inputs lie in the body
-pub overlay-taken : (s : List ℕ) (n : ℕ) (d : OverlayDescriptor) → overlay_of s n ≡ done d → OverlaySound s d × (d.count ≡ n)
+pub overlay-taken : (s : List ℕ) (n : ℕ) (d : OverlayDescriptor) → overlay_of s n ≡ Ok d → OverlaySound s d × (d.count ≡ n)
 unfolding overlay_of inputs_of
 overlay-taken s n d e =
     let h = and_then-done _ _ d e in
@@ -85,7 +83,7 @@ overlay-taken s n d e =
     (overlay-as s _ d q (record { canvas = z; count = ltb-false _ _ a.0; positive = y.0; bounded = y.1; inside = ltb-false _ _ b.0 }), sym (ap (λ u. u.count) q))
 
 -- the fill's alpha has two bytes
-fill-small : (body : List ℕ) (at : ℕ) (f : _) → Bytes body → fill_at body at ≡ done f → f.fill.alpha ≤ 65535
+fill-small : (body : List ℕ) (at : ℕ) (f : _) → Bytes body → fill_at body at ≡ Ok f → f.0.alpha ≤ 65535
 unfolding fill_at Bytes
 fill-small body at f small e =
     let r = on_field-done _ _ f e in
@@ -93,20 +91,20 @@ fill-small body at f small e =
     let b = on_field-done _ _ f g.3 in
     let a = on_field-done _ _ f b.3 in
     let s : a.0 < 256 ^ 2 = field_below body _ 2 a.0 a.1 small a.2 in
-    let u : a.0 ≡ f.fill.alpha = ap (λ k. k.fill.alpha) (done-same _ f a.3) in
+    let u : a.0 ≡ f.0.alpha = ap (λ k. k.0.alpha) (done-same _ f a.3) in
     omega arith
 
-fill-kept : (body : List ℕ) (k : Fill) (c : _) (bytes n : ℕ) (d : OverlayDescriptor) → inputs_of body k c bytes n ≡ done d → k ≡ d.canvas_fill
+fill-kept : (body : List ℕ) (k : Fill) (z : Size) (at bytes n : ℕ) (d : OverlayDescriptor) → inputs_of body k z at bytes n ≡ Ok d → k ≡ d.canvas_fill
 unfolding inputs_of
-fill-kept body k c bytes n d e =
+fill-kept body k z at bytes n d e =
     let i = refuse-done _ _ _ d e in
     let j = refuse-done _ _ _ d i.1 in
     ap (λ (o : OverlayDescriptor). o.canvas_fill) (done-same _ d j.1)
 
-pub overlay-fill : (body : List ℕ) (n : ℕ) (d : OverlayDescriptor) → Bytes body → overlay_of body n ≡ done d → d.canvas_fill.alpha ≤ 65535
+pub overlay-fill : (body : List ℕ) (n : ℕ) (d : OverlayDescriptor) → Bytes body → overlay_of body n ≡ Ok d → d.canvas_fill.alpha ≤ 65535
 unfolding overlay_of
 overlay-fill body n d small e =
     let h = and_then-done _ _ d e in
     let f = and_then-done _ _ d h.2 in
     let c = and_then-done _ _ d f.2 in
-    rw (← fill-kept body f.0.fill c.0 h.0.bytes n d c.2) (fill-small body h.0.next.at f.0 small f.1)
+    rw (← fill-kept body f.0.0 c.0.0 c.0.1.at h.0.0 n d c.2) (fill-small body h.0.1.at f.0 small f.1)

@@ -1,36 +1,34 @@
 -- The overlay's descriptor (ISO/IEC 23008-12, 6.6.2.2.2; document 01, "Refusals in order", Overlay).
-use Rattle.std.specs.Prelude.{List, ◌*◌, ◌+◌, ◌^◌, ℕ, ltb, ℤ, length}
-use Rattle.laws.specs.Out.{Out, and_then, done, refuse, refused}
+use Rattle.std.specs.Prelude.{Ok, List, ◌*◌, ◌+◌, ◌^◌, ℕ, ltb, ℤ, length}
+use Rattle.laws.specs.Out.{Out, and_then, refuse}
+use Rattle.image.specs.declared.size.Size.{Size}
+use Rattle.numbers.specs.declared.Cursor.{Cursor}
 use Rattle.numbers.specs.Field.{big_endian, field_at, offset_of, on_field, signed_of}
 use Rattle.derived.specs.Canvas.{canvas_at, start_of}
-use Rattle.derived.specs.declared.canvas.Canvas.{Canvas}
 use Rattle.derived.specs.declared.overlay.Fill.{Fill}
-use Rattle.derived.specs.declared.overlay.FillAt.{FillAt}
-use Rattle.derived.specs.declared.overlay.FillRead.{FillRead}
 use Rattle.derived.specs.declared.overlay.OverlayDescriptor.{OverlayDescriptor}
-use Rattle.derived.specs.declared.overlay.OverlayRead.{OverlayRead}
 use Rattle.derived.specs.declared.overlay.Placement.{Placement}
 
--- canvas_fill_value: red, green, blue, alpha, of two bytes each
-unfoldable pub fill_at : List ℕ → ℕ → Out FillAt
+-- canvas_fill_value: red, green, blue, alpha, of two bytes each, and the place past them
+unfoldable pub fill_at : List ℕ → ℕ → Out (Fill × Cursor)
 fill_at s at =
     on_field (field_at s at 2) (λ red a.
     on_field (field_at s a 2) (λ green b.
     on_field (field_at s b 2) (λ blue c.
     on_field (field_at s c 2) (λ alpha d.
-    done (record { fill = record { red = red; green = green; blue = blue; alpha = alpha }; next = record { at = d } })))))
+    Ok (record { red = red; green = green; blue = blue; alpha = alpha }, record { at = d })))))
 
--- so many inputs: 4 above 65,536, 1 where the body ends before their offsets do
-unfoldable pub inputs_of : List ℕ → Fill → Canvas → ℕ → ℕ → Out OverlayDescriptor
-inputs_of s fill c bytes count =
+-- so many inputs, whose offsets stand at a place: 4 above 65,536, 1 where the body ends before their offsets do
+unfoldable pub inputs_of : List ℕ → Fill → Size → ℕ → ℕ → ℕ → Out OverlayDescriptor
+inputs_of s fill z offsets bytes count =
     refuse (ltb 65536 count) 4
-    (refuse (ltb (length s) (c.next.at + count * (2 * bytes))) 1
-    (done (record {
+    (refuse (ltb (length s) (offsets + count * (2 * bytes))) 1
+    (Ok (record {
       canvas_fill = fill;
-      output_width = c.width;
-      output_height = c.height;
+      output_width = z.width;
+      output_height = z.height;
       count = count;
-      offsets = c.next.at;
+      offsets = offsets;
       bytes = bytes;
     })))
 
@@ -38,9 +36,9 @@ inputs_of s fill c bytes count =
 unfoldable pub overlay_of : List ℕ → ℕ → Out OverlayDescriptor
 overlay_of s count =
     and_then (start_of s) (λ h.
-    and_then (fill_at s h.next.at) (λ f.
-    and_then (canvas_at s f.next.at h.bytes) (λ c.
-    inputs_of s f.fill c h.bytes count)))
+    and_then (fill_at s h.1.at) (λ f.
+    and_then (canvas_at s f.1.at h.0) (λ c.
+    inputs_of s f.0 c.0 c.1.at h.0 count)))
 
 -- where input i's two offsets stand
 unfoldable pub offset_place : OverlayDescriptor → ℕ → ℕ
@@ -60,12 +58,3 @@ vertical_at s d i = signed_at s (offset_place d i + d.bytes) d.bytes
 -- both, with their signs split off
 unfoldable pub placement_at : List ℕ → OverlayDescriptor → ℕ → Placement
 placement_at s d i = record { horizontal = offset_of (horizontal_at s d i); vertical = offset_of (vertical_at s d i) }
-
--- what reading a fill, and parsing a body, answers
-abbrev pub fill_out : FillRead → Out FillAt
-fill_out (FillRead.Read f) = done f
-fill_out (FillRead.Refused e) = refused e
-
-abbrev pub overlay_out : OverlayRead → Out OverlayDescriptor
-overlay_out (OverlayRead.Read d) = done d
-overlay_out (OverlayRead.Refused e) = refused e

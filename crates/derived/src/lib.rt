@@ -5,5 +5,5 @@ mod canvas;
 mod grid;
 mod overlay;
 
-pub use crate::grid::{GridDescriptor, GridRead};
-pub use crate::overlay::{Fill, OverlayDescriptor, OverlayRead, Placement};
+pub use crate::grid::GridDescriptor;
+pub use crate::overlay::{Fill, OverlayDescriptor, Placement};

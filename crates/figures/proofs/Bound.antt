@@ -1,4 +1,5 @@
 -- How far a fill's samples lie from H.273's figures.
+use Rattle.std.specs.Prelude.{Option}
 use mathlib.Core.Bool.{Bool, false, not, true, true≢false}
 use mathlib.Core.Path.{◌≡◌, ap, refl, sym}
 use Prim.Native.Nat.{◌*◌, ◌+◌, ◌-◌, ◌/◌, ◌<◌, ◌^◌, ◌≤◌, min, ℕ}
@@ -21,7 +22,7 @@ use Rattle.figures.proofs.Rounding.{E, E_pos, W, W-is, W-pos, less, plus}
 use Rattle.figures.specs.Figure.{AllWithin, Fraction, Within, figures_of, green_of, identity_figures, luma_n, primary, raised, times, weighted_figures}
 use Rattle.fill.specs.Fill.{blue_of, cb_of, cr_of, fill_of, full_chroma_of, full_of, identity_of, luma_of, nclx_of, part_of, red_of, studio_of, table_of, weighted_of, weights_of, ycbcr_of}
 use Rattle.fill.specs.Rounded.{lit, whole_of}
-use Rattle.fill.specs.declared.Colour.{Colour}
+use Rattle.fill.specs.declared.Nclx.{Nclx}
 
 abbrev fraction : ℕ → ℕ → ℕ → Fraction
 fraction a b Q = record { plus = a; minus = b; over = Q }
@@ -219,7 +220,7 @@ chosen false m R G B d full hr hg hb lo hi = weighted-within m R G B hr hg hb d 
 -- Every colour sample of an accepted fill is less than one step from H.273's figure held to 0 and top. The figures are exact
 -- fractions of the 16-bit colours and of the weights in ten-thousandths: for matrix 0 G, B, R at full scale, for every other number
 -- those of the weights, in full or studio range as the flag says.
-pub fill-within : (red green blue depth : ℕ) (colour : Colour) → red ≤ 65535 → green ≤ 65535 → blue ≤ 65535
+pub fill-within : (red green blue depth : ℕ) (colour : Option Nclx) → red ≤ 65535 → green ≤ 65535 → blue ≤ 65535
     → Holds (λ s. AllWithin s (top_at depth) (figures_of red green blue depth colour)) (fill_of red green blue depth colour)
 unfolding fill_of ycbcr_of figures_of Holds
 fill-within R G B d colour hr hg hb =

@@ -1,9 +1,9 @@
 -- H.273's figures for a fill, exact, and what it is to lie less than one step from one.
-use Rattle.std.specs.Prelude.{Bool, ◌*◌, ◌+◌, ◌-◌, ◌<◌, ◌^◌, min, ℕ, eqb}
+use Rattle.std.specs.Prelude.{Bool, ◌*◌, ◌+◌, ◌-◌, ◌<◌, ◌^◌, min, ℕ, eqb, Option}
 use Rattle.laws.specs.Pick.{pick}
 use Rattle.image.specs.Format.{top_at}
 use Rattle.fill.specs.Fill.{blue_of, nclx_of, red_of}
-use Rattle.fill.specs.declared.Colour.{Colour}
+use Rattle.fill.specs.declared.Nclx.{Nclx}
 use Rattle.fill.specs.declared.Ycbcr.{Ycbcr}
 
 -- the fraction (plus - minus) / over
@@ -68,7 +68,7 @@ weighted_figures m r g b d full =
     pick full (record { y = full_luma d (luma m r g b); cb = full_chroma d (difference (blue_of m) b l); cr = full_chroma d (difference (red_of m) r l) })
     (record { y = studio_luma d (luma m r g b); cb = studio_chroma d (difference (blue_of m) b l); cr = studio_chroma d (difference (red_of m) r l) })
 
-unfoldable pub figures_of : ℕ → ℕ → ℕ → ℕ → Colour → Figures
+unfoldable pub figures_of : ℕ → ℕ → ℕ → ℕ → Option Nclx → Figures
 figures_of r g b d colour =
     let n = nclx_of colour in
     pick (eqb n.matrix 0) (identity_figures r g b d) (weighted_figures n.matrix r g b d n.full_range)

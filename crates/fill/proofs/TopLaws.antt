@@ -1,4 +1,5 @@
 -- A fill's samples and its alpha are at most top.
+use Rattle.std.specs.Prelude.{Option}
 use Rattle.std.proofs.Common.{ℕ, ◌*◌, ◌<◌, ◌≤◌, Bool, true, false, not, eqb, le_refl, mul-le-mul_right, arith}
 use lib.Ieee.{Float, fin, inf, nan}
 use Rattle.laws.proofs.Order.{mul-below, pick-both}
@@ -7,7 +8,7 @@ use Rattle.laws.specs.Pick.{pick}
 use Rattle.image.specs.Format.{is_depth, top_at}
 use Rattle.fill.specs.Fill.{fill_alpha_of, fill_of, full_chroma_of, full_of, identity_of, nclx_of, studio_of, weighted_of, ycbcr_of}
 use Rattle.fill.specs.Rounded.{whole_of}
-use Rattle.fill.specs.declared.Colour.{Colour}
+use Rattle.fill.specs.declared.Nclx.{Nclx}
 use Rattle.fill.specs.declared.Ycbcr.{Ycbcr}
 use Rattle.fill.specs.declared.weights.Weights.{Weights}
 
@@ -44,7 +45,7 @@ weighted-top w r g b d true = record { y = whole_top _ _; cb = whole_top _ _; cr
 weighted-top w r g b d false = record { y = whole_top _ _; cb = whole_top _ _; cr = whole_top _ _ }
 
 -- every sample, whatever the input
-pub fill-top : (red green blue depth : ℕ) (colour : Colour) → Holds (λ s. AtMost s (top_at depth)) (fill_of red green blue depth colour)
+pub fill-top : (red green blue depth : ℕ) (colour : Option Nclx) → Holds (λ s. AtMost s (top_at depth)) (fill_of red green blue depth colour)
 unfolding fill_of ycbcr_of Holds
 fill-top red green blue depth colour =
     refuse-holds _ (not (is_depth depth)) 6 _ (λ e. pick-both (λ (s : Ycbcr). AtMost s (top_at depth)) (eqb (nclx_of colour).matrix 0) _ _ (identity-top _ _ _ depth) (weighted-top _ _ _ _ depth _))

@@ -1,19 +1,18 @@
 -- A fill's samples (document 01, Fill; `fill_to_ycbcr`; H.273), over doubles whose operations round once.
+use Rattle.std.specs.Prelude.{Ok, Option, None, Some}
 use Rattle.std.specs.Prelude.{ℕ, ◌+◌, ◌-◌, ◌*◌, ◌/◌, ◌^◌, Bool, true, not, ◌==◌, Float}
-use Rattle.laws.specs.Out.{Out, done, refuse, refused}
+use Rattle.laws.specs.Out.{Out, refuse}
 use Rattle.laws.specs.Pick.{pick}
 use Rattle.image.specs.Format.{is_depth, middle_at, top_at}
 use Rattle.fill.specs.Rounded.{add, div, lit, mul, num, sub, whole_of}
-use Rattle.fill.specs.declared.Colour.{Colour}
-use Rattle.fill.specs.declared.Filled.{Filled}
 use Rattle.fill.specs.declared.Nclx.{Nclx}
 use Rattle.fill.specs.declared.Ycbcr.{Ycbcr}
 use Rattle.fill.specs.declared.weights.Weights.{Weights}
 
 -- without nclx: matrix 6, full range
-unfoldable pub nclx_of : Colour → Nclx
-nclx_of Colour.None = record { matrix = 6; full_range = true }
-nclx_of (Colour.Nclx n) = n
+unfoldable pub nclx_of : Option Nclx → Nclx
+nclx_of None = record { matrix = 6; full_range = true }
+nclx_of (Some n) = n
 
 -- ---- weights
 
@@ -49,11 +48,14 @@ unfoldable pub luma_of : Weights → Float → Float → Float → Float
 luma_of w r g b = add (add (mul w.kr r) (mul w.kg g)) (mul w.kb b)
 
 -- blue's and red's differences from the luma
+abbrev pub difference_of : Float → Float → Float → Float
+difference_of v y weight = div (sub v y) (mul (lit 2 1) (sub (lit 1 1) weight))
+
 unfoldable pub cb_of : Weights → Float → Float → Float
-cb_of w b y = div (sub b y) (mul (lit 2 1) (sub (lit 1 1) w.kb))
+cb_of w b y = difference_of b y w.kb
 
 unfoldable pub cr_of : Weights → Float → Float → Float
-cr_of w r y = div (sub r y) (mul (lit 2 1) (sub (lit 1 1) w.kr))
+cr_of w r y = difference_of r y w.kr
 
 -- ---- samples
 
@@ -89,14 +91,10 @@ ycbcr_of r g b depth n = pick (n.matrix == 0) (identity_of r g b depth) (weighte
 
 -- ---- the calls
 
-abbrev pub filled_out : Filled → Out Ycbcr
-filled_out (Filled.Samples s) = done s
-filled_out (Filled.Refused e) = refused e
-
 -- a fill's red, green and blue of 16 bits ("Refusals in order", fill): 6 a depth outside 8 to 16
-unfoldable pub fill_of : ℕ → ℕ → ℕ → ℕ → Colour → Out Ycbcr
+unfoldable pub fill_of : ℕ → ℕ → ℕ → ℕ → Option Nclx → Out Ycbcr
 fill_of red green blue depth colour =
-    refuse (not (is_depth depth)) 6 (done (ycbcr_of (part_of red) (part_of green) (part_of blue) depth (nclx_of colour)))
+    refuse (not (is_depth depth)) 6 (Ok (ycbcr_of (part_of red) (part_of green) (part_of blue) depth (nclx_of colour)))
 
 -- a fill's alpha of 16 bits (document 01, Overlay)
 unfoldable pub fill_alpha_of : ℕ → ℕ → ℕ

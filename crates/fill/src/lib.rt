@@ -2,7 +2,7 @@
 #![tactic(auto)]
 
 ghost use Rattle.std.specs.Prelude.{◌≡◌, ◌≤◌};
-ghost use Rattle.fill.specs.Fill.{nclx_of, part_of, identity_of, weighted_of, filled_out, fill_of, fill_alpha_of};
+ghost use Rattle.fill.specs.Fill.{nclx_of, part_of, identity_of, weighted_of, fill_of, fill_alpha_of};
 
 mod samples;
 mod weights;
@@ -19,13 +19,6 @@ pub struct Nclx {
     pub full_range: bool,
 }
 
-// A colour description, or none.
-#[derive(Clone, Copy)]
-pub enum Colour {
-    None,
-    Nclx(Nclx),
-}
-
 // A sample of each colour plane. Under matrix 0 they are green, blue and red.
 #[derive(Clone, Copy)]
 pub struct Ycbcr {
@@ -34,49 +27,46 @@ pub struct Ycbcr {
     pub cr: u16,
 }
 
-#[derive(Clone, Copy)]
-pub enum Filled {
-    Samples(Ycbcr),
-    Refused(Refusal),
-}
-
-impl Colour {
-    // Without nclx: matrix 6, full range.
-    pub fn nclx(self) -> Nclx
-        ensures { result ≡ nclx_of self }
+impl Nclx {
+    // A picture's description. Without nclx: matrix 6, full range.
+    #[tactic(auto, unfolding(crate::specs::Fill::nclx_of))]
+    pub fn of(colour: Option<Nclx>) -> Nclx
+        ensures { result ≡ nclx_of colour }
     {
-        match self {
-            Colour::None => Nclx {
-                matrix: 6,
-                full_range: true,
-            },
-            Colour::Nclx(n) => n,
-        }
+        colour.unwrap_or(Nclx {
+            matrix: 6,
+            full_range: true,
+        })
     }
 }
 
 // A fill's red, green and blue of 16 bits as samples. Refusals: 6 a depth outside 8 to 16. The samples are at most top
 // (proofs/TopLaws), and less than one step from H.273's figures (proofs/Bound).
-pub fn fill_to_ycbcr(red: u16, green: u16, blue: u16, depth: u32, colour: Colour) -> Filled
-    ensures { filled_out result ≡ fill_of red green blue depth colour }
+#[tactic(auto, unfolding(crate::specs::Fill::fill_of, laws::specs::Out::refuse, crate::specs::Fill::ycbcr_of, laws::specs::Pick::pick))]
+pub fn fill_to_ycbcr(
+    red: u16,
+    green: u16,
+    blue: u16,
+    depth: u32,
+    colour: Option<Nclx>,
+) -> Result<Ycbcr, Refusal>
+    ensures { result ≡ fill_of red green blue depth colour }
 {
     if !PixelFormat::is_depth(depth) {
-        return Filled::Refused(Refusal::DEPTH);
+        return Err(Refusal::DEPTH);
     }
-    let n = colour.nclx();
-    let matrix = n.matrix;
-    let full_range = n.full_range;
+    let n = Nclx::of(colour);
     let r = part(red);
     let g = part(green);
     let b = part(blue);
-    if matrix == 0 {
-        return Filled::Samples(identity(r, g, b, depth));
+    if n.matrix == 0 {
+        return Ok(identity(r, g, b, depth));
     }
-    let w = Weights::of(matrix);
-    Filled::Samples(weighted(w, r, g, b, depth, full_range))
+    Ok(weighted(Weights::of(n.matrix), r, g, b, depth, n.full_range))
 }
 
 // A fill's alpha of 16 bits as a sample.
+#[tactic(auto, unfolding(crate::specs::Fill::fill_alpha_of))]
 pub fn fill_alpha(alpha: u16, depth: u32) -> u16
     requires { depth ≤ 16 }
     ensures { result ≡ fill_alpha_of alpha depth }
@@ -93,6 +83,7 @@ fn part(v: u16) -> f64
 }
 
 // Matrix 0.
+#[tactic(auto, unfolding(crate::specs::Fill::identity_of))]
 fn identity(r: f64, g: f64, b: f64, depth: u32) -> Ycbcr
     requires { depth ≤ 16 }
     ensures { result ≡ identity_of r g b depth }
@@ -105,6 +96,7 @@ fn identity(r: f64, g: f64, b: f64, depth: u32) -> Ycbcr
 }
 
 // A matrix by its weights.
+#[tactic(auto, unfolding(crate::specs::Fill::weighted_of, laws::specs::Pick::pick))]
 fn weighted(w: Weights, r: f64, g: f64, b: f64, depth: u32, full_range: bool) -> Ycbcr
     requires { (8 ≤ depth) × (depth ≤ 16) }
     ensures { result ≡ weighted_of w r g b depth full_range }
@@ -113,15 +105,16 @@ fn weighted(w: Weights, r: f64, g: f64, b: f64, depth: u32, full_range: bool) ->
     let cb = w.cb(b, y);
     let cr = w.cr(r, y);
     if full_range {
-        return Ycbcr {
+        Ycbcr {
             y: full(y, depth),
             cb: full_chroma(cb, depth),
             cr: full_chroma(cr, depth),
-        };
-    }
-    Ycbcr {
-        y: studio(219.0, 16.0, y, depth),
-        cb: studio(224.0, 128.0, cb, depth),
-        cr: studio(224.0, 128.0, cr, depth),
+        }
+    } else {
+        Ycbcr {
+            y: studio(219.0, 16.0, y, depth),
+            cb: studio(224.0, 128.0, cb, depth),
+            cr: studio(224.0, 128.0, cr, depth),
+        }
     }
 }

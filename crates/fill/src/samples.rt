@@ -22,17 +22,17 @@ fn whole(x: f64, top: u16) -> u16
         if x < top as f64 {
             let t = std::num::truncating_f64_to_u64(x);
             let half = (t + t + 1) as f64 * 0.5;
-            if x < half {
-                return t as u16;
-            }
-            return (t + 1) as u16;
+            if x < half { t as u16 } else { (t + 1) as u16 }
+        } else {
+            top
         }
-        return top;
+    } else {
+        0
     }
-    0
 }
 
 // The full range's luma, and matrix 0's samples.
+#[tactic(auto, unfolding(crate::specs::Fill::full_of))]
 pub fn full(x: f64, depth: u32) -> u16
     requires { depth ≤ 16 }
     ensures { result ≡ full_of x depth }
@@ -42,6 +42,7 @@ pub fn full(x: f64, depth: u32) -> u16
 }
 
 // The full range's chroma.
+#[tactic(auto, unfolding(crate::specs::Fill::full_chroma_of))]
 pub fn full_chroma(x: f64, depth: u32) -> u16
     requires { (8 ≤ depth) × (depth ≤ 16) }
     ensures { result ≡ full_chroma_of x depth }
@@ -52,6 +53,7 @@ pub fn full_chroma(x: f64, depth: u32) -> u16
 }
 
 // The studio range: k x + o, at depth 8.
+#[tactic(auto, unfolding(crate::specs::Fill::studio_of))]
 pub fn studio(k: f64, o: f64, x: f64, depth: u32) -> u16
     requires { (8 ≤ depth) × (depth ≤ 16) }
     ensures { result ≡ studio_of k o x depth }

@@ -1,6 +1,6 @@
 // A matrix's weights, and the luma and colour differences that they give.
 ghost use Rattle.std.specs.Prelude.{◌≡◌};
-ghost use Rattle.fill.specs.Fill.{weights_from, weights_of, luma_of, cb_of, cr_of};
+ghost use Rattle.fill.specs.Fill.{weights_from, weights_of, luma_of, cb_of, cr_of, difference_of};
 
 // The weights of red and blue, and green's worked from them.
 #[derive(Clone, Copy)]
@@ -34,6 +34,7 @@ impl Weights {
         }
     }
 
+    #[tactic(auto, unfolding(crate::specs::Fill::luma_of))]
     pub fn luma(self, r: f64, g: f64, b: f64) -> f64
         ensures { result ≡ luma_of self r g b }
     {
@@ -41,16 +42,25 @@ impl Weights {
     }
 
     // Blue's difference from the luma.
+    #[tactic(auto, unfolding(crate::specs::Fill::cb_of))]
     pub fn cb(self, b: f64, y: f64) -> f64
         ensures { result ≡ cb_of self b y }
     {
-        (b - y) / (2.0 * (1.0 - self.kb))
+        difference(b, y, self.kb)
     }
 
     // Red's difference from the luma.
+    #[tactic(auto, unfolding(crate::specs::Fill::cr_of))]
     pub fn cr(self, r: f64, y: f64) -> f64
         ensures { result ≡ cr_of self r y }
     {
-        (r - y) / (2.0 * (1.0 - self.kr))
+        difference(r, y, self.kr)
     }
+}
+
+// A colour's difference from the luma, under its weight.
+fn difference(v: f64, y: f64, weight: f64) -> f64
+    ensures { result ≡ difference_of v y weight }
+{
+    (v - y) / (2.0 * (1.0 - weight))
 }

@@ -1,4 +1,5 @@
 -- A grid's tiles, stored in turn on a plain canvas, are the composed picture's record.
+use Rattle.std.specs.Prelude.{Ok, Err}
 use mathlib.Core.Bool.{Bool, ◌&&◌, ◌||◌, false, true}
 use mathlib.Core.List.{List, [], ◌++◌, ◌∷◌}
 use mathlib.Core.Path.{◌∙◌, ◌≡◌, ap, ap₂, refl, sym}
@@ -12,7 +13,7 @@ use lib.Seq.{drop-cons}
 use Rattle.laws.proofs.Order.{apart, by_order, by-test, pick-false, pick_true, true-and}
 use Rattle.laws.proofs.Out.{fitted-room, fitted_short, then-done}
 use Rattle.laws.proofs.Puts.{puts-start}
-use Rattle.laws.specs.Out.{done, reason, refused}
+use Rattle.laws.specs.Out.{reason}
 use Rattle.laws.specs.Pick.{pick}
 use Rattle.laws.specs.Puts.{puts}
 use Rattle.image.proofs.FormLaws.{columns-some, rows-some}
@@ -328,10 +329,10 @@ length-store_tiles c T columns (suc n) d = length-store_tile c (T n) (n % column
 pub length-grid_on : (tray : List ℕ) (t : Tiles) → length (encode (grid_on tray t)) ≡ size_of (canvas_form t.desc t.tile t.alpha)
 length-grid_on tray t = length-encode (grid_on tray t) ∙ ap size_of (grid_on-form tray t)
 
-pub grid-fits : (body tray : List ℕ) (room : ℕ) (t : Tiles) → tiles_of body tray ≡ done t → size_of (canvas_form t.desc t.tile t.alpha) ≤ room → grid_run body tray room ≡ done (encode (grid_on tray t))
+pub grid-fits : (body tray : List ℕ) (room : ℕ) (t : Tiles) → tiles_of body tray ≡ Ok t → size_of (canvas_form t.desc t.tile t.alpha) ≤ room → grid_run body tray room ≡ Ok (encode (grid_on tray t))
 unfolding grid_run
 grid-fits body tray room t e l = then-done _ e ∙ fitted-room room _ (rw (length-grid_on tray t) l)
 
-pub grid-short : (body tray : List ℕ) (room : ℕ) (t : Tiles) → tiles_of body tray ≡ done t → room < size_of (canvas_form t.desc t.tile t.alpha) → grid_run body tray room ≡ refused (reason 17)
+pub grid-short : (body tray : List ℕ) (room : ℕ) (t : Tiles) → tiles_of body tray ≡ Ok t → room < size_of (canvas_form t.desc t.tile t.alpha) → grid_run body tray room ≡ Err (reason 17)
 unfolding grid_run
 grid-short body tray room t e l = then-done _ e ∙ fitted_short room _ (rw (length-grid_on tray t) l)

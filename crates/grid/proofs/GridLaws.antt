@@ -1,4 +1,5 @@
 -- Laws of a grid that was taken: what holds of its tiles, and that its tiles, stored in turn, are the composed picture.
+use Rattle.std.specs.Prelude.{Ok}
 use mathlib.Core.Bool.{false, not, true}
 use mathlib.Core.List.{List, [], ◌∷◌}
 use mathlib.Core.Logic.{◌⊎◌, inl, inr}
@@ -11,7 +12,6 @@ use lib.ListN.{get_or, length}
 use borrow.Author.Tests.{eqb-true, leb-true, ne_eqb, not-false}
 use Rattle.laws.proofs.Order.{and-true, by_equal, by-test, pick-false, pick-le, pick_true}
 use Rattle.laws.proofs.Out.{about-done, after-done, and_then-done, done-same, not_done, refuse-done}
-use Rattle.laws.specs.Out.{done}
 use Rattle.laws.specs.Pick.{pick}
 use Rattle.laws.specs.Puts.{Bytes}
 use Rattle.numbers.specs.Number.{read_number}
@@ -66,7 +66,7 @@ pub first-or {ℓ} : (fr : Frame) (frs : List Frame) (X : Frame → Type ℓ) �
 first-or fr frs X a f zero l = a
 first-or fr frs X a f (suc i) l = f i (omega arith)
 
-pub all_alike : (t : Form) (a b : ℕ) (frs : List Frame) → a ≤ 1 → alike_from t a frs ≡ done b → AllAlike t a b frs
+pub all_alike : (t : Form) (a b : ℕ) (frs : List Frame) → a ≤ 1 → alike_from t a frs ≡ Ok b → AllAlike t a b frs
 unfolding alike_from
 all_alike t a b [] l e =
     let q = done-same a b e in
@@ -83,7 +83,7 @@ all_alike t a b (fr ∷ frs) l e =
     }
 
 -- records that were taken are sound
-pub frames-sound : (n : ℕ) (s : List ℕ) (at : ℕ) (frs : List Frame) → frames_at n s at ≡ done frs → (i : ℕ) → i < length frs → Sound s (get_or frs i no_frame)
+pub frames-sound : (n : ℕ) (s : List ℕ) (at : ℕ) (frs : List Frame) → frames_at n s at ≡ Ok frs → (i : ℕ) → i < length frs → Sound s (get_or frs i no_frame)
 unfolding frames_at
 frames-sound zero s at frs e i l = let k = refuse-done (ltb at (length s)) 5 _ frs e in absurd (none (ap length (done-same _ frs k.1)))
   where
@@ -103,8 +103,8 @@ canvas-sound g t a ok m l =
     let k = tile-sound (promotes_of g t) (sized t g.output_width g.output_height) (record { chroma = m.chroma; low = m.low; high = m.high; alpha = m.alpha; wide = ok.canvas.wide; tall = ok.canvas.tall; area = ok.canvas.area }) in
     record { chroma = k.chroma; low = k.low; high = k.high; alpha = l; wide = k.wide; tall = k.tall; area = k.area }
 
-tiles-shape : (g : GridDescriptor) (at : ℕ) (frs : List Frame) (t : Tiles) → judge_of g at frs ≡ done t
-    → (fr : Frame) × (rest : List Frame) × (a : ℕ) × (frs ≡ fr ∷ rest) × (not (spans_canvas g fr.form) ≡ false) × (alike_from fr.form 0 frs ≡ done a) × (record { desc = g; tile = fr.form; alpha = a; first = at } ≡ t)
+tiles-shape : (g : GridDescriptor) (at : ℕ) (frs : List Frame) (t : Tiles) → judge_of g at frs ≡ Ok t
+    → (fr : Frame) × (rest : List Frame) × (a : ℕ) × (frs ≡ fr ∷ rest) × (not (spans_canvas g fr.form) ≡ false) × (alike_from fr.form 0 frs ≡ Ok a) × (record { desc = g; tile = fr.form; alpha = a; first = at } ≡ t)
 unfolding judge_of
 tiles-shape g at [] t e = not_done _ t e
 tiles-shape g at (fr ∷ rest) t e =
@@ -112,7 +112,7 @@ tiles-shape g at (fr ∷ rest) t e =
     let v = and_then-done _ _ t u.1 in
     (fr, rest, v.0, refl, u.0, v.1, done-same _ t v.2)
 
-built : (tray : List ℕ) (g : GridDescriptor) (at : ℕ) (frs : List Frame) (fr : Frame) (a : ℕ) → GridSound g → frames_at (count_of g) tray at ≡ done frs → not (spans_canvas g fr.form) ≡ false → alike_from fr.form 0 frs ≡ done a
+built : (tray : List ℕ) (g : GridDescriptor) (at : ℕ) (frs : List Frame) (fr : Frame) (a : ℕ) → GridSound g → frames_at (count_of g) tray at ≡ Ok frs → not (spans_canvas g fr.form) ≡ false → alike_from fr.form 0 frs ≡ Ok a
     → (0 < length frs) × (get_or frs 0 no_frame ≡ fr) → TilesTaken tray (record { desc = g; tile = fr.form; alpha = a; first = at })
 unfolding frames_in taken_of spans_canvas
 built tray g at frs fr a ok taken covers alike first =
@@ -123,7 +123,7 @@ built tray g at frs fr a ok taken covers alike first =
     let s = frames-sound (count_of g) tray at frs taken in
     let m : FormSound fr.form = ap-sound first.1 (s 0 first.0).form in
     record {
-      taken = taken ∙ ap done (sym q);
+      taken = taken ∙ ap Ok (sym q);
       rows = (ok.positive_rows, ok.bounded_rows);
       columns = (ok.positive_columns, ok.bounded_columns);
       canvas = canvas-sound g fr.form a ok m (k.most (omega arith));
@@ -138,7 +138,7 @@ built tray g at frs fr a ok taken covers alike first =
     ap-sound : get_or frs 0 no_frame ≡ fr → FormSound (get_or frs 0 no_frame).form → FormSound fr.form
     ap-sound e h = rw e at h
 
-pub tiles-taken : (body tray : List ℕ) (t : Tiles) → Bytes body → tiles_of body tray ≡ done t → TilesTaken tray t
+pub tiles-taken : (body tray : List ℕ) (t : Tiles) → Bytes body → tiles_of body tray ≡ Ok t → TilesTaken tray t
 unfolding tiles_of tiles_at Bytes
 tiles-taken body tray t small e =
     let o = on-number (read_number tray 0) (tiles_at body tray) t e in
@@ -155,7 +155,7 @@ tiles-taken body tray t small e =
 -- ---- whether a tile has alpha
 
 -- the alpha number is the one begun with, or a tile has alpha
-alpha-some : (t : Form) (a b : ℕ) (frs : List Frame) → alike_from t a frs ≡ done b → (b ≡ a) ⊎ ((i : ℕ) × (i < length frs) × (has_alpha (get_or frs i no_frame).form.format ≡ true))
+alpha-some : (t : Form) (a b : ℕ) (frs : List Frame) → alike_from t a frs ≡ Ok b → (b ≡ a) ⊎ ((i : ℕ) × (i < length frs) × (has_alpha (get_or frs i no_frame).form.format ≡ true))
 unfolding alike_from
 alpha-some t a b [] e = inl (sym (done-same a b e))
 alpha-some t a b (fr ∷ frs) e =
@@ -168,17 +168,17 @@ alpha-some t a b (fr ∷ frs) e =
 
 -- what a grid's tiles take from its body, and where its alpha number comes from
 pub record TilesFrom (body tray : List ℕ) (t : Tiles) : Type 0 where
-  pub desc : grid_of body ≡ done t.desc
+  pub desc : grid_of body ≡ Ok t.desc
   pub alpha : (t.alpha ≡ 0) ⊎ ((i : ℕ) × (i < count_of t.desc) × (has_alpha (get_or (frames_in tray t) i no_frame).form.format ≡ true))
 
-from : (body tray : List ℕ) (g : GridDescriptor) (at : ℕ) (frs : List Frame) (m : Form) (a : ℕ) → grid_of body ≡ done g → frames_at (count_of g) tray at ≡ done frs → alike_from m 0 frs ≡ done a → TilesFrom body tray (record { desc = g; tile = m; alpha = a; first = at })
+from : (body tray : List ℕ) (g : GridDescriptor) (at : ℕ) (frs : List Frame) (m : Form) (a : ℕ) → grid_of body ≡ Ok g → frames_at (count_of g) tray at ≡ Ok frs → alike_from m 0 frs ≡ Ok a → TilesFrom body tray (record { desc = g; tile = m; alpha = a; first = at })
 unfolding frames_in taken_of
 from body tray g at frs m a here taken alike =
     let n : length frs ≡ count_of g = frames-length (count_of g) tray at frs taken in
     let q : frames_in tray (record { desc = g; tile = m; alpha = a; first = at }) ≡ frs = ap taken_of taken in
     record { desc = here; alpha = elim (alpha-some m 0 a frs alike) [ inl z ↦ inl z | inr k ↦ inr (k.0, rw (← n) k.1, rw q k.2) ] }
 
-pub tiles-from : (body tray : List ℕ) (t : Tiles) → tiles_of body tray ≡ done t → TilesFrom body tray t
+pub tiles-from : (body tray : List ℕ) (t : Tiles) → tiles_of body tray ≡ Ok t → TilesFrom body tray t
 unfolding tiles_of tiles_at
 tiles-from body tray t e =
     let o = on-number (read_number tray 0) (tiles_at body tray) t e in

@@ -9,9 +9,8 @@ ghost use Rattle.grid.specs.Run.{grid_on, grid_run};
 
 use crate::paint::outline_canvas;
 use cells::draw_tile;
-use laws::{Answer, Refusal};
-use records::FrameRead;
-use tiles::{Tiles, TilesRead, canvas_form, promotes, read_tiles};
+use laws::Refusal;
+use tiles::{Tiles, canvas_form, promotes, read_tiles};
 
 // The composed picture at the start of `out`: each tile is read once, in its order in the tray.
 pub fn draw_grid(out: &mut [u8], tray: &[u8], t: Tiles)
@@ -26,35 +25,25 @@ pub fn draw_grid(out: &mut [u8], tray: &[u8], t: Tiles)
     let to = planes::tight(canvas);
     outline_canvas(out, canvas);
     let mut next = t.first;
-    let mut i: u32 = 0;
-    while i < count {
-        match records::read_record(tray, next) {
-            FrameRead::Refused(e) => {
-                return;
-            }
-            FrameRead::Read(f) => {
-                draw_tile(out, to, tray, f, promoted, i % columns, i / columns);
-                next = f.end;
-            }
-        }
-        i += 1;
+    for i in 0..count {
+        let Ok(f) = records::read_record(tray, next) else {
+            return;
+        };
+        draw_tile(out, to, tray, f, promoted, i % columns, i / columns);
+        next = f.end;
     }
 }
 
 // A grid's tiles joined to a tight record. Refusals: 5 tray count unreadable; the body's; 11; the records'; 12; 13 and 14; 17.
-pub fn composite_grid(body: &[u8], tray: &[u8], out: &mut [u8]) -> Answer
+pub fn composite_grid(body: &[u8], tray: &[u8], out: &mut [u8]) -> Result<usize, Refusal>
     ensures { (result ≡ answer_of (grid_run body.now tray.now (length out.old)))
         × (out.new ≡ written (grid_run body.now tray.now (length out.old)) out.old) }
 {
-    match read_tiles(body, tray) {
-        TilesRead::Refused(e) => Answer::Refused(e),
-        TilesRead::Read(t) => {
-            let size = planes::record_size(canvas_form(t.desc, t.tile, t.alpha));
-            if out.len() < size {
-                return Answer::Refused(Refusal::ROOM);
-            }
-            draw_grid(out, tray, t);
-            Answer::Wrote(size)
-        }
+    let t = read_tiles(body, tray)?;
+    let size = planes::record_size(canvas_form(t.desc, t.tile, t.alpha));
+    if out.len() < size {
+        return Err(Refusal::ROOM);
     }
+    draw_grid(out, tray, t);
+    Ok(size)
 }

@@ -26,9 +26,10 @@ fn outline_plane(out: &mut [u8], at: usize, form: Form, part: Part) -> usize
     let f = form.format;
     if f.has(part) {
         let a = planes::write_plane_head(out, at, form, part);
-        return a + form.plane_len(part) as usize;
+        a + form.plane_len(part) as usize
+    } else {
+        at
     }
-    at
 }
 
 // A canvas that its tiles will cover: its numbers, and alpha at top. Colour stays as it is there.

@@ -1,12 +1,10 @@
 -- Pixel formats: what a chroma number, a depth and an alpha number say of a picture's planes (document 01, "What is handed in").
+use Rattle.std.specs.Prelude.{Ok}
 use Rattle.std.specs.Prelude.{Bool, true, false, not, ◌&&◌, ◌||◌, ◌≡◌, ℕ, ◌+◌, ◌-◌, ◌*◌, ◌/◌, ◌%◌, ◌^◌, eqb, ltb, leb}
 use Rattle.laws.specs.Pick.{pick}
-use Rattle.laws.specs.Out.{Out, and_then, refused, done, refuse}
-use Rattle.image.specs.declared.format.FormRead.{FormRead}
+use Rattle.laws.specs.Out.{Out, and_then, refuse}
 use Rattle.image.specs.declared.size.Size.{Size}
-use Rattle.image.specs.declared.size.SizeAnswer.{SizeAnswer}
 use Rattle.image.specs.declared.format.PixelFormat.{PixelFormat}
-use Rattle.image.specs.declared.format.FormatRead.{FormatRead}
 use Rattle.image.specs.declared.format.Form.{Form}
 use Rattle.image.specs.declared.format.Part.{Part}
 use Rattle.image.specs.declared.format.Part.TheVariants.{Luma, Cb, Cr, Alpha}
@@ -127,31 +125,18 @@ unfoldable pub judged_size : ℕ → ℕ → Out Size
 judged_size width height =
     refuse (eqb width 0) 3
     (refuse (eqb height 0) 3
-    (refuse (ltb (2 ^ 30) (width * height)) 4 (done (sides width height))))
+    (refuse (ltb (2 ^ 30) (width * height)) 4 (Ok (sides width height))))
 
 -- 5 chroma above 3 or alpha above 1; 6 a depth outside 8 to 16
 unfoldable pub format_of : ℕ → ℕ → ℕ → Out PixelFormat
 format_of chroma depth alpha =
     refuse (ltb 3 chroma) 5
     (refuse (ltb 1 alpha) 5
-    (refuse (not (is_depth depth)) 6 (done (record { chroma = chroma; depth = depth; alpha = alpha }))))
+    (refuse (not (is_depth depth)) 6 (Ok (record { chroma = chroma; depth = depth; alpha = alpha }))))
 
 -- the format's, then the size's
 unfoldable pub form_of : ℕ → ℕ → ℕ → ℕ → ℕ → Out Form
 form_of width height chroma depth alpha =
     and_then (format_of chroma depth alpha) (λ f.
     and_then (judged_size width height) (λ z.
-    done (record { width = z.width; height = z.height; format = f })))
-
--- what the code answers
-abbrev pub size_out : SizeAnswer → Out Size
-size_out (SizeAnswer.Size z) = done z
-size_out (SizeAnswer.Refused e) = refused e
-
-abbrev pub format_out : FormatRead → Out PixelFormat
-format_out (FormatRead.Read f) = done f
-format_out (FormatRead.Refused e) = refused e
-
-abbrev pub form_out : FormRead → Out Form
-form_out (FormRead.Form m) = done m
-form_out (FormRead.Refused e) = refused e
+    Ok (record { width = z.width; height = z.height; format = f })))

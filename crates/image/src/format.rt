@@ -1,9 +1,9 @@
 // The pixel format, and what it says of a picture's planes.
 ghost use Rattle.std.specs.Prelude.{◌≡◌, ◌&&◌, ◌||◌, ◌*◌, ◌≤◌};
-ghost use Rattle.image.specs.Format.{is_depth, top_at, top_of, middle_at, middle_of, bytes_of, has_part, plane_count, halves_x, halves_y, half_x, half_y, side_of, rows_of, row_size, has_size, needs444, as444, odd, sized, with_alpha, format_of, format_out, form_of, form_out};
+ghost use Rattle.image.specs.Format.{is_depth, top_at, top_of, middle_at, middle_of, bytes_of, has_part, plane_count, halves_x, halves_y, halved, half_x, half_y, side_of, rows_of, row_size, has_size, needs444, as444, odd, sized, with_alpha, format_of, form_of};
 ghost use Rattle.image.specs.Sound.{FormSound};
 
-use crate::size::{Size, SizeAnswer};
+use crate::size::Size;
 use laws::Refusal;
 
 // A plane by its part: where the picture is promoted, a mono picture's alpha keeps its part and not its number.
@@ -23,12 +23,6 @@ pub struct PixelFormat {
     pub alpha: u32,
 }
 
-#[derive(Clone, Copy)]
-pub enum FormatRead {
-    Read(PixelFormat),
-    Refused(Refusal),
-}
-
 // A picture's size and format: all that a record says but for its samples.
 #[derive(Clone, Copy)]
 pub struct Form {
@@ -37,10 +31,17 @@ pub struct Form {
     pub format: PixelFormat,
 }
 
-#[derive(Clone, Copy)]
-pub enum FormRead {
-    Form(Form),
-    Refused(Refusal),
+impl Part {
+    // Whether a plane of the part is halved along an axis that is halved, or not, for chroma.
+    #[tactic(auto, unfolding(crate::specs::Format::halved))]
+    fn halved(self, chroma: bool) -> bool
+        ensures { result ≡ halved chroma self }
+    {
+        match self {
+            Part::Luma | Part::Alpha => false,
+            Part::Cb | Part::Cr => chroma,
+        }
+    }
 }
 
 impl PixelFormat {
@@ -54,19 +55,17 @@ impl PixelFormat {
     // The most pixels a picture may have (document 01's L).
     pub const PIXEL_LIMIT: u64 = 1073741824;
 
-    pub fn new(chroma: u32, depth: u32, alpha: u32) -> FormatRead
-        ensures { format_out result ≡ format_of chroma depth alpha }
+    #[tactic(auto, unfolding(crate::specs::Format::format_of, laws::specs::Out::refuse))]
+    pub fn new(chroma: u32, depth: u32, alpha: u32) -> Result<PixelFormat, Refusal>
+        ensures { result ≡ format_of chroma depth alpha }
     {
-        if chroma > PixelFormat::YUV444 {
-            return FormatRead::Refused(Refusal::MALFORMED);
-        }
-        if alpha > 1 {
-            return FormatRead::Refused(Refusal::MALFORMED);
+        if chroma > PixelFormat::YUV444 || alpha > 1 {
+            return Err(Refusal::MALFORMED);
         }
         if !PixelFormat::is_depth(depth) {
-            return FormatRead::Refused(Refusal::DEPTH);
+            return Err(Refusal::DEPTH);
         }
-        FormatRead::Read(PixelFormat {
+        Ok(PixelFormat {
             chroma,
             depth,
             alpha,
@@ -74,13 +73,11 @@ impl PixelFormat {
     }
 
     // Whether a record may have the depth.
+    #[tactic(auto, unfolding(crate::specs::Format::is_depth))]
     pub fn is_depth(depth: u32) -> bool
         ensures { result ≡ is_depth depth }
     {
-        if depth < 8 {
-            return false;
-        }
-        depth <= 16
+        8 <= depth && depth <= 16
     }
 
     // The largest sample of a depth.
@@ -91,6 +88,7 @@ impl PixelFormat {
         ((1u32 << depth) - 1) as u16
     }
 
+    #[tactic(auto, unfolding(crate::specs::Format::top_of))]
     pub fn top(self) -> u16
         requires { self.depth ≤ 16 }
         ensures { result ≡ top_of self }
@@ -106,6 +104,7 @@ impl PixelFormat {
         (1u32 << (depth - 1)) as u16
     }
 
+    #[tactic(auto, unfolding(crate::specs::Format::middle_of))]
     pub fn middle(self) -> u16
         requires { (1 ≤ self.depth) × (self.depth ≤ 16) }
         ensures { result ≡ middle_of self }
@@ -113,53 +112,48 @@ impl PixelFormat {
         PixelFormat::middle_at(self.depth)
     }
 
+    #[tactic(auto, unfolding(crate::specs::Format::bytes_of, laws::specs::Pick::pick))]
     pub fn bytes_per_sample(self) -> usize
         ensures { result ≡ bytes_of self }
     {
-        if self.depth <= 8 {
-            return 1;
-        }
-        2
+        if self.depth <= 8 { 1 } else { 2 }
     }
 
     // Whether a picture has the plane.
+    #[tactic(auto, unfolding(crate::specs::Format::has_part, crate::specs::Format::is_mono, crate::specs::Format::has_alpha))]
     pub fn has(self, part: Part) -> bool
         ensures { result ≡ has_part self part }
     {
         match part {
             Part::Luma => true,
-            Part::Cb => self.chroma != PixelFormat::MONO,
-            Part::Cr => self.chroma != PixelFormat::MONO,
+            Part::Cb | Part::Cr => self.chroma != PixelFormat::MONO,
             Part::Alpha => self.alpha != 0,
         }
     }
 
+    #[tactic(auto, unfolding(crate::specs::Format::plane_count, crate::specs::Format::is_mono, crate::specs::Format::has_alpha, laws::specs::Pick::pick))]
     pub fn plane_count(self) -> usize
         ensures { result ≡ plane_count self }
     {
-        if self.chroma == PixelFormat::MONO {
-            if self.alpha == 0 {
-                return 1;
-            }
-            return 2;
-        }
-        if self.alpha == 0 {
-            return 3;
-        }
-        4
+        let colour = if self.chroma == PixelFormat::MONO {
+            1
+        } else {
+            3
+        };
+        let alpha = if self.alpha == 0 { 0 } else { 1 };
+        colour + alpha
     }
 
     // Whether chroma is halved along the width.
+    #[tactic(auto, unfolding(crate::specs::Format::halves_x))]
     pub fn halves_width(self) -> bool
         ensures { result ≡ halves_x self }
     {
-        if self.chroma == PixelFormat::YUV420 {
-            return true;
-        }
-        self.chroma == PixelFormat::YUV422
+        self.chroma == PixelFormat::YUV420 || self.chroma == PixelFormat::YUV422
     }
 
     // Whether chroma is halved along the height.
+    #[tactic(auto, unfolding(crate::specs::Format::halves_y))]
     pub fn halves_height(self) -> bool
         ensures { result ≡ halves_y self }
     {
@@ -167,37 +161,25 @@ impl PixelFormat {
     }
 
     // Whether an odd column or row needs a chroma sample that is not there.
+    #[tactic(auto, unfolding(crate::specs::Format::needs444))]
     pub fn needs_444(self, x_odd: bool, y_odd: bool) -> bool
         ensures { result ≡ needs444 self x_odd y_odd }
     {
-        either(
-            both(self.halves_width(), x_odd),
-            both(self.halves_height(), y_odd),
-        )
+        self.halves_width() && x_odd || self.halves_height() && y_odd
     }
 
     // Whether a plane is halved along the width.
     pub fn half_width(self, part: Part) -> bool
         ensures { result ≡ half_x self part }
     {
-        match part {
-            Part::Luma => false,
-            Part::Cb => self.halves_width(),
-            Part::Cr => self.halves_width(),
-            Part::Alpha => false,
-        }
+        part.halved(self.halves_width())
     }
 
     // Whether a plane is halved along the height.
     pub fn half_height(self, part: Part) -> bool
         ensures { result ≡ half_y self part }
     {
-        match part {
-            Part::Luma => false,
-            Part::Cb => self.halves_height(),
-            Part::Cr => self.halves_height(),
-            Part::Alpha => false,
-        }
+        part.halved(self.halves_height())
     }
 
     // The columns of a plane of a picture so wide.
@@ -218,74 +200,67 @@ impl PixelFormat {
 impl Form {
     // The form of those numbers. Refusals: 5 chroma above 3 or alpha above 1, 6 a depth outside 8 to 16, 3 a side 0, 4 above 2^30
     // pixels.
-    pub fn judge(width: u32, height: u32, chroma: u32, depth: u32, alpha: u32) -> FormRead
-        ensures { form_out result ≡ form_of width height chroma depth alpha }
+    #[tactic(auto, unfolding(crate::specs::Format::form_of, laws::specs::Out::and_then))]
+    pub fn judge(
+        width: u32,
+        height: u32,
+        chroma: u32,
+        depth: u32,
+        alpha: u32,
+    ) -> Result<Form, Refusal>
+        ensures { result ≡ form_of width height chroma depth alpha }
     {
-        match PixelFormat::new(chroma, depth, alpha) {
-            FormatRead::Refused(e) => FormRead::Refused(e),
-            FormatRead::Read(format) => match Size::judge(width, height) {
-                SizeAnswer::Refused(e) => FormRead::Refused(e),
-                SizeAnswer::Size(z) => FormRead::Form(Form {
-                    width: z.width,
-                    height: z.height,
-                    format,
-                }),
-            },
-        }
+        let format = PixelFormat::new(chroma, depth, alpha)?;
+        let z = Size::judge(width, height)?;
+        Ok(Form {
+            width: z.width,
+            height: z.height,
+            format,
+        })
     }
 
     // The form promoted to 4:4:4.
+    #[tactic(auto, unfolding(crate::specs::Format::as444, crate::specs::Format::sized))]
     pub fn as_444(self) -> Form
         ensures { result ≡ as444 self }
     {
-        let f = self.format;
-        Form {
-            width: self.width,
-            height: self.height,
-            format: PixelFormat {
-                chroma: PixelFormat::YUV444,
-                depth: f.depth,
-                alpha: f.alpha,
-            },
-        }
+        let format = PixelFormat {
+            chroma: PixelFormat::YUV444,
+            ..self.format
+        };
+        Form { format, ..self }
     }
 
     // The form with another size.
+    #[tactic(auto, unfolding(crate::specs::Format::as444, crate::specs::Format::sized))]
     pub fn sized(self, width: u32, height: u32) -> Form
         ensures { result ≡ sized self width height }
     {
-        let format = self.format;
         Form {
             width,
             height,
-            format,
+            ..self
         }
     }
 
     // The form with that alpha number.
+    #[tactic(auto, unfolding(crate::specs::Format::with_alpha))]
     pub fn with_alpha(self, alpha: u32) -> Form
         ensures { result ≡ with_alpha self alpha }
     {
-        let f = self.format;
-        Form {
-            width: self.width,
-            height: self.height,
-            format: PixelFormat {
-                chroma: f.chroma,
-                depth: f.depth,
-                alpha,
-            },
-        }
+        let format = PixelFormat {
+            alpha,
+            ..self.format
+        };
+        Form { format, ..self }
     }
 
     // Whether the picture has that size.
+    #[tactic(auto, unfolding(crate::specs::Format::has_size))]
     pub fn has_size(self, width: u32, height: u32) -> bool
         ensures { result ≡ has_size self width height }
     {
-        if self.width == width {
-            return self.height == height;
-        }
-        false
+        self.width == width && self.height == height
     }
 
     // The bytes of a row of a plane.
@@ -308,24 +283,7 @@ impl Form {
     }
 }
 
-pub fn both(a: bool, b: bool) -> bool
-    ensures { result ≡ (a && b) }
-{
-    if a {
-        return b;
-    }
-    false
-}
-
-pub fn either(a: bool, b: bool) -> bool
-    ensures { result ≡ (a || b) }
-{
-    if a {
-        return true;
-    }
-    b
-}
-
+#[tactic(auto, unfolding(crate::specs::Format::odd))]
 pub fn is_odd(n: u32) -> bool
     ensures { result ≡ odd n }
 {
@@ -333,12 +291,10 @@ pub fn is_odd(n: u32) -> bool
 }
 
 // How many samples stand along n pixels.
+#[tactic(auto, unfolding(crate::specs::Format::side_of))]
 fn along(half: bool, n: u32) -> usize
     ensures { result ≡ side_of half n }
 {
     let whole = n as usize;
-    if half {
-        return (whole + 1) / 2;
-    }
-    whole
+    if half { (whole + 1) / 2 } else { whole }
 }

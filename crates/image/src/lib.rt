@@ -4,5 +4,5 @@
 mod format;
 mod size;
 
-pub use crate::format::{Form, FormRead, FormatRead, Part, PixelFormat, both, either, is_odd};
-pub use crate::size::{Size, SizeAnswer};
+pub use crate::format::{Form, Part, PixelFormat, is_odd};
+pub use crate::size::Size;

@@ -1,4 +1,5 @@
 -- The first of a list that passes a test, item by item.
+use Rattle.std.specs.Prelude.{Err}
 use mathlib.Core.Bool.{Bool, ◌||◌, false, true}
 use mathlib.Core.List.{List, [], ◌∷◌}
 use mathlib.Core.Path.{◌∙◌, ◌≡◌, ap, refl, sym}
@@ -9,7 +10,8 @@ use lib.ListN.{length}
 use Rattle.laws.proofs.Order.{apart, by-test, pick-false, pick_true}
 use Rattle.laws.proofs.Out.{item-no, item-yes}
 use Rattle.laws.specs.Any.{any, first_at}
-use Rattle.laws.specs.Out.{Out, own_reason, refuse_item, refused}
+use Rattle.laws.specs.Out.{Out, own_reason, refuse_item}
+use Rattle.laws.specs.declared.Item.{Item}
 use Rattle.laws.specs.Pick.{pick}
 use Rattle.inputs.specs.inner.Sought.{found_at}
 
@@ -41,12 +43,12 @@ module _ {A : Type 0} (t : A → Bool) where
       omega (arith, first_below items q))
 
   -- what was found is refused, and nothing where none was
-  module _ (sort n : ℕ) (items : List A) (count k : ℕ) (few : length items ≤ count) (e : k ≡ found_at 0 t items count) where
+  module _ (sort : ℕ → Item) (n : ℕ) (items : List A) (count k : ℕ) (few : length items ≤ count) (e : k ≡ found_at 0 t items count) where
     pub first_found : any t items ≡ true → first_at t items ≡ k
     unfolding found_at
     first_found h = sym (e ∙ pick_true _ _ _ h ∙ omega arith)
 
-    pub item-found : {B : Type 0} (o : Out B) → k < count → refuse_item sort t n items o ≡ refused (own_reason n sort k)
+    pub item-found : {B : Type 0} (o : Out B) → k < count → refuse_item sort t n items o ≡ Err (own_reason n sort k)
     unfolding found_at
     item-found o l = by-test (any t items)
         (λ h. item-yes sort t n items k o h (first_found h))

@@ -1,4 +1,6 @@
 -- Laws of records in turn, and of the search through them.
+use Rattle.laws.specs.declared.Item.TheVariants.{Record}
+use Rattle.std.specs.Prelude.{Ok, Err}
 use mathlib.Core.Bool.{Bool, ◌&&◌, ◌||◌, false, true}
 use mathlib.Core.List.{List, [], ◌∷◌}
 use mathlib.Core.Path.{◌∙◌, ◌≡◌, ap, ap₂, refl, sym}
@@ -11,7 +13,7 @@ use borrow.Author.Tests.{eq-eqb, le-ltb, lt-leb, lt-ltb, ne_eqb}
 use Rattle.laws.proofs.Order.{by_equal, by_order, by-test, pick-false, pick-le, pick_true, true-and}
 use Rattle.laws.proofs.Out.{about-done, after-done, and_then-done, done-same, refuse-done}
 use Rattle.laws.specs.Any.{any_below}
-use Rattle.laws.specs.Out.{Out, done, refused}
+use Rattle.laws.specs.Out.{Out}
 use Rattle.laws.specs.Pick.{pick}
 use Rattle.laws.specs.Puts.{Bytes}
 use Rattle.laws.specs.declared.Refusal.{Refusal}
@@ -37,29 +39,29 @@ use Rattle.inputs.proofs.FoundLaws.{found_here, found-next, none_found}
 
 -- ---- records in turn
 
-pub from-read : (n : ℕ) (s : List ℕ) (at : ℕ) (fr : Frame) → record_at s at ≡ done fr → frames_from (suc n) s at ≡ fr ∷ frames_from n s fr.end
+pub from-read : (n : ℕ) (s : List ℕ) (at : ℕ) (fr : Frame) → record_at s at ≡ Ok fr → frames_from (suc n) s at ≡ fr ∷ frames_from n s fr.end
 unfolding frames_from onward
 from-read n s at fr e = rw e
 
-pub from-refused : (n : ℕ) (s : List ℕ) (at : ℕ) (r : Refusal) → record_at s at ≡ refused r → frames_from n s at ≡ []
+pub from-refused : (n : ℕ) (s : List ℕ) (at : ℕ) (r : Refusal) → record_at s at ≡ Err r → frames_from n s at ≡ []
 unfolding frames_from onward
 from-refused zero s at r e = refl
 from-refused (suc n) s at r e = rw e
 
 -- one less
-pub from_next : (n : ℕ) (s : List ℕ) (at : ℕ) (fr : Frame) → 0 < n → record_at s at ≡ done fr → frames_from n s at ≡ fr ∷ frames_from (n - 1) s fr.end
+pub from_next : (n : ℕ) (s : List ℕ) (at : ℕ) (fr : Frame) → 0 < n → record_at s at ≡ Ok fr → frames_from n s at ≡ fr ∷ frames_from (n - 1) s fr.end
 from_next n s at fr h e =
     let k : suc (n - 1) ≡ n = omega arith in
     ap (λ (m : ℕ). frames_from m s at) (sym k) ∙ from-read (n - 1) s at fr e
 
 -- those that were taken
-pub frames-from : (n : ℕ) (s : List ℕ) (at : ℕ) (frs : List Frame) → frames_at n s at ≡ done frs → frs ≡ frames_from n s at
+pub frames-from : (n : ℕ) (s : List ℕ) (at : ℕ) (frs : List Frame) → frames_at n s at ≡ Ok frs → frs ≡ frames_from n s at
 unfolding frames_at frames_from onward
-frames-from zero s at frs e = sym (done-same [] frs (refuse-done (ltb at (length s)) 5 (done []) frs e).1)
+frames-from zero s at frs e = sym (done-same [] frs (refuse-done (ltb at (length s)) 5 (Ok []) frs e).1)
 frames-from (suc n) s at frs e =
     let a = and_then-done _ _ frs e in
     let b = and_then-done _ _ frs a.2 in
-    sym (done-same _ frs b.2) ∙ ap (λ (l : List Frame). a.0 ∷ l) (frames-from n s a.0.end b.0 (after-done 1 _ _ b.1)) ∙ sym (from-read n s at a.0 (about-done 1 0 _ _ a.1))
+    sym (done-same _ frs b.2) ∙ ap (λ (l : List Frame). a.0 ∷ l) (frames-from n s a.0.end b.0 (after-done 1 _ _ b.1)) ∙ sym (from-read n s at a.0 (about-done Record 0 _ _ a.1))
 
 -- no more than were asked for
 pub from-few : (n : ℕ) (s : List ℕ) (at : ℕ) → length (frames_from n s at) ≤ n
@@ -68,11 +70,11 @@ from-few zero s at = omega arith
 from-few (suc n) s at = go (record_at s at) (λ fr. from-few n s fr.end)
   where
     go : (o : Out Frame) → ((fr : Frame) → length (frames_from n s fr.end) ≤ n) → length (onward o (λ fr. frames_from n s fr.end)) ≤ suc n
-    go (refused r) k = omega arith
-    go (done fr) k = omega (arith, k fr)
+    go (Err r) k = omega arith
+    go (Ok fr) k = omega (arith, k fr)
 
 -- the first of them
-pub frames-first : (n : ℕ) (s : List ℕ) (at : ℕ) (fr : Frame) (frs : List Frame) → 0 < n → record_at s at ≡ done fr → frames_at n s at ≡ done frs → first_form frs ≡ fr.form
+pub frames-first : (n : ℕ) (s : List ℕ) (at : ℕ) (fr : Frame) (frs : List Frame) → 0 < n → record_at s at ≡ Ok fr → frames_at n s at ≡ Ok frs → first_form frs ≡ fr.form
 unfolding first_form
 frames-first n s at fr frs h e k = ap first_form (frames-from n s at frs k ∙ from_next n s at fr h e)
 
@@ -85,7 +87,7 @@ each s m q t u v a b c d Cr = c
 each s m q t u v a b c d Alpha = d
 
 -- a record that was read lies in the slice, with every plane
-pub record-inside : (s : List ℕ) (at : ℕ) (fr : Frame) → record_at s at ≡ done fr → InSlice s fr
+pub record-inside : (s : List ℕ) (at : ℕ) (fr : Frame) → record_at s at ≡ Ok fr → InSlice s fr
 unfolding record_at planes_at
 record-inside s at fr e =
     let h = and_then-done _ _ fr e in
@@ -98,7 +100,7 @@ record-inside s at fr e =
     let pb = part-past s _ _ Cb b.0 b.1 pa in
     let pc = part-past s _ _ Cr c.0 c.1 pb in
     let pd = part-past s _ _ Alpha d.0 d.1 pc in
-    record { sound = record-sound s at fr e; planes = rw (← done-same _ fr d.2) (each s h.0.form a.0 b.0 c.0 d.0 pa pb pc pd) }
+    record { sound = record-sound s at fr e; planes = rw (← done-same _ fr d.2) (each s h.0.0 a.0 b.0 c.0 d.0 pa pb pc pd) }
 
 -- ---- whether one passes a test
 
@@ -197,18 +199,18 @@ module _ (s : List ℕ) (at top : ℕ) where
   abbrev seen : ℕ → ℕ → ℕ → ℕ
   seen i n k = found_at i (alpha_above s top) (frames_from n s at) k
 
-  cases : {X : Type 0} → ((r : Refusal) → record_at s at ≡ refused r → X) → ((fr : Frame) → record_at s at ≡ done fr → X) → X
+  cases : {X : Type 0} → ((r : Refusal) → record_at s at ≡ Err r → X) → ((fr : Frame) → record_at s at ≡ Ok fr → X) → X
   cases {X} f g = go (record_at s at) refl
     where
       go : (o : Out Frame) → record_at s at ≡ o → X
-      go (refused r) e = f r e
-      go (done fr) e = g fr e
+      go (Err r) e = f r e
+      go (Ok fr) e = g fr e
 
-  q-refused : (r : Refusal) → record_at s at ≡ refused r → q ≡ no_alpha at
+  q-refused : (r : Refusal) → record_at s at ≡ Err r → q ≡ no_alpha at
   unfolding alpha_plane_at
   q-refused r e = ap (alpha_plane_at at) e
 
-  q-done : (fr : Frame) → record_at s at ≡ done fr → q ≡ alpha_plane fr
+  q-done : (fr : Frame) → record_at s at ≡ Ok fr → q ≡ alpha_plane fr
   unfolding alpha_plane_at
   q-done fr e = ap (alpha_plane_at at) e
 
@@ -241,15 +243,15 @@ module _ (s : List ℕ) (at top : ℕ) where
 
 -- ---- what is found at a place
 
-pub found-refused : (s : List ℕ) (at : ℕ) (r : Refusal) → record_at s at ≡ refused r → alpha_plane_at at (record_at s at) ≡ no_alpha at
+pub found-refused : (s : List ℕ) (at : ℕ) (r : Refusal) → record_at s at ≡ Err r → alpha_plane_at at (record_at s at) ≡ no_alpha at
 unfolding alpha_plane_at
 found-refused s at r e = ap (alpha_plane_at at) e
 
-pub found_none : (s : List ℕ) (at : ℕ) (fr : Frame) → record_at s at ≡ done fr → has_alpha fr.form.format ≡ false → alpha_plane_at at (record_at s at) ≡ no_alpha fr.end
+pub found_none : (s : List ℕ) (at : ℕ) (fr : Frame) → record_at s at ≡ Ok fr → has_alpha fr.form.format ≡ false → alpha_plane_at at (record_at s at) ≡ no_alpha fr.end
 unfolding alpha_plane_at
 found_none s at fr e h = ap (alpha_plane_at at) e ∙ plane-none s fr h
 
-pub found_some : (s : List ℕ) (at : ℕ) (fr : Frame) (b : ℕ) → record_at s at ≡ done fr → has_alpha fr.form.format ≡ true → b ≡ bytes_of fr.form.format
+pub found_some : (s : List ℕ) (at : ℕ) (fr : Frame) (b : ℕ) → record_at s at ≡ Ok fr → has_alpha fr.form.format ≡ true → b ≡ bytes_of fr.form.format
     → alpha_plane_at at (record_at s at) ≡ record { plane = fr.alpha; bytes = b; columns = fr.form.width; rows = fr.form.height; end = fr.end }
 unfolding alpha_plane_at
 found_some s at fr b e h k = ap (alpha_plane_at at) e ∙ plane-some s fr h ∙ ap (λ (n : ℕ). record { plane = fr.alpha; bytes = n; columns = fr.form.width; rows = fr.form.height; end = fr.end }) (sym k)
@@ -281,10 +283,10 @@ some-none t i n s at k h = let e : n ≡ 0 = omega arith in rw e (none_found t i
 
 -- the search for a record, i of k behind
 module _ (t : Frame → Bool) (i k : ℕ) (s : List ℕ) (at : ℕ) where
-  pub sought-refused : (r : Refusal) → record_at s at ≡ refused r → found_at i t (frames_from (k - i) s at) k ≡ k
+  pub sought-refused : (r : Refusal) → record_at s at ≡ Err r → found_at i t (frames_from (k - i) s at) k ≡ k
   sought-refused r e = rw (from-refused (k - i) s at r e) (none_found t i k)
 
-  module _ (fr : Frame) (h : i < k) (e : record_at s at ≡ done fr) where
+  module _ (fr : Frame) (h : i < k) (e : record_at s at ≡ Ok fr) where
     pub sought-here : t fr ≡ true → found_at i t (frames_from (k - i) s at) k ≡ i
     sought-here q = rw (from_next (k - i) s at fr (omega arith) e) (found_here t i fr _ k q)
 

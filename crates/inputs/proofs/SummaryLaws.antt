@@ -1,4 +1,7 @@
 -- What the inputs come to, summarised one after the other, is what the definition asks of them all; and the runs step by step.
+use Rattle.laws.specs.Out.{own_refusal}
+use Rattle.laws.specs.declared.Item.TheVariants.{Record}
+use Rattle.std.specs.Prelude.{Ok, Err}
 use mathlib.Core.Bool.{Bool, ◌||◌, false, not, true}
 use mathlib.Core.List.{List, [], ◌++◌, ◌∷◌, append_assoc, append-nil}
 use mathlib.Core.Path.{◌∙◌, ◌≡◌, ap, ap₂, refl, sym}
@@ -9,7 +12,7 @@ use lib.ListN.{length, length-append}
 use borrow.Author.Tests.{eq-eqb, ne_eqb}
 use Rattle.laws.proofs.Out.{done-after, item-no, item-then, item-yes, refuse-no, refuse-yes, then-done, then-refused}
 use Rattle.laws.specs.Any.{any}
-use Rattle.laws.specs.Out.{Out, after, and_then, done, own_reason, reason, refuse_item, refused}
+use Rattle.laws.specs.Out.{Out, after, and_then, own_reason, reason, refuse_item}
 use Rattle.laws.specs.declared.Refusal.{Refusal}
 use Rattle.records.proofs.TrayLaws.{frames-begin, frames-end, frames-left-on, frames-length, frames-on, frames-refused, frames-refused-on}
 use Rattle.image.specs.Format.{has_alpha, odd}
@@ -74,61 +77,61 @@ module _ (body tray list : List ℕ) (d : OverlayDescriptor) (f : PixelFormat) w
 -- ---- records read one after the other
 
 abbrev pub preceded : List Frame → Out (List Frame) → Out (List Frame)
-preceded seen o = and_then o (λ frs. done (seen ++ frs))
+preceded seen o = and_then o (λ frs. Ok (seen ++ frs))
 
 pub preceded-none : (o : Out (List Frame)) → o ≡ preceded [] o
 unfolding and_then
-preceded-none (refused r) = refl
-preceded-none (done frs) = refl
+preceded-none (Err r) = refl
+preceded-none (Ok frs) = refl
 
-pub preceded-refused : (seen : List Frame) (i n : ℕ) (s : List ℕ) (at : ℕ) (r : Refusal) → 0 < n → record_at s at ≡ refused r → preceded seen (after i (frames_at n s at)) ≡ refused (own_reason r.number 1 i)
+pub preceded-refused : (seen : List Frame) (i n : ℕ) (s : List ℕ) (at : ℕ) (r : Refusal) → 0 < n → record_at s at ≡ Err r → preceded seen (after i (frames_at n s at)) ≡ Err (own_refusal r.reason (Record i))
 preceded-refused seen i n s at r h e = then-refused _ (frames-refused-on i n s at r h e)
 
-pub preceded-next : (seen : List Frame) (i k : ℕ) (s : List ℕ) (at : ℕ) (fr : Frame) → i < k → record_at s at ≡ done fr
+pub preceded-next : (seen : List Frame) (i k : ℕ) (s : List ℕ) (at : ℕ) (fr : Frame) → i < k → record_at s at ≡ Ok fr
     → preceded seen (after i (frames_at (k - i) s at)) ≡ preceded (seen ++ (fr ∷ [])) (after (i + 1) (frames_at (k - (i + 1)) s fr.end))
 unfolding and_then
 preceded-next seen i k s at fr h e = ap (preceded seen) (frames-on i k s at fr h e) ∙ go (after (i + 1) (frames_at (k - (i + 1)) s fr.end))
   where
-    go : (o : Out (List Frame)) → preceded seen (and_then o (λ frs. done (fr ∷ frs))) ≡ preceded (seen ++ (fr ∷ [])) o
-    go (refused r) = refl
-    go (done frs) = ap done (sym (append_assoc seen (fr ∷ []) frs))
+    go : (o : Out (List Frame)) → preceded seen (and_then o (λ frs. Ok (fr ∷ frs))) ≡ preceded (seen ++ (fr ∷ [])) o
+    go (Err r) = refl
+    go (Ok frs) = ap Ok (sym (append_assoc seen (fr ∷ []) frs))
 
-pub preceded-left : (seen : List Frame) (i n : ℕ) (s : List ℕ) (at : ℕ) → n ≤ 0 → at < length s → preceded seen (after i (frames_at n s at)) ≡ refused (reason 5)
+pub preceded-left : (seen : List Frame) (i n : ℕ) (s : List ℕ) (at : ℕ) → n ≤ 0 → at < length s → preceded seen (after i (frames_at n s at)) ≡ Err (reason 5)
 preceded-left seen i n s at h l = then-refused _ (frames-left-on i n s at h l)
 
-pub preceded-end : (seen : List Frame) (i n : ℕ) (s : List ℕ) (at : ℕ) → n ≤ 0 → length s ≤ at → preceded seen (after i (frames_at n s at)) ≡ done seen
-preceded-end seen i n s at h l = then-done _ (done-after i _ _ (frames-end n s at h l)) ∙ ap done (append-nil seen)
+pub preceded-end : (seen : List Frame) (i n : ℕ) (s : List ℕ) (at : ℕ) → n ≤ 0 → length s ≤ at → preceded seen (after i (frames_at n s at)) ≡ Ok seen
+preceded-end seen i n s at h l = then-done _ (done-after i _ _ (frames-end n s at h l)) ∙ ap Ok (append-nil seen)
 
 -- ---- the plan
 
-pub plan-body : (body tray list : List ℕ) (n first : ℕ) (r : Refusal) → overlay_of body n ≡ refused r → plan_at body tray list n first ≡ refused r
+pub plan-body : (body tray list : List ℕ) (n first : ℕ) (r : Refusal) → overlay_of body n ≡ Err r → plan_at body tray list n first ≡ Err r
 unfolding plan_at inputs_at
 plan-body body tray list n first r e = then-refused _ (then-refused _ e)
 
 -- the records of a body that was taken
 module _ (body tray : List ℕ) (d : OverlayDescriptor) (first : ℕ) (f : PixelFormat) where
-  pub plan-refused : (r : Refusal) → frames_at d.count tray first ≡ refused r → frames_plan body tray d first f ≡ refused r
+  pub plan-refused : (r : Refusal) → frames_at d.count tray first ≡ Err r → frames_plan body tray d first f ≡ Err r
   unfolding frames_plan
   plan-refused r e = then-refused _ e
 
-  module _ (seen : List Frame) (n : InputSummary) (e : frames_at d.count tray first ≡ done seen) (k : n ≡ summary_of body d f (empty_summary d) 0 seen) where
+  module _ (seen : List Frame) (n : InputSummary) (e : frames_at d.count tray first ≡ Ok seen) (k : n ≡ summary_of body d f (empty_summary d) 0 seen) where
     some-other : n.other_depth ≡ any (other_depth_of f) seen
     unfolding empty_summary
     some-other = ap (λ (m : InputSummary). m.other_depth) (k ∙ noted-is body tray body d f (empty_summary d) 0 seen)
 
-    pub plan-depth : (i : ℕ) → n.other_depth ≡ true → i ≡ found_at 0 (other_depth_of f) (frames_from d.count tray first) d.count → frames_plan body tray d first f ≡ refused (own_reason 14 1 i)
+    pub plan-depth : (i : ℕ) → n.other_depth ≡ true → i ≡ found_at 0 (other_depth_of f) (frames_from d.count tray first) d.count → frames_plan body tray d first f ≡ Err (own_reason 14 Record i)
     unfolding frames_plan summary_plan
     plan-depth i o g =
         let h : any (other_depth_of f) seen ≡ true = sym some-other ∙ o in
         let few : length seen ≤ d.count = omega (arith, frames-length d.count tray first seen e) in
         let w = frames-from d.count tray first seen e in
-        then-done _ e ∙ item-yes 1 (other_depth_of f) 14 seen i _ h (first_found (other_depth_of f) 1 14 seen d.count i few (g ∙ rw w) h)
+        then-done _ e ∙ item-yes Record (other_depth_of f) 14 seen i _ h (first_found (other_depth_of f) Record 14 seen d.count i few (g ∙ rw w) h)
 
-    pub plan-done : (m : Form) → n.other_depth ≡ false → m ≡ summary_form d f n → frames_plan body tray d first f ≡ done (record { descriptor = d; first = first; form = m; alpha = n.alpha })
+    pub plan-done : (m : Form) → n.other_depth ≡ false → m ≡ summary_form d f n → frames_plan body tray d first f ≡ Ok (record { descriptor = d; first = first; form = m; alpha = n.alpha })
     unfolding frames_plan summary_plan
     plan-done m o g =
-        then-done _ e ∙ ap (summary_plan d first f seen) (sym k) ∙ item-no 1 (other_depth_of f) 14 seen _ (sym some-other ∙ o)
-        ∙ ap (λ (w : Form). done (record { descriptor = d; first = first; form = w; alpha = n.alpha })) (sym g)
+        then-done _ e ∙ ap (summary_plan d first f seen) (sym k) ∙ item-no Record (other_depth_of f) 14 seen _ (sym some-other ∙ o)
+        ∙ ap (λ (w : Form). Ok (record { descriptor = d; first = first; form = w; alpha = n.alpha })) (sym g)
 
   -- one more summarised
   pub noted_step : (seen : List Frame) (n : InputSummary) (fr : Frame) (o : Placement) (i : ℕ) → n ≡ summary_of body d f (empty_summary d) 0 seen → o ≡ placement_at body d i → length seen ≡ i
@@ -149,7 +152,7 @@ module _ (body tray : List ℕ) (d : OverlayDescriptor) (first : ℕ) (f : Pixel
   unfolding summary_of
   seen_none n e = record { seen = []; many = refl; left = frames-begin d.count tray first ∙ preceded-none _; notes = e }
 
-  pub seen_more : (i at : ℕ) (n m : InputSummary) (fr : Frame) (o : Placement) → i < d.count → record_at tray at ≡ done fr → m ≡ summarised n f fr.form o → o ≡ placement_at body d i
+  pub seen_more : (i at : ℕ) (n m : InputSummary) (fr : Frame) (o : Placement) → i < d.count → record_at tray at ≡ Ok fr → m ≡ summarised n f fr.form o → o ≡ placement_at body d i
       → SummaryAt body tray d first f i at n → SummaryAt body tray d first f (i + 1) fr.end m
   seen_more i at n m fr o h e k g s = record {
     seen = s.seen ++ (fr ∷ []);
@@ -164,42 +167,42 @@ module _ (body tray list : List ℕ) (d : OverlayDescriptor) (first : ℕ) (f : 
 
   -- the notes of records that were taken, as the definition has them
   noted-plan : (frs : List Frame) → first_format frs ≡ f
-      → refuse_item 1 (other_depth_of (first_format frs)) 14 frs (done (plan_of body tray list first (taken frs))) ≡ summary_plan d first f frs (summary_of body d f (empty_summary d) 0 frs)
+      → refuse_item Record (other_depth_of (first_format frs)) 14 frs (Ok (plan_of body tray list first (taken frs))) ≡ summary_plan d first f frs (summary_of body d f (empty_summary d) 0 frs)
   unfolding plan_of composed_form overlay_form promotes summary_plan summary_form empty_summary
   noted-plan frs e = rw (e, noted-is body tray list d f (empty_summary d) 0 frs)
 
-  frames-plan : (o : Out (List Frame)) → ((frs : List Frame) → o ≡ done frs → first_format frs ≡ f)
-      → and_then (and_then o (λ frs. refuse_item 1 (other_depth_of (first_format frs)) 14 frs (done (taken frs)))) (λ q. done (plan_of body tray list first q))
+  frames-plan : (o : Out (List Frame)) → ((frs : List Frame) → o ≡ Ok frs → first_format frs ≡ f)
+      → and_then (and_then o (λ frs. refuse_item Record (other_depth_of (first_format frs)) 14 frs (Ok (taken frs)))) (λ q. Ok (plan_of body tray list first q))
       ≡ and_then o (λ frs. summary_plan d first f frs (summary_of body d f (empty_summary d) 0 frs))
   unfolding and_then
-  frames-plan (refused r) h = refl
-  frames-plan (done frs) h = item-then 1 _ 14 frs (done (taken frs)) (λ q. done (plan_of body tray list first q)) ∙ noted-plan frs (h frs refl)
+  frames-plan (Err r) h = refl
+  frames-plan (Ok frs) h = item-then Record _ 14 frs (Ok (taken frs)) (λ q. Ok (plan_of body tray list first q)) ∙ noted-plan frs (h frs refl)
 
   -- ---- what reading comes to, refusal by refusal
 
   module _ (n : ℕ) where
-    module _ (parsed : overlay_of body n ≡ done d) where
-      pub plan-none : n ≡ 0 → plan_at body tray list n first ≡ refused (reason 15)
+    module _ (parsed : overlay_of body n ≡ Ok d) where
+      pub plan-none : n ≡ 0 → plan_at body tray list n first ≡ Err (reason 15)
       unfolding plan_at inputs_at
       plan-none z = then-refused _ (then-done _ parsed ∙ refuse-yes _ _ (eq-eqb n 0 z))
 
-      pub plan-list : (n ≡ 0 → ⊥) → (length list ≡ n → ⊥) → plan_at body tray list n first ≡ refused (reason 11)
+      pub plan-list : (n ≡ 0 → ⊥) → (length list ≡ n → ⊥) → plan_at body tray list n first ≡ Err (reason 11)
       unfolding plan_at inputs_at
       plan-list z l = then-refused _ (then-done _ parsed ∙ refuse-no _ _ (ne_eqb n 0 z) ∙ refuse-yes _ _ (ap not (ne_eqb (length list) n l)))
 
       module _ (z : n ≡ 0 → ⊥) (l : length list ≡ n) where
         rest : Out Plan
-        rest = and_then (and_then (frames_at n tray first) (λ frs. refuse_item 1 (other_depth_of (first_format frs)) 14 frs (done (taken frs)))) (λ q. done (plan_of body tray list first q))
+        rest = and_then (and_then (frames_at n tray first) (λ frs. refuse_item Record (other_depth_of (first_format frs)) 14 frs (Ok (taken frs)))) (λ q. Ok (plan_of body tray list first q))
 
         plan-frames : plan_at body tray list n first ≡ rest
         unfolding plan_at inputs_at rest
-        plan-frames = ap (λ (o : Out Inputs). and_then o (λ q. done (plan_of body tray list first q))) (then-done _ parsed ∙ refuse-no _ _ (ne_eqb n 0 z) ∙ refuse-no _ _ (ap not (eq-eqb (length list) n l)))
+        plan-frames = ap (λ (o : Out Inputs). and_then o (λ q. Ok (plan_of body tray list first q))) (then-done _ parsed ∙ refuse-no _ _ (ne_eqb n 0 z) ∙ refuse-no _ _ (ap not (eq-eqb (length list) n l)))
 
-        pub plan-record : (r : Refusal) → record_at tray first ≡ refused r → plan_at body tray list n first ≡ refused (own_reason r.number 1 0)
+        pub plan-record : (r : Refusal) → record_at tray first ≡ Err r → plan_at body tray list n first ≡ Err (own_refusal r.reason (Record 0))
         unfolding rest
         plan-record r e = plan-frames ∙ then-refused _ (then-refused _ (frames-refused n tray first r (omega arith) e))
 
-        pub plan-noted : (fr : Frame) → record_at tray first ≡ done fr → fr.form.format ≡ f → plan_at body tray list n first ≡ frames_plan body tray d first f
+        pub plan-noted : (fr : Frame) → record_at tray first ≡ Ok fr → fr.form.format ≡ f → plan_at body tray list n first ≡ frames_plan body tray d first f
         unfolding rest frames_plan
         plan-noted fr e g =
             plan-frames ∙ frames-plan (frames_at n tray first) (λ frs k. ap (λ (m : Form). m.format) (frames-first n tray first fr frs (omega arith) e k) ∙ g)

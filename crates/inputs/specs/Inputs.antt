@@ -1,7 +1,9 @@
 -- An overlay's body and records: their refusals, and the composed form ("Refusals in order", Overlay).
+use Rattle.laws.specs.declared.Item.TheVariants.{Record}
+use Rattle.std.specs.Prelude.{Ok}
 use Rattle.std.specs.Prelude.{Bool, ◌&&◌, not, List, [], ◌∷◌, ℕ, eqb, ltb, length}
 use Rattle.laws.specs.Any.{any_below}
-use Rattle.laws.specs.Out.{Out, and_then, done, refuse, refuse_item}
+use Rattle.laws.specs.Out.{Out, and_then, refuse, refuse_item}
 use Rattle.image.specs.Format.{has_alpha}
 use Rattle.records.specs.Tray.{frames_at, no_form}
 use Rattle.image.specs.declared.format.Form.{Form}
@@ -38,7 +40,7 @@ inputs_at body tray premultiplied n at =
     refuse (eqb n 0) 15
     (refuse (not (eqb (length premultiplied) n)) 11
     (and_then (frames_at n tray at) (λ frs.
-    refuse_item 1 (other_depth_of (first_format frs)) 14 frs (done (record { descriptor = d; frames = frs }))))))
+    refuse_item Record (other_depth_of (first_format frs)) 14 frs (Ok (record { descriptor = d; frames = frs }))))))
 
 unfoldable pub alpha_above : List ℕ → ℕ → Frame → Bool
 alpha_above tray top fr =

@@ -1,22 +1,16 @@
 // The search for an alpha sample above top.
 ghost use Rattle.std.specs.Prelude.{◌≡◌};
 ghost use Rattle.records.specs.Record.{record_at};
-ghost use Rattle.laws.specs.Out.{done, refuse_item};
+ghost use Rattle.laws.specs.Out.{refuse_item};
+ghost use Rattle.laws.specs.declared.Item.TheVariants.{Record};
 ghost use Rattle.inputs.specs.Inputs.{alpha_above};
 ghost use Rattle.records.specs.inner.Frames.{frames_from};
 ghost use Rattle.inputs.specs.inner.Sought.{found_at};
-ghost use Rattle.inputs.specs.inner.Summary.{no_alpha, alpha_out, alpha_plane_at, searched_rows};
+ghost use Rattle.inputs.specs.inner.Summary.{no_alpha, alpha_plane_at, searched_rows};
 
 use image::Part;
-use laws::Refusal;
-use records::{FrameRead, Plane};
-
-// What holding alpha samples to top answers.
-#[derive(Clone, Copy)]
-pub enum AlphaRead {
-    Within,
-    Refused(Refusal),
-}
+use laws::{Item, Refusal};
+use records::Plane;
 
 // A record's alpha plane and the place past the record. Where there is no alpha, or no record, it has no rows.
 #[derive(Clone, Copy)]
@@ -28,6 +22,7 @@ pub(crate) struct AlphaPlane {
     end: usize,
 }
 
+#[tactic(auto, unfolding(crate::specs::inner::Summary::no_alpha))]
 fn no_alpha(end: usize) -> AlphaPlane
     ensures { result ≡ no_alpha end }
 {
@@ -48,17 +43,15 @@ fn alpha_at(tray: &[u8], at: usize) -> AlphaPlane
     ensures { result ≡ alpha_plane_at at (record_at tray.now at) }
 {
     match records::read_record(tray, at) {
-        FrameRead::Refused(_) => no_alpha(at),
-        FrameRead::Read(fr) => {
+        Err(_) => no_alpha(at),
+        Ok(fr) => {
             let form = fr.form;
-            let f = form.format;
-            if !f.has(Part::Alpha) {
+            if !form.format.has(Part::Alpha) {
                 return no_alpha(fr.end);
             }
-            let plane = fr.alpha;
             AlphaPlane {
-                plane,
-                bytes: f.bytes_per_sample(),
+                plane: fr.alpha,
+                bytes: form.format.bytes_per_sample(),
                 columns: form.width as usize,
                 rows: form.height as usize,
                 end: fr.end,
@@ -68,19 +61,12 @@ fn alpha_at(tray: &[u8], at: usize) -> AlphaPlane
 }
 
 // How many of a plane's rows are searched: none where samples of so many bytes cannot exceed top.
+#[tactic(auto, unfolding(crate::specs::inner::Summary::searched_rows, laws::specs::Pick::pick))]
 fn searched_rows(rows: usize, bytes: usize, top: u16) -> usize
     ensures { result ≡ searched_rows rows bytes top }
 {
-    if bytes == 1 {
-        if top >= 255 {
-            return 0;
-        }
-        return rows;
-    }
-    if top == 65535 {
-        return 0;
-    }
-    rows
+    let full = if bytes == 1 { top >= 255 } else { top == 65535 };
+    if full { 0 } else { rows }
 }
 
 // The first of so many records in turn that has an alpha sample above top, drawn or cut off; the count where none has. All loops are
@@ -93,12 +79,10 @@ fn alpha_above(tray: &[u8], first: usize, count: u32, top: u16) -> u32
     'search: for i in 0..count {
         let q = alpha_at(tray, at);
         let bytes = q.bytes;
-        let p = q.plane;
-        let stride = p.stride;
-        let plane = planes::plane_data(tray, p);
-        let rows = searched_rows(q.rows, bytes, top);
+        let stride = q.plane.stride;
+        let plane = planes::plane_data(tray, q.plane);
         let columns = q.columns;
-        for y in 0..rows {
+        for y in 0..searched_rows(q.rows, bytes, top) {
             for x in 0..columns {
                 if planes::sample(plane, bytes, stride, x, y) > top {
                     found = i;
@@ -112,12 +96,12 @@ fn alpha_above(tray: &[u8], first: usize, count: u32, top: u16) -> u32
 }
 
 // Holds every alpha sample of so many records in turn to top. Refusal: 16, of the first record that has one above.
-pub fn check_alpha(tray: &[u8], first: usize, count: u32, top: u16) -> AlphaRead
-    ensures { alpha_out result ≡ refuse_item 1 (alpha_above tray.now top) 16 (frames_from count tray.now first) (done tt) }
+pub fn check_alpha(tray: &[u8], first: usize, count: u32, top: u16) -> Result<(), Refusal>
+    ensures { result ≡ refuse_item Record (alpha_above tray.now top) 16 (frames_from count tray.now first) (Ok tt) }
 {
     let above = alpha_above(tray, first, count, top);
     if above < count {
-        return AlphaRead::Refused(Refusal::OPACITY.about(Refusal::RECORD, above as u64));
+        return Err(Refusal::OPACITY.about(Item::Record(above as u64)));
     }
-    AlphaRead::Within
+    Ok(())
 }

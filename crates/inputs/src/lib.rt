@@ -5,6 +5,6 @@ mod alpha_check;
 mod read;
 mod sought;
 
-pub use crate::alpha_check::{AlphaRead, check_alpha};
-pub use crate::read::{Plan, PlanRead, read_inputs};
+pub use crate::alpha_check::check_alpha;
+pub use crate::read::{Plan, read_inputs};
 pub use crate::sought::{Sought, first_sought};

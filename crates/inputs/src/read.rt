@@ -1,18 +1,16 @@
 // The body and the records of an overlay whose tray count was read, with every refusal from the body's to 14. A record's own refusal has
 // its index, and 14 that of the first record whose depth differs.
 ghost use Rattle.std.specs.Prelude.{◌≡◌, ◌≤◌};
-ghost use Rattle.laws.specs.Pick.{pick};
 ghost use Rattle.derived.specs.inner.Sound.{OverlaySound};
 ghost use Rattle.inputs.specs.Layers.{odd_offset};
-ghost use Rattle.inputs.specs.inner.Summary.{summarised, summary_form, plan_out, frames_plan};
+ghost use Rattle.inputs.specs.inner.Summary.{summarised, summary_form, frames_plan};
 ghost use Rattle.inputs.specs.inner.Plan.{plan_at};
 
 use crate::sought::{Sought, first_sought};
-use derived::{OverlayDescriptor, OverlayRead, Placement};
+use derived::{OverlayDescriptor, Placement};
 use image::{Form, Part, PixelFormat};
-use laws::Refusal;
+use laws::{Item, Refusal};
 use numbers::Offset;
-use records::FrameRead;
 
 // An overlay that was read: its descriptor, where its first record stands, the composed form, and whether an input has alpha.
 #[derive(Clone, Copy)]
@@ -21,12 +19,6 @@ pub struct Plan {
     pub first: usize,
     pub form: Form,
     pub alpha: bool,
-}
-
-#[derive(Clone, Copy)]
-pub enum PlanRead {
-    Read(Plan),
-    Refused(Refusal),
 }
 
 // What the inputs so far come to.
@@ -39,54 +31,51 @@ pub(crate) struct InputSummary {
     odd_down: bool,
 }
 
+#[tactic(auto, unfolding(crate::specs::Layers::odd_offset))]
 fn odd_offset(o: Offset) -> bool
     ensures { result ≡ odd_offset o }
 {
-    image::either(image::is_odd(o.ahead), image::is_odd(o.behind))
+    image::is_odd(o.ahead) || image::is_odd(o.behind)
 }
 
 // One input more, beside the first one's format.
+#[tactic(auto, unfolding(crate::specs::inner::Summary::summarised, image::specs::Format::has_part))]
 fn summarise(so_far: InputSummary, first: PixelFormat, form: Form, place: Placement) -> InputSummary
     ensures { result ≡ summarised so_far first form place }
 {
     let f = form.format;
-    let across = image::either(odd_offset(place.horizontal), image::is_odd(form.width));
-    let down = image::either(odd_offset(place.vertical), image::is_odd(form.height));
+    let across = odd_offset(place.horizontal) || image::is_odd(form.width);
+    let down = odd_offset(place.vertical) || image::is_odd(form.height);
     InputSummary {
-        other_depth: image::either(so_far.other_depth, f.depth != first.depth),
-        other_chroma: image::either(so_far.other_chroma, f.chroma != first.chroma),
-        alpha: image::either(so_far.alpha, f.has(Part::Alpha)),
-        odd_across: image::either(so_far.odd_across, across),
-        odd_down: image::either(so_far.odd_down, down),
+        other_depth: so_far.other_depth || f.depth != first.depth,
+        other_chroma: so_far.other_chroma || f.chroma != first.chroma,
+        alpha: so_far.alpha || f.has(Part::Alpha),
+        odd_across: so_far.odd_across || across,
+        odd_down: so_far.odd_down || down,
     }
-}
-
-fn choose(test: bool, a: u32, b: u32) -> u32
-    ensures { result ≡ pick test a b }
-{
-    if test {
-        return a;
-    }
-    b
 }
 
 // The composed form.
+#[tactic(auto, unfolding(crate::specs::inner::Summary::summary_form, image::specs::Format::is_mono, laws::specs::Pick::pick))]
 fn compose_form(d: OverlayDescriptor, first: PixelFormat, n: InputSummary) -> Form
     requires { first.depth ≤ 16 }
     ensures { result ≡ summary_form d first n }
 {
-    let see_through = image::both(first.chroma != PixelFormat::MONO, n.alpha);
+    let see_through = first.chroma != PixelFormat::MONO && n.alpha;
     let uneven = first.needs_444(n.odd_across, n.odd_down);
-    let promoted = image::either(image::either(see_through, n.other_chroma), uneven);
-    let fill = d.canvas_fill;
-    let translucent = fill::fill_alpha(fill.alpha, first.depth) < first.top();
+    let promoted = see_through || n.other_chroma || uneven;
+    let translucent = fill::fill_alpha(d.canvas_fill.alpha, first.depth) < first.top();
     Form {
         width: d.output_width,
         height: d.output_height,
         format: PixelFormat {
-            chroma: choose(promoted, PixelFormat::YUV444, first.chroma),
+            chroma: if promoted {
+                PixelFormat::YUV444
+            } else {
+                first.chroma
+            },
             depth: first.depth,
-            alpha: choose(translucent, 1, 0),
+            alpha: if translucent { 1 } else { 0 },
         },
     }
 }
@@ -98,13 +87,12 @@ fn read_frames(
     d: OverlayDescriptor,
     first: usize,
     f: PixelFormat,
-) -> PlanRead
+) -> Result<Plan, Refusal>
     requires { OverlaySound body.now d × (f.depth ≤ 16) }
-    ensures { plan_out result ≡ frames_plan body.now tray.now d first f }
+    ensures { result ≡ frames_plan body.now tray.now d first f }
 {
     let count = d.count;
     let mut at = first;
-    let mut i: u32 = 0;
     let mut so_far = InputSummary {
         other_depth: false,
         other_chroma: false,
@@ -112,26 +100,23 @@ fn read_frames(
         odd_across: image::is_odd(d.output_width),
         odd_down: image::is_odd(d.output_height),
     };
-    while i < count {
+    for i in 0..count {
         match records::read_record(tray, at) {
-            FrameRead::Refused(e) => {
-                return PlanRead::Refused(e.about(Refusal::RECORD, i as u64));
-            }
-            FrameRead::Read(fr) => {
+            Err(e) => return Err(e.about(Item::Record(i as u64))),
+            Ok(fr) => {
                 so_far = summarise(so_far, f, fr.form, d.offset(body, i));
                 at = fr.end;
             }
         }
-        i += 1;
     }
     if at < tray.len() {
-        return PlanRead::Refused(Refusal::MALFORMED);
+        return Err(Refusal::MALFORMED);
     }
     if so_far.other_depth {
         let other = first_sought(tray, first, count, Sought::OtherDepth(f.depth));
-        return PlanRead::Refused(Refusal::LAYOUT.about(Refusal::RECORD, other as u64));
+        return Err(Refusal::LAYOUT.about(Item::Record(other as u64)));
     }
-    PlanRead::Read(Plan {
+    Ok(Plan {
         descriptor: d,
         first,
         form: compose_form(d, f, so_far),
@@ -146,25 +131,18 @@ pub fn read_inputs(
     premultiplied: &[u8],
     count: u32,
     first: usize,
-) -> PlanRead
-    ensures { plan_out result ≡ plan_at body.now tray.now premultiplied.now count first }
+) -> Result<Plan, Refusal>
+    ensures { result ≡ plan_at body.now tray.now premultiplied.now count first }
 {
-    match OverlayDescriptor::parse(body, count) {
-        OverlayRead::Refused(e) => PlanRead::Refused(e),
-        OverlayRead::Read(d) => {
-            if count == 0 {
-                return PlanRead::Refused(Refusal::MISSING);
-            }
-            if premultiplied.len() != count as usize {
-                return PlanRead::Refused(Refusal::COUNT);
-            }
-            match records::read_record(tray, first) {
-                FrameRead::Refused(e) => PlanRead::Refused(e.about(Refusal::RECORD, 0)),
-                FrameRead::Read(fr) => {
-                    let form = fr.form;
-                    read_frames(body, tray, d, first, form.format)
-                }
-            }
-        }
+    let d = OverlayDescriptor::parse(body, count)?;
+    if count == 0 {
+        return Err(Refusal::MISSING);
+    }
+    if premultiplied.len() != count as usize {
+        return Err(Refusal::COUNT);
+    }
+    match records::read_record(tray, first) {
+        Err(e) => Err(e.about(Item::Record(0))),
+        Ok(fr) => read_frames(body, tray, d, first, fr.form.format),
     }
 }

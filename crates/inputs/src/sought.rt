@@ -4,7 +4,6 @@ ghost use Rattle.records.specs.inner.Frames.{frames_from};
 ghost use Rattle.inputs.specs.inner.Sought.{found_at, is_sought};
 
 use image::{Form, Part};
-use records::FrameRead;
 
 // What a record is looked for by: another depth than that, or alpha.
 #[derive(Clone, Copy)]
@@ -13,6 +12,7 @@ pub enum Sought {
     Alpha,
 }
 
+#[tactic(auto, unfolding(crate::specs::inner::Sought::is_sought, image::specs::Format::has_part))]
 fn is_sought(sought: Sought, form: Form) -> bool
     ensures { result ≡ is_sought sought form }
 {
@@ -28,20 +28,16 @@ pub fn first_sought(tray: &[u8], first: usize, count: u32, sought: Sought) -> u3
     ensures { result ≡ found_at 0 (λ fr. is_sought sought fr.form) (frames_from count tray.now first) count }
 {
     let mut at = first;
-    let mut i: u32 = 0;
-    while i < count {
+    for i in 0..count {
         match records::read_record(tray, at) {
-            FrameRead::Refused(_) => {
-                return count;
-            }
-            FrameRead::Read(fr) => {
+            Err(_) => return count,
+            Ok(fr) => {
                 if is_sought(sought, fr.form) {
                     return i;
                 }
                 at = fr.end;
             }
         }
-        i += 1;
     }
     count
 }

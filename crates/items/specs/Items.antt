@@ -1,7 +1,9 @@
 -- Which record of a tray or entry of a chain a refusal names (document 02, A2).
-use Rattle.std.specs.Prelude.{Bool, false, true, List, ◌++◌, ◌∷◌, ◌≡◌, ◌<◌, suc, zero, ℕ, length}
+use Rattle.std.specs.Prelude.{Ok, Err, Some, Bool, false, true, List, ◌++◌, ◌∷◌, ◌≡◌, ◌<◌, suc, zero, ℕ, length}
 use Rattle.laws.specs.Any.{any}
-use Rattle.laws.specs.Out.{Out, and_then, done, reason, refused}
+use Rattle.laws.specs.Out.{Out, and_then, reason}
+use Rattle.laws.specs.Reason.{numbered}
+use Rattle.laws.specs.declared.Item.{Item}
 use Rattle.laws.specs.declared.Refusal.{Refusal}
 use Rattle.records.specs.Record.{record_at}
 use Rattle.props.specs.Entry.{entry_at}
@@ -10,30 +12,31 @@ use Rattle.props.specs.Entry.{entry_at}
 
 -- the place past the record, and past the entry, that stands at a place
 unfoldable pub past_record : List ℕ → ℕ → Out ℕ
-past_record s at = and_then (record_at s at) (λ fr. done fr.end)
+past_record s at = and_then (record_at s at) (λ fr. Ok fr.end)
 
 unfoldable pub past_entry : List ℕ → ℕ → Out ℕ
-past_entry s at = and_then (entry_at s at) (λ x. done x.next)
+past_entry s at = and_then (entry_at s at) (λ x. Ok x.1)
 
 -- where item i stands, behind i items that are taken
 unfoldable pub stands_at : (ℕ → Out ℕ) → ℕ → ℕ → Out ℕ
-stands_at past zero at = done at
+stands_at past zero at = Ok at
 stands_at past (suc i) at = and_then (past at) (stands_at past i)
 
 -- the item that the refusal names, of n from a place on, is refused by that number, and those before it are taken
-pub record OwnItem (past : ℕ → Out ℕ) (sort n at : ℕ) (r : Refusal) : Type 0 where
-  pub sorted : r.sort ≡ sort
-  pub there : r.index < n
+pub record OwnItem (past : ℕ → Out ℕ) (sort : ℕ → Item) (n at : ℕ) (r : Refusal) : Type 0 where
+  pub index : ℕ
+  pub names : r.item ≡ Some (sort index)
+  pub there : index < n
   pub place : ℕ
-  pub stands : stands_at past r.index at ≡ done place
+  pub stands : stands_at past index at ≡ Ok place
   pub why : Refusal
-  pub refuses : past place ≡ refused why
-  pub number : r.number ≡ why.number
+  pub refuses : past place ≡ Err why
+  pub number : r.reason ≡ why.reason
 
 -- all n are taken, and bytes are left over: the refusal names none
 pub record LeftOver (past : ℕ → Out ℕ) (n at end : ℕ) (r : Refusal) : Type 0 where
   pub place : ℕ
-  pub stands : stands_at past n at ≡ done place
+  pub stands : stands_at past n at ≡ Ok place
   pub over : place < end
   pub none : r ≡ reason 5
 
@@ -41,27 +44,25 @@ pub record LeftOver (past : ℕ → Out ℕ) (n at end : ℕ) (r : Refusal) : Ty
 
 -- the item that the refusal names is refused by that number, after those before it were gone through: tiles that are held to the first,
 -- entries that are applied or skipped
-pub record OwnStep {A B : Type 0} (run : List A → B → Out B) (step : A → B → Out B) (sort : ℕ) (items : List A) (b : B) (r : Refusal) : Type 0 where
-  pub sorted : r.sort ≡ sort
+pub record OwnStep {A B : Type 0} (run : List A → B → Out B) (step : A → B → Out B) (sort : ℕ → Item) (items : List A) (b : B) (r : Refusal) : Type 0 where
   pub before : List A
   pub item : A
   pub behind : List A
   pub all : items ≡ before ++ (item ∷ behind)
-  pub index : r.index ≡ length before
+  pub names : r.item ≡ Some (sort (length before))
   pub reached : B
-  pub gone : run before b ≡ done reached
+  pub gone : run before b ≡ Ok reached
   pub why : Refusal
-  pub refuses : step item reached ≡ refused why
-  pub number : r.number ≡ why.number
+  pub refuses : step item reached ≡ Err why
+  pub number : r.reason ≡ why.reason
 
 -- the item that the refusal n names is the first that passes a test
-pub record FirstItem {A : Type 0} (test : A → Bool) (sort n : ℕ) (items : List A) (r : Refusal) : Type 0 where
-  pub sorted : r.sort ≡ sort
-  pub number : r.number ≡ n
+pub record FirstItem {A : Type 0} (test : A → Bool) (sort : ℕ → Item) (n : ℕ) (items : List A) (r : Refusal) : Type 0 where
+  pub number : r.reason ≡ numbered n
   pub before : List A
   pub item : A
   pub behind : List A
   pub all : items ≡ before ++ (item ∷ behind)
-  pub index : r.index ≡ length before
+  pub names : r.item ≡ Some (sort (length before))
   pub others : any test before ≡ false
   pub passes : test item ≡ true

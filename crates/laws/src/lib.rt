@@ -1,154 +1,178 @@
-// What every call shares: why it refuses, and what it answers.
+// What every call shares: why it refuses.
 #![tactic(auto)]
 
 ghost use Rattle.std.specs.Prelude.{◌≡◌};
-ghost use Rattle.laws.specs.Out.{own_reason};
+ghost use Rattle.laws.specs.Out.{own_refusal};
+ghost use Rattle.laws.specs.Reason.{number_of};
 
-// Why a call refuses: its number, document 01's or, from 19 on, document 02's; and where it is an item's own refusal (document 02, A2), the
-// list that the item stands in and its index there, from 0. Sort 0: of no item, and then the index is 0.
-#[derive(Clone, Copy)]
-pub struct Refusal {
-    pub number: u8,
-    pub sort: u8,
-    pub index: u64,
+// Why a call refuses: document 01's numbers and, from 19 on, document 02's.
+#[derive(Clone, Copy, Debug, PartialEq, Eq)]
+pub enum Reason {
+    // A descriptor body is empty or cut short.
+    Short = 1,
+    // A descriptor's version is not 0.
+    Version = 2,
+    // A side is 0.
+    Empty = 3,
+    // Above a limit.
+    Limit = 4,
+    // Malformed bytes.
+    Malformed = 5,
+    // A depth outside 8 to 16.
+    Depth = 6,
+    // A zero term of a fraction.
+    Zero = 7,
+    // A size or an edge that is no whole number.
+    Fraction = 8,
+    // A rectangle outside its picture.
+    Outside = 9,
+    // A scaled side above 2^32 - 1.
+    Scale = 10,
+    // A tray's count or a list's length that differs, or an index outside.
+    Count = 11,
+    // Tiles that do not cover the canvas.
+    Cover = 12,
+    // A tile of another size.
+    Tile = 13,
+    // Another chroma or depth.
+    Layout = 14,
+    // No inputs, nothing placed, or a cell missing.
+    Missing = 15,
+    // An alpha sample above top.
+    Opacity = 16,
+    // A lent buffer that is too short.
+    Room = 17,
+    // No point answer.
+    Point = 18,
+    // Rows or columns of tiles outside 1 to 256 (document 02, A4).
+    Tiling = 19,
 }
 
-impl Refusal {
-    // The sorts of items: a record of the tray, an entry of the chain.
-    pub const RECORD: u8 = 1;
-
-    pub const ENTRY: u8 = 2;
-
-    // A descriptor body is empty or cut short.
-    pub const SHORT: Refusal = Refusal {
-        number: 1,
-        sort: 0,
-        index: 0,
-    };
-    // A descriptor's version is not 0.
-    pub const VERSION: Refusal = Refusal {
-        number: 2,
-        sort: 0,
-        index: 0,
-    };
-    // A side is 0.
-    pub const EMPTY: Refusal = Refusal {
-        number: 3,
-        sort: 0,
-        index: 0,
-    };
-    // Above a limit.
-    pub const LIMIT: Refusal = Refusal {
-        number: 4,
-        sort: 0,
-        index: 0,
-    };
-    // Malformed bytes.
-    pub const MALFORMED: Refusal = Refusal {
-        number: 5,
-        sort: 0,
-        index: 0,
-    };
-    // A depth outside 8 to 16.
-    pub const DEPTH: Refusal = Refusal {
-        number: 6,
-        sort: 0,
-        index: 0,
-    };
-    // A zero term of a fraction.
-    pub const ZERO: Refusal = Refusal {
-        number: 7,
-        sort: 0,
-        index: 0,
-    };
-    // A size or an edge that is no whole number.
-    pub const FRACTION: Refusal = Refusal {
-        number: 8,
-        sort: 0,
-        index: 0,
-    };
-    // A rectangle outside its picture.
-    pub const OUTSIDE: Refusal = Refusal {
-        number: 9,
-        sort: 0,
-        index: 0,
-    };
-    // A scaled side above 2^32 - 1.
-    pub const SCALE: Refusal = Refusal {
-        number: 10,
-        sort: 0,
-        index: 0,
-    };
-    // A tray's count or a list's length that differs, or an index outside.
-    pub const COUNT: Refusal = Refusal {
-        number: 11,
-        sort: 0,
-        index: 0,
-    };
-    // Tiles that do not cover the canvas.
-    pub const COVER: Refusal = Refusal {
-        number: 12,
-        sort: 0,
-        index: 0,
-    };
-    // A tile of another size.
-    pub const TILE: Refusal = Refusal {
-        number: 13,
-        sort: 0,
-        index: 0,
-    };
-    // Another chroma or depth.
-    pub const LAYOUT: Refusal = Refusal {
-        number: 14,
-        sort: 0,
-        index: 0,
-    };
-    // No inputs, nothing placed, or a cell missing.
-    pub const MISSING: Refusal = Refusal {
-        number: 15,
-        sort: 0,
-        index: 0,
-    };
-    // An alpha sample above top.
-    pub const OPACITY: Refusal = Refusal {
-        number: 16,
-        sort: 0,
-        index: 0,
-    };
-    // A lent buffer that is too short.
-    pub const ROOM: Refusal = Refusal {
-        number: 17,
-        sort: 0,
-        index: 0,
-    };
-    // No point answer.
-    pub const POINT: Refusal = Refusal {
-        number: 18,
-        sort: 0,
-        index: 0,
-    };
-    // Rows or columns of tiles outside 1 to 256 (document 02, A4).
-    pub const TILING: Refusal = Refusal {
-        number: 19,
-        sort: 0,
-        index: 0,
-    };
-
-    // The same as the own refusal of an item.
-    pub fn about(self, sort: u8, index: u64) -> Refusal
-        ensures { result ≡ own_reason self.number sort index }
+impl Reason {
+    pub fn number(self) -> u8
+        ensures { result ≡ number_of self }
     {
-        Refusal {
-            number: self.number,
-            sort,
-            index,
-        }
+        self as u8
     }
 }
 
-// What a call that writes comes to: how many bytes it wrote, or why it refuses.
-#[derive(Clone, Copy)]
-pub enum Answer {
-    Wrote(usize),
-    Refused(Refusal),
+// The item that a refusal is about (document 02, A2): a record of the tray or an entry of the chain, by its index from 0.
+#[derive(Clone, Copy, Debug, PartialEq, Eq)]
+pub enum Item {
+    Record(u64),
+    Entry(u64),
+}
+
+// Why a call refuses and, where it is an item's own refusal, which item's.
+#[derive(Clone, Copy, Debug, PartialEq, Eq)]
+pub struct Refusal {
+    pub reason: Reason,
+    pub item: Option<Item>,
+}
+
+impl Refusal {
+    pub const SHORT: Refusal = Refusal {
+        reason: Reason::Short,
+        item: None,
+    };
+
+    pub const VERSION: Refusal = Refusal {
+        reason: Reason::Version,
+        item: None,
+    };
+
+    pub const EMPTY: Refusal = Refusal {
+        reason: Reason::Empty,
+        item: None,
+    };
+
+    pub const LIMIT: Refusal = Refusal {
+        reason: Reason::Limit,
+        item: None,
+    };
+
+    pub const MALFORMED: Refusal = Refusal {
+        reason: Reason::Malformed,
+        item: None,
+    };
+
+    pub const DEPTH: Refusal = Refusal {
+        reason: Reason::Depth,
+        item: None,
+    };
+
+    pub const ZERO: Refusal = Refusal {
+        reason: Reason::Zero,
+        item: None,
+    };
+
+    pub const FRACTION: Refusal = Refusal {
+        reason: Reason::Fraction,
+        item: None,
+    };
+
+    pub const OUTSIDE: Refusal = Refusal {
+        reason: Reason::Outside,
+        item: None,
+    };
+
+    pub const SCALE: Refusal = Refusal {
+        reason: Reason::Scale,
+        item: None,
+    };
+
+    pub const COUNT: Refusal = Refusal {
+        reason: Reason::Count,
+        item: None,
+    };
+
+    pub const COVER: Refusal = Refusal {
+        reason: Reason::Cover,
+        item: None,
+    };
+
+    pub const TILE: Refusal = Refusal {
+        reason: Reason::Tile,
+        item: None,
+    };
+
+    pub const LAYOUT: Refusal = Refusal {
+        reason: Reason::Layout,
+        item: None,
+    };
+
+    pub const MISSING: Refusal = Refusal {
+        reason: Reason::Missing,
+        item: None,
+    };
+
+    pub const OPACITY: Refusal = Refusal {
+        reason: Reason::Opacity,
+        item: None,
+    };
+
+    pub const ROOM: Refusal = Refusal {
+        reason: Reason::Room,
+        item: None,
+    };
+
+    pub const POINT: Refusal = Refusal {
+        reason: Reason::Point,
+        item: None,
+    };
+
+    pub const TILING: Refusal = Refusal {
+        reason: Reason::Tiling,
+        item: None,
+    };
+
+    // The same as the own refusal of an item.
+    pub fn about(self, item: Item) -> Refusal
+        ensures { result ≡ own_refusal self.reason item }
+    {
+        Refusal {
+            reason: self.reason,
+            item: Some(item),
+        }
+    }
 }

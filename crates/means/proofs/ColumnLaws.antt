@@ -20,7 +20,7 @@ use Rattle.sampling.specs.Rounded.{rounded}
 use Rattle.sampling.specs.declared.area.Foot.{Foot}
 use Rattle.sampling.specs.declared.raster.Axis.{Axis}
 use Rattle.sampling.specs.declared.raster.Raster.{Raster}
-use Rattle.sampling.specs.inner.Redraw.{AreaAxis, RuleRowFits}
+use Rattle.sampling.specs.inner.Redraw.{AreaAxis, RasterFits}
 use Rattle.sampling.specs.inner.Sums.{AreaFits, FootIn}
 use Rattle.means.specs.declared.sums.Held.{Held}
 use Rattle.means.specs.declared.sums.Pace.{Pace}
@@ -281,32 +281,28 @@ weighing-at f v most j k acc e w = rw e at w
 
 -- ---- a row of means
 
-pub means-row : (d : List ℕ) (r : Raster) (down : Foot) → MeansFits d r down → AreaAxis r.across × FootIn down r.down.from × (r.across.from * r.down.from ≤ 2 ^ 30)
-unfolding RuleRowFits
-means-row d r down k = k.row
-
-pub means-area : (d : List ℕ) (r : Raster) (f down : Foot) → MeansFits d r down → FootIn f r.across.from → AreaFits d r.bytes r.stride f down
-means-area d r f down k w = let m = means-row d r down k in record {
+pub means-area : (d : List ℕ) (r : Raster) (f down : Foot) → RasterFits d r → MeansFits r down → FootIn f r.across.from → AreaFits d r.bytes r.stride f down
+means-area d r f down o k w = record {
   columns = r.across.from;
   rows = r.down.from;
-  positive = k.raster.positive;
-  bounded = k.raster.bounded;
+  positive = o.positive;
+  bounded = o.bounded;
   wide = w;
-  tall = m.1;
-  size = m.2;
-  inside = k.raster.inside;
+  tall = k.tall;
+  size = k.size;
+  inside = o.inside;
 }
 
 pub weighing-zero : (f : Foot) (v : ℕ → ℕ) (most acc : ℕ) → f.start < f.end → acc ≡ 0 → Weighing f v most (first_of f) acc
 weighing-zero f v most acc some e = rw e (weighing-start f v most some)
 
-module _ (d : List ℕ) (r : Raster) (f down : Foot) (k : MeansFits d r down) (w : FootIn f r.across.from) (bytes : (i : ℕ) → get_or d i 0 < 256) where
+module _ (d : List ℕ) (r : Raster) (f down : Foot) (k : MeansFits r down) (w : FootIn f r.across.from) (bytes : (i : ℕ) → get_or d i 0 < 256) where
   abbrev whole_of : ℕ
   whole_of = (f.end - f.start) * (down.end - down.start)
 
   column-few : (x : ℕ) → column_of d r down x ≤ 65535 * (down.end - down.start)
   unfolding column_of
-  column-few x = weighed-le down _ 65535 (means-row d r down k).1.positive (λ y a b. sample-few d r.bytes r.stride x y bytes)
+  column-few x = weighed-le down _ 65535 k.tall.positive (λ y a b. sample-few d r.bytes r.stride x y bytes)
 
   pub columns-few : weighed f (column_of d r down) ≤ 65535 * whole_of
   columns-few =
@@ -321,7 +317,7 @@ module _ (d : List ℕ) (r : Raster) (f down : Foot) (k : MeansFits d r down) (w
   pub mean-sample : rounded (weighed f (column_of d r down)) whole_of < 65536
   unfolding rounded
   mean-sample =
-      let s = whole-small f down _ _ w (means-row d r down k).1 (means-row d r down k).2 in
+      let s = whole-small f down _ _ w k.tall k.size in
       mean-small (weighed f (column_of d r down)) (whole_of / 2) whole_of (half-less whole_of s.0) columns-few
     where
       half-less : (n : ℕ) → 1 ≤ n → n / 2 < n
@@ -383,8 +379,3 @@ place-fits a k s step by e f g some fits h =
     let u = stand-le ((pace_of a).first + k * (pace_of a).step) (pace_of a).by in
     let v = stand-le (pace_of a).step (pace_of a).by in
     rw (e, f, g) (stand-rest _ _ b.0, stand-rest _ _ b.0, b.1, omega (arith, p.0, m, u), omega (arith, p.1, v))
-
--- a sample of two bytes
-pub pair_is : (d : List ℕ) (b stride x y : ℕ) → b ≡ 2 → get_or d (y * stride + x * 2) 0 + 256 * get_or d (y * stride + x * 2 + 1) 0 ≡ sample_in d b stride x y
-unfolding sample_in sample_at
-pair_is d b stride x y e = rw e (sym (pick-false _ _ _ refl))

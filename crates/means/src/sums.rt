@@ -9,7 +9,7 @@ ghost use Rattle.sampling.specs.inner.Sums.{FootIn};
 ghost use Rattle.sampling.specs.inner.Redraw.{raster_row};
 ghost use Rattle.means.specs.inner.Columns.{stand_of, pace_of, foot_from, column_of, SumsHeld, MeansFits, AddFits};
 
-use sampling::{Axis, Foot, Raster};
+use sampling::{Axis, Foot, Raster, Source};
 
 // A quotient and its remainder.
 #[derive(Clone, Copy)]
@@ -34,6 +34,7 @@ pub struct Held {
 }
 
 // A number by another, with the remainder.
+#[tactic(auto, unfolding(crate::specs::inner::Columns::stand_of))]
 fn stand_at(n: usize, by: usize) -> Stand
     requires { 1 ≤ by }
     ensures { result ≡ stand_of n by }
@@ -52,32 +53,33 @@ fn advance(s: Stand, step: Stand, by: usize) -> Stand
     let at = s.at + step.at;
     let rest = s.rest + step.rest;
     if by <= rest {
-        return Stand {
+        Stand {
             at: at + 1,
             rest: rest - by,
-        };
+        }
+    } else {
+        Stand { at, rest }
     }
-    Stand { at, rest }
 }
 
 // The places of an axis: where the shares begin, or the centres.
+#[tactic(auto, unfolding(crate::specs::inner::Columns::pace_of, laws::specs::Pick::pick))]
 fn axis_pace(a: Axis) -> Pace
     requires { (a.from ≤ 2 ^ 26) × (a.to ≤ 2 ^ 26) }
     ensures { result ≡ pace_of a }
 {
-    let from = a.from;
-    let to = a.to;
-    if to <= from {
-        return Pace {
+    if a.to <= a.from {
+        Pace {
             first: 0,
-            step: 256 * from,
-            by: to,
-        };
-    }
-    Pace {
-        first: 256 * from,
-        step: 512 * from,
-        by: 2 * to,
+            step: 256 * a.from,
+            by: a.to,
+        }
+    } else {
+        Pace {
+            first: 256 * a.from,
+            step: 512 * a.from,
+            by: 2 * a.to,
+        }
     }
 }
 
@@ -86,12 +88,10 @@ fn foot_from(a: Axis, p: usize, q: usize) -> Foot
     requires { (1 ≤ a.from) × (a.from ≤ 2 ^ 26) }
     ensures { result ≡ foot_from a p q }
 {
-    let from = a.from;
-    let to = a.to;
-    if to <= from {
+    if a.to <= a.from {
         return Foot { start: p, end: q };
     }
-    let start = numbers::min(numbers::saturating_sub(p, 128), 256 * (from - 1));
+    let start = p.saturating_sub(128).min(256 * (a.from - 1));
     Foot {
         start,
         end: start + 256,
@@ -103,68 +103,37 @@ fn clear(sums: &mut [u32], many: usize)
     requires { many ≤ length sums.old }
     ensures { (j : ℕ) → j < many → get_or sums.new j 0 ≡ 0 }
 {
-    let mut j: usize = 0;
-    while j < many {
-        sums[j] = 0;
-        j += 1;
-    }
+    sums[..many].fill(0);
 }
 
 // Adds the samples of row y, from column `first` on, each times a weight.
-fn add_each(sums: &mut [u32], plane: &[u8], r: Raster, first: usize, many: usize, y: usize, w: u16)
-    requires { AddFits sums.old plane.now r first many y w }
+fn add_samples<const BYTES: usize>(
+    sums: &mut [u32],
+    plane: &[u8],
+    r: Raster,
+    first: usize,
+    many: usize,
+    y: usize,
+    w: u16,
+)
+    requires { AddFits sums.old plane.now r first many y w × (r.bytes ≡ BYTES) }
     ensures { (j : ℕ) → j < many → get_or sums.new j 0 ≡ get_or sums.old j 0 + sample_in plane.now r.bytes r.stride (first + j) y * w }
 {
-    let bytes = r.bytes;
-    let stride = r.stride;
-    let mut j: usize = 0;
-    while j < many {
-        let v = planes::sample(plane, bytes, stride, first + j, y) as u32;
-        let sum = sums[j];
-        sums[j] = sum + v * (w as u32);
-        j += 1;
+    for j in 0..many {
+        let v = planes::sample(plane, BYTES, r.stride, first + j, y) as u32;
+        sums[j] += v * (w as u32);
     }
 }
 
-// The same of samples of two bytes.
-fn add_pairs(sums: &mut [u32], plane: &[u8], r: Raster, first: usize, many: usize, y: usize, w: u16)
-    requires { AddFits sums.old plane.now r first many y w × (r.bytes ≡ 2) }
-    ensures { (j : ℕ) → j < many → get_or sums.new j 0 ≡ get_or sums.old j 0 + sample_in plane.now r.bytes r.stride (first + j) y * w }
-{
-    let stride = r.stride;
-    let mut j: usize = 0;
-    while j < many {
-        let i = y * stride + (first + j) * 2;
-        let v = plane[i] as u32 + 256 * (plane[i + 1] as u32);
-        let sum = sums[j];
-        sums[j] = sum + v * (w as u32);
-        j += 1;
-    }
-}
-
-// The same, the loop chosen once a row.
+// The same. Chosen once a row: the loop is compiled for one byte and for two.
 fn add_row(sums: &mut [u32], plane: &[u8], r: Raster, first: usize, many: usize, y: usize, w: u16)
     requires { AddFits sums.old plane.now r first many y w }
     ensures { (j : ℕ) → j < many → get_or sums.new j 0 ≡ get_or sums.old j 0 + sample_in plane.now r.bytes r.stride (first + j) y * w }
 {
-    if r.bytes == 2 {
-        add_pairs(sums, plane, r, first, many, y, w);
-        return;
-    }
-    add_each(sums, plane, r, first, many, y, w);
-}
-
-// Adds the rows under a footprint.
-fn add_rows(sums: &mut [u32], plane: &[u8], r: Raster, first: usize, many: usize, down: Foot)
-    requires { MeansFits plane.now r down × (first + many ≤ r.across.from) × (many ≤ length sums.old) × ((j : ℕ) → j < many → get_or sums.old j 0 ≡ 0) }
-    ensures { (j : ℕ) → j < many → get_or sums.new j 0 ≡ column_of plane.now r down (first + j) }
-{
-    let past = (down.end + 255) / 256;
-    let mut y = down.start / 256;
-    while y < past {
-        let w = sampling::weight(down, y) as u16;
-        add_row(sums, plane, r, first, many, y, w);
-        y += 1;
+    if r.bytes == 1 {
+        add_samples::<1>(sums, plane, r, first, many, y, w);
+    } else {
+        add_samples::<2>(sums, plane, r, first, many, y, w);
     }
 }
 
@@ -174,25 +143,6 @@ fn covers(held: Held, f: Foot) -> bool
     ensures { result ≡ (leb (256 * held.first) f.start && leb f.end (256 * held.past)) }
 {
     256 * held.first <= f.start && f.end <= 256 * held.past
-}
-
-// Holds the columns from a footprint's first one on, unless it lies in those that are held.
-fn hold(sums: &mut [u32], held: Held, plane: &[u8], r: Raster, f: Foot, down: Foot) -> Held
-    requires { MeansFits plane.now r down × FootIn f r.across.from × SumsHeld sums.old plane.now r down held × (1024 ≤ length sums.old) × (held.first ≤ 2 ^ 30) × (held.past ≤ 2 ^ 30) }
-    ensures { SumsHeld sums.new plane.now r down result × (result.first ≤ 2 ^ 30) × (result.past ≤ 2 ^ 30) }
-{
-    if covers(held, f) {
-        return held;
-    }
-    let across = r.across;
-    let first = f.start / 256;
-    let many = numbers::min(across.from - first, 1024);
-    clear(sums, many);
-    add_rows(sums, plane, r, first, many, down);
-    Held {
-        first,
-        past: first + many,
-    }
 }
 
 // The sums under a footprint, each times its weight: its head, the whole columns, and its tail.
@@ -208,10 +158,8 @@ fn sum_long(sums: &[u32], first: usize, f: Foot) -> usize
     }
     let last = f.end / 256;
     let mut sum = head * (edge - f.start);
-    let mut j = from + 1;
-    while j < last {
+    for j in from + 1..last {
         sum += sums[j - first] as usize * 256;
-        j += 1;
     }
     let tail = f.end - 256 * last;
     if tail == 0 {
@@ -236,68 +184,103 @@ fn sum_across(sums: &[u32], first: usize, f: Foot) -> usize
 }
 
 // A quotient to the nearest whole number, a half up. The divisors of a doubled and of a halved picture are powers of two.
+#[tactic(auto, unfolding(sampling::specs::Rounded::rounded))]
 fn round(n: usize, d: usize) -> usize
     requires { (1 ≤ d) × (n ≤ 2 ^ 63) × (d ≤ 2 ^ 63) }
     ensures { result ≡ rounded n d }
 {
-    if d == 65536 {
-        return (n + 32768) / 65536;
+    match d {
+        65536 => (n + 32768) / 65536,
+        262144 => (n + 131072) / 262144,
+        _ => (n + d / 2) / d,
     }
-    if d == 262144 {
-        return (n + 131072) / 262144;
-    }
-    (n + d / 2) / d
 }
 
-// The mean under two footprints, by the columns that are held where the first lies in them.
-fn held_mean(sums: &[u32], held: Held, plane: &[u8], r: Raster, f: Foot, down: Foot) -> u16
-    requires { MeansFits plane.now r down × FootIn f r.across.from × SumsHeld sums.now plane.now r down held × (length sums.now ≤ 1024) × (held.first ≤ 2 ^ 30) × (held.past ≤ 2 ^ 30) }
-    ensures { result ≡ area_mean f down (λ x y. sample_in plane.now r.bytes r.stride x y) }
-{
-    if covers(held, f) {
-        let sum = sum_across(sums, held.first, f);
-        return round(sum, (f.end - f.start) * (down.end - down.start)) as u16;
-    }
-    sampling::area_sample(plane, r.bytes, r.stride, f, down)
-}
-
-// Writes a row, and returns the place past it.
-fn write_means(
-    out: &mut [u8],
-    at: usize,
-    sums: &mut [u32],
-    plane: &[u8],
-    r: Raster,
+// A row of means: the plane that it is made of and the footprint of its rows, whose column sums fit 32 bits.
+#[derive(Clone, Copy)]
+struct Means<'a> {
+    source: Source<'a>,
     down: Foot,
-) -> usize
-    requires { MeansFits plane.now r down × (length sums.old ≡ 1024) × (at + r.across.to * r.to_bytes ≤ length out.old) }
-    ensures { (result ≡ at + r.across.to * r.to_bytes) × (out.new ≡ puts out.old at (raster_row plane.now r (RowRule.Area down))) }
-{
-    let across = r.across;
-    let n = across.to;
-    let p = axis_pace(across);
-    let by = p.by;
-    let step = stand_at(p.step, by);
-    let mut s = stand_at(p.first, by);
-    let mut held = Held { first: 0, past: 0 };
-    let mut i = at;
-    let mut x: usize = 0;
-    while x < n {
-        let t = advance(s, step, by);
-        let f = foot_from(across, s.at, t.at);
-        held = hold(sums, held, plane, r, f, down);
-        i = planes::put_sample(out, i, r.to_bytes, held_mean(sums, held, plane, r, f, down));
-        s = t;
-        x += 1;
+    ghost fits: { MeansFits source.raster down },
+}
+
+impl Means<'_> {
+    // Adds the rows under the footprint.
+    fn add_rows(self, sums: &mut [u32], first: usize, many: usize)
+        requires { (first + many ≤ self.source.raster.across.from) × (many ≤ length sums.old) × ((j : ℕ) → j < many → get_or sums.old j 0 ≡ 0) }
+        ensures { (j : ℕ) → j < many → get_or sums.new j 0 ≡ column_of self.entry.source.plane.now self.entry.source.raster self.entry.down (first + j) }
+    {
+        let plane = self.source.plane;
+        let past = (self.down.end + 255) / 256;
+        for y in self.down.start / 256..past {
+            let w = sampling::weight(self.down, y) as u16;
+            add_row(sums, plane, self.source.raster, first, many, y, w);
+        }
     }
-    i
+
+    // Holds the columns from a footprint's first one on, unless it lies in those that are held.
+    fn hold(self, sums: &mut [u32], held: Held, f: Foot) -> Held
+        requires { FootIn f self.source.raster.across.from × SumsHeld sums.old self.source.plane.now self.source.raster self.down held × (1024 ≤ length sums.old) × (held.first ≤ 2 ^ 30) × (held.past ≤ 2 ^ 30) }
+        ensures { SumsHeld sums.new self.entry.source.plane.now self.entry.source.raster self.entry.down result × (result.first ≤ 2 ^ 30) × (result.past ≤ 2 ^ 30) }
+    {
+        if covers(held, f) {
+            return held;
+        }
+        let first = f.start / 256;
+        let many = (self.source.raster.across.from - first).min(1024);
+        clear(sums, many);
+        self.add_rows(sums, first, many);
+        Held {
+            first,
+            past: first + many,
+        }
+    }
+
+    // The mean under two footprints, by the columns that are held where the first lies in them.
+    fn held_mean(self, sums: &[u32], held: Held, f: Foot) -> u16
+        requires { FootIn f self.source.raster.across.from × SumsHeld sums.now self.source.plane.now self.source.raster self.down held × (length sums.now ≤ 1024) × (held.first ≤ 2 ^ 30) × (held.past ≤ 2 ^ 30) }
+        ensures { result ≡ area_mean f self.entry.down (λ x y. sample_in self.entry.source.plane.now self.entry.source.raster.bytes self.entry.source.raster.stride x y) }
+    {
+        let down = self.down;
+        if covers(held, f) {
+            let sum = sum_across(sums, held.first, f);
+            return round(sum, (f.end - f.start) * (down.end - down.start)) as u16;
+        }
+        let r = self.source.raster;
+        sampling::area_sample(self.source.plane, r.bytes, r.stride, f, down)
+    }
+
+    // Writes the row, and returns the place past it.
+    fn write_means(self, out: &mut [u8], at: usize, sums: &mut [u32]) -> usize
+        requires { (length sums.old ≡ 1024) × (at + self.source.raster.across.to * self.source.raster.to_bytes ≤ length out.old) }
+        ensures { (result ≡ at + self.entry.source.raster.across.to * self.entry.source.raster.to_bytes) × (out.new ≡ puts out.old at (raster_row self.entry.source.plane.now self.entry.source.raster (RowRule.Area self.entry.down))) }
+    {
+        let p = axis_pace(self.source.raster.across);
+        let step = stand_at(p.step, p.by);
+        let mut s = stand_at(p.first, p.by);
+        let mut held = Held { first: 0, past: 0 };
+        let mut i = at;
+        for _x in 0..self.source.raster.across.to {
+            let t = advance(s, step, p.by);
+            let f = foot_from(self.source.raster.across, s.at, t.at);
+            held = self.hold(sums, held, f);
+            i = planes::put_sample(
+                out,
+                i,
+                self.source.raster.to_bytes,
+                self.held_mean(sums, held, f),
+            );
+            s = t;
+        }
+        i
+    }
 }
 
 // Writes a row of means whose column sums fit 32 bits, and returns the place past it.
-pub fn write_area_row(out: &mut [u8], at: usize, plane: &[u8], r: Raster, down: Foot) -> usize
-    requires { MeansFits plane.now r down × (at + r.across.to * r.to_bytes ≤ length out.old) }
-    ensures { (result ≡ at + r.across.to * r.to_bytes) × (out.new ≡ puts out.old at (raster_row plane.now r (RowRule.Area down))) }
+pub fn write_area_row(out: &mut [u8], at: usize, s: Source<'_>, down: Foot) -> usize
+    requires { MeansFits s.raster down × (at + s.raster.across.to * s.raster.to_bytes ≤ length out.old) }
+    ensures { (result ≡ at + s.entry.raster.across.to * s.entry.raster.to_bytes) × (out.new ≡ puts out.old at (raster_row s.entry.plane.now s.entry.raster (RowRule.Area down))) }
 {
     let mut sums = [0u32; 1024];
-    write_means(out, at, &mut sums, plane, r, down)
+    Means { source: s, down }.write_means(out, at, &mut sums)
 }

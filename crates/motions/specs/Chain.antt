@@ -1,6 +1,7 @@
 -- A chain on a picture, entry by entry (document 01, "The scene call" and the transforms; `apply_transforms`).
+use Rattle.std.specs.Prelude.{Ok}
 use Rattle.std.specs.Prelude.{Bool, List}
-use Rattle.laws.specs.Out.{Out, and_then, done}
+use Rattle.laws.specs.Out.{Out, and_then}
 use Rattle.planes.specs.Picture.{Pic}
 use Rattle.image.specs.Format.{odd}
 use Rattle.sizes.specs.Aperture.{resolve_of}
@@ -12,10 +13,10 @@ use Rattle.motions.specs.Turn.{crop, mirror, quarter_of, turn}
 
 -- an applied entry: kind 0 is skipped, a clap crops to the rectangle that it resolves to; what an iscl does is handed in
 unfoldable pub pic_after : (Iscl → Pic → Out Pic) → Property → Pic → Out Pic
-pic_after scale Property.Other P = done P
-pic_after scale (Property.Clap c) P = and_then (resolve_of c P.form.width P.form.height) (λ k. done (crop P k.rect))
-pic_after scale (Property.Irot k) P = done (turn P (quarter_of k.angle))
-pic_after scale (Property.Imir k) P = done (mirror P (odd k.axis))
+pic_after scale Property.Other P = Ok P
+pic_after scale (Property.Clap c) P = and_then (resolve_of c P.form.width P.form.height) (λ k. Ok (crop P k.rect))
+pic_after scale (Property.Irot k) P = Ok (turn P (quarter_of k.angle))
+pic_after scale (Property.Imir k) P = Ok (mirror P (odd k.axis))
 pic_after scale (Property.Iscl k) P = scale k P
 
 -- a chain, under the flag its essential entries alone

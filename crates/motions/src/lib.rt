@@ -11,22 +11,20 @@ use moves::{Axis, Move};
 use props::Irot;
 use sizes::CropRect;
 
+#[tactic(auto, unfolding(crate::specs::inner::Moves::form_with, laws::specs::Pick::pick))]
 fn form_with(promoted: bool, m: Form) -> Form
     ensures { result ≡ form_with promoted m }
 {
-    if promoted {
-        return m.as_444();
-    }
-    m
+    if promoted { m.as_444() } else { m }
 }
 
+#[tactic(auto, unfolding(crate::specs::inner::Moves::crop_move, crate::specs::inner::Moves::crop_with))]
 pub fn crop_move(m: Form, r: CropRect) -> Move
     ensures { result ≡ crop_move m r }
 {
-    let x_odd = image::either(image::is_odd(r.x), image::is_odd(r.width));
-    let y_odd = image::either(image::is_odd(r.y), image::is_odd(r.height));
-    let f = m.format;
-    let promoted = f.needs_444(x_odd, y_odd);
+    let x_odd = image::is_odd(r.x) || image::is_odd(r.width);
+    let y_odd = image::is_odd(r.y) || image::is_odd(r.height);
+    let promoted = m.format.needs_444(x_odd, y_odd);
     Move {
         form: form_with(promoted, m).sized(r.width, r.height),
         promoted,
@@ -43,32 +41,27 @@ pub fn crop_move(m: Form, r: CropRect) -> Move
 }
 
 // From one end of n places to the other.
+#[tactic(auto, unfolding(crate::specs::inner::Moves::end_axis, laws::specs::Pick::pick))]
 fn end_axis(back: bool, n: u32) -> Axis
     requires { 1 ≤ n }
     ensures { result ≡ end_axis back n }
 {
-    if back {
-        return Axis {
-            from: n as usize - 1,
-            back: true,
-        };
-    }
     Axis {
-        from: 0,
-        back: false,
+        from: if back { n as usize - 1 } else { 0 },
+        back,
     }
 }
 
 // A quarter turn: the columns run down, from the bottom where `up`, and the rows across, from the right where `left`.
+#[tactic(auto, unfolding(crate::specs::inner::Moves::quarter_move, crate::specs::inner::Moves::quarter_with, crate::specs::Turn::lopsided))]
 pub fn quarter_move(m: Form, left: bool, up: bool) -> Move
     requires { FormSound m }
     ensures { result ≡ quarter_move m left up }
 {
-    let f = m.format;
-    let lopsided = f.chroma == PixelFormat::YUV422;
-    let x_odd = image::either(lopsided, image::is_odd(m.width));
-    let y_odd = image::either(lopsided, image::is_odd(m.height));
-    let promoted = f.needs_444(x_odd, y_odd);
+    let lopsided = m.format.chroma == PixelFormat::YUV422;
+    let x_odd = lopsided || image::is_odd(m.width);
+    let y_odd = lopsided || image::is_odd(m.height);
+    let promoted = m.format.needs_444(x_odd, y_odd);
     Move {
         form: form_with(promoted, m).sized(m.height, m.width),
         promoted,
@@ -78,12 +71,14 @@ pub fn quarter_move(m: Form, left: bool, up: bool) -> Move
     }
 }
 
+#[tactic(auto, unfolding(crate::specs::inner::Moves::half_move, crate::specs::inner::Moves::half_with))]
 pub fn half_move(m: Form) -> Move
     requires { FormSound m }
     ensures { result ≡ half_move m }
 {
-    let f = m.format;
-    let promoted = f.needs_444(image::is_odd(m.width), image::is_odd(m.height));
+    let promoted = m
+        .format
+        .needs_444(image::is_odd(m.width), image::is_odd(m.height));
     Move {
         form: form_with(promoted, m).sized(m.width, m.height),
         promoted,
@@ -93,6 +88,7 @@ pub fn half_move(m: Form) -> Move
     }
 }
 
+#[tactic(auto, unfolding(crate::specs::inner::Moves::mirror_move))]
 pub fn mirror_move(m: Form, sideways: bool) -> Move
     requires { FormSound m }
     ensures { result ≡ mirror_move m sideways }
@@ -107,6 +103,7 @@ pub fn mirror_move(m: Form, sideways: bool) -> Move
 }
 
 // A picture as it is: nothing is promoted, no axes are swapped, and none runs back.
+#[tactic(auto, unfolding(crate::specs::inner::Moves::still_move))]
 pub fn still_move(m: Form) -> Move
     requires { FormSound m }
     ensures { result ≡ still_move m }
@@ -125,23 +122,19 @@ pub fn still_move(m: Form) -> Move
 pub fn crop_form(m: Form, r: CropRect) -> Form
     ensures { result ≡ (crop_move m r).form }
 {
-    let v = crop_move(m, r);
-    v.form
+    crop_move(m, r).form
 }
 
 // The form of a turn.
+#[tactic(auto, unfolding(crate::specs::inner::Moves::turn_form, crate::specs::Turn::quarter_of, laws::specs::Pick::pick))]
 pub fn turn_form(m: Form, irot: Irot) -> Form
     requires { FormSound m }
     ensures { result ≡ turn_form m (quarter_of irot.angle) }
 {
-    let quarter = irot.angle % 4;
-    if quarter == 0 {
-        return m;
+    match irot.angle % 4 {
+        0 => m,
+        1 => quarter_move(m, true, false).form,
+        2 => half_move(m).form,
+        _ => quarter_move(m, false, true).form,
     }
-    if quarter == 2 {
-        let v = half_move(m);
-        return v.form;
-    }
-    let v = quarter_move(m, quarter == 1, quarter == 3);
-    v.form
 }

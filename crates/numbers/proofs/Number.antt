@@ -1,5 +1,9 @@
 -- Laws of house numbers: a step of the writer, a step of the reader; what was written is read back, and what is read is the shortest
 -- form.
+use Rattle.laws.specs.Out.{Out}
+use Rattle.laws.proofs.Out.{done-pair}
+use Rattle.numbers.specs.Number.{malformed}
+use Rattle.std.specs.Prelude.{Ok}
 use mathlib.Core.List.{List, [], ◌++◌, ◌∷◌}
 use mathlib.Core.Path.{◌∙◌, ◌≡◌, ap, ap₂, refl, sym}
 use Prim.Native.Nat.{◌%◌, ◌*◌, ◌+◌, ◌-◌, ◌/◌, ◌<◌, ◌^◌, ◌≤◌, suc, zero, ℕ}
@@ -13,8 +17,6 @@ use borrow.Author.Tests.{le-leb, le-ltb, lt-leb, lt-ltb}
 use Rattle.laws.proofs.Order.{apart, by_order}
 use Rattle.laws.specs.Pick.{pick}
 use Rattle.numbers.specs.Number.{groups, last_byte, number_bytes, read_from, read_number}
-use Rattle.numbers.specs.declared.NumberRead.{NumberRead}
-use Rattle.numbers.specs.declared.NumberRead.TheVariants.{Malformed, Number}
 
 -- one group more than is needed changes nothing
 groups-fuel : (k n : ℕ) → n < 128 ^ suc k → groups k n ≡ groups (suc k) n
@@ -47,9 +49,9 @@ unfolding number_bytes
 bytes-short n = groups-short 4 n
 
 -- the turns of the reader's loop
-abbrev turn : ℕ → List ℕ → ℕ → ℕ → ℕ → ℕ → NumberRead
+abbrev turn : ℕ → List ℕ → ℕ → ℕ → ℕ → ℕ → Out (ℕ × ℕ)
 turn k s i least w v =
-    pick (leb (length s) i) Malformed
+    pick (leb (length s) i) malformed
     (pick (ltb (get_or s i 0) 128) (last_byte least (get_or s i 0) w v (i + 1))
     (read_from (k - 1) s (i + 1) 1 (w * 128) (v + (get_or s i 0 - 128) * w)))
 
@@ -62,21 +64,21 @@ module _ (k : ℕ) (s : List ℕ) (i least w v : ℕ) (some_left : 0 < k) where
   read_step : read_from k s i least w v ≡ turn k s i least w v
   read_step = step k s i least w v some_left
 
-  pub read-end : length s ≤ i → read_from k s i least w v ≡ Malformed
+  pub read-end : length s ≤ i → read_from k s i least w v ≡ malformed
   unfolding pick last_byte
   read-end h = read_step ∙ simp (le-leb (length s) i h)
 
-  pub read_low : i < length s → get_or s i 0 < 128 → get_or s i 0 < least → read_from k s i least w v ≡ Malformed
+  pub read_low : i < length s → get_or s i 0 < 128 → get_or s i 0 < least → read_from k s i least w v ≡ malformed
   unfolding pick last_byte
   read_low h l t = read_step ∙ simp (lt-leb (length s) i h, lt-ltb (get_or s i 0) 128 l, lt-ltb (get_or s i 0) least t)
 
-  pub read-large : i < length s → get_or s i 0 < 128 → least ≤ get_or s i 0 → 2 ^ 32 ≤ v + get_or s i 0 * w → read_from k s i least w v ≡ Malformed
+  pub read-large : i < length s → get_or s i 0 < 128 → least ≤ get_or s i 0 → 2 ^ 32 ≤ v + get_or s i 0 * w → read_from k s i least w v ≡ malformed
   unfolding pick last_byte
   read-large h l t g =
       read_step ∙ simp (lt-leb (length s) i h, lt-ltb (get_or s i 0) 128 l, le-ltb (get_or s i 0) least t, le-leb (2 ^ 32) (v + get_or s i 0 * w) g)
 
   pub read-last : i < length s → get_or s i 0 < 128 → least ≤ get_or s i 0 → v + get_or s i 0 * w < 2 ^ 32
-      → read_from k s i least w v ≡ Number (v + get_or s i 0 * w) (i + 1)
+      → read_from k s i least w v ≡ Ok ((v + get_or s i 0 * w), (i + 1))
   unfolding pick last_byte
   read-last h l t g =
       read_step ∙ simp (lt-leb (length s) i h, lt-ltb (get_or s i 0) 128 l, le-ltb (get_or s i 0) least t, lt-leb (2 ^ 32) (v + get_or s i 0 * w) g)
@@ -87,24 +89,22 @@ module _ (k : ℕ) (s : List ℕ) (i least w v : ℕ) (some_left : 0 < k) where
   read_more h g = read_step ∙ simp (lt-leb (length s) i h, le-ltb (get_or s i 0) 128 g)
 
 -- a number of one group
-pub read_one : (s : List ℕ) (i : ℕ) → i < length s → get_or s i 0 < 128 → read_number s i ≡ Number (get_or s i 0) (i + 1)
+pub read_one : (s : List ℕ) (i : ℕ) → i < length s → get_or s i 0 < 128 → read_number s i ≡ Ok ((get_or s i 0), (i + 1))
 unfolding read_number
 read_one s i h l =
     let e : 0 + get_or s i 0 * 1 ≡ get_or s i 0 = omega arith in
-    read-last 5 s i 0 1 0 (lit< tt) h l (omega arith) (omega arith) ∙ ap (λ (n : ℕ). Number n (i + 1)) e
+    read-last 5 s i 0 1 0 (lit< tt) h l (omega arith) (omega arith) ∙ ap (λ (n : ℕ). Ok (n, (i + 1))) e
 
-pub read_none : (s : List ℕ) (i least w v : ℕ) → read_from 0 s i least w v ≡ Malformed
+pub read_none : (s : List ℕ) (i least w v : ℕ) → read_from 0 s i least w v ≡ malformed
 unfolding read_from
 read_none s i least w v = refl
 
 -- the weight of a group that is still to be read
-pub weight-small : (left : ℕ) → 0 < left → left ≤ 5 → 128 ^ (5 - left) ≤ 2 ^ 28
-weight-small left h l = let e : 5 - left ≤ 4 = omega arith in pow-le-pow_right {n = 128} (lit< tt) e
+pub weight-small : (k : ℕ) → k < 5 → 128 ^ k ≤ 2 ^ 28
+weight-small k h = let e : k ≤ 4 = omega arith in pow-le-pow_right {n = 128} (lit< tt) e
 
-pub weight-next : (left : ℕ) → 0 < left → left ≤ 5 → 128 ^ (5 - left) * 128 ≡ 128 ^ (5 - (left - 1))
-weight-next left h l =
-    let e : 5 - (left - 1) ≡ suc (5 - left) = omega arith in
-    rw (e, pow-suc)
+pub weight-next : (k : ℕ) → 128 ^ k * 128 ≡ 128 ^ (k + 1)
+weight-next k = rw (add-one, pow-suc)
 
 -- what stands at the head of what is left of a list
 pub at_head : (l : List ℕ) (i b : ℕ) (t : List ℕ) → drop i l ≡ b ∷ t → (i < length l) × (get_or l i 0 ≡ b) × (drop (i + 1) l ≡ t)
@@ -124,7 +124,7 @@ regroup n w v =
     rw (p, q) (add_assoc v (n % 128 * w) (n / 128 * 128 * w) ∙ ap (λ (k : ℕ). v + k) (sym d ∙ ap (λ (k : ℕ). k * w) m))
 
 read_back : (k : ℕ) (l : List ℕ) (i least w v n : ℕ) (rest : List ℕ) → drop i l ≡ groups k n ++ rest → n < 128 ^ suc k → least ≤ n → v + n * w < 2 ^ 32
-    → read_from (suc k) l i least w v ≡ Number (v + n * w) (i + length (groups k n))
+    → read_from (suc k) l i least w v ≡ Ok ((v + n * w), (i + length (groups k n)))
 unfolding groups pick
 read_back zero l i least w v n rest e h g m =
     let a = at_head l i n rest e in
@@ -144,12 +144,12 @@ read_back (suc k) l i least w v n rest e h g m =
     let u : n < 128 ^ suc k * 128 = rw pow-suc at h in
     let o = read_back k l (i + 1) 1 (w * 128) (v + (n % 128 + 128 - 128) * w) (n / 128) rest a.2 ((div-lt_iff_lt-mul (lit< tt)).1 u)
     (omega arith) (rw (regroup n w v) m) in
-    let y : read_from (suc (suc k) - 1) l (i + 1) 1 (w * 128) (v + (get_or l i 0 - 128) * w) ≡ Number (v + n * w) (i + 1 + length (groups k (n / 128))) =
+    let y : read_from (suc (suc k) - 1) l (i + 1) 1 (w * 128) (v + (get_or l i 0 - 128) * w) ≡ Ok (v + n * w, i + 1 + length (groups k (n / 128))) =
     rw (j, a.1, ← regroup n w v) o in
-    x ∙ y ∙ ap (Number (v + n * w)) (rw f (omega arith)))
+    x ∙ y ∙ ap (λ (m : ℕ). Ok (v + n * w, m)) (rw f (omega arith)))
 
 -- what was written is read back
-pub round_trip : (before rest : List ℕ) (n : ℕ) → n < 2 ^ 32 → read_number (before ++ (number_bytes n ++ rest)) (length before) ≡ Number n (length before + length (number_bytes n))
+pub round_trip : (before rest : List ℕ) (n : ℕ) → n < 2 ^ 32 → read_number (before ++ (number_bytes n ++ rest)) (length before) ≡ Ok (n, (length before + length (number_bytes n)))
 unfolding number_bytes read_number
 round_trip before rest n h =
     let z : 0 + n * 1 ≡ n = omega arith in
@@ -157,7 +157,7 @@ round_trip before rest n h =
     x ∙ rw z
 
 -- what a number that was read is, and where it ends
-read-from-bounds : (k : ℕ) (s : List ℕ) (i least w v x n : ℕ) → read_from k s i least w v ≡ Number x n → (x < 2 ^ 32) × (n ≤ length s) × (i < n)
+read-from-bounds : (k : ℕ) (s : List ℕ) (i least w v x n : ℕ) → read_from k s i least w v ≡ Ok (x, n) → (x < 2 ^ 32) × (n ≤ length s) × (i < n)
 read-from-bounds zero s i least w v x n e = let q = read_none s i least w v in apart (cc)
 read-from-bounds (suc k) s i least w v x n e =
     let m : 0 < suc k = omega arith in
@@ -171,8 +171,9 @@ read-from-bounds (suc k) s i least w v x n e =
     by_order (v + get_or s i 0 * w) (2 ^ 32)
     (λ g.
     let q = read-last (suc k) s i least w v m h l t g in
-    let a : v + get_or s i 0 * w ≡ x = cc in
-    let b : i + 1 ≡ n = cc in
+    let p = done-pair (v + get_or s i 0 * w) x (i + 1) n (sym q ∙ e) in
+    let a = p.0 in
+    let b = p.1 in
     (rw a at g, omega arith, omega arith))
     (λ g. let q = read-large (suc k) s i least w v m h l t g in apart (cc))))
     (λ l.
@@ -182,12 +183,12 @@ read-from-bounds (suc k) s i least w v x n e =
     (r.0, r.1, omega arith)))
     (λ h. let q = read-end (suc k) s i least w v m h in apart (cc))
 
-pub read-bounds : (s : List ℕ) (i x n : ℕ) → read_number s i ≡ Number x n → (x < 2 ^ 32) × (n ≤ length s) × (i < n)
+pub read-bounds : (s : List ℕ) (i x n : ℕ) → read_number s i ≡ Ok (x, n) → (x < 2 ^ 32) × (n ≤ length s) × (i < n)
 unfolding read_number
 read-bounds s i x n e = read-from-bounds 5 s i 0 1 0 x n e
 
 -- a number that stands at a place is read there; what follows it stands past it
-pub number_at : (s : List ℕ) (i n : ℕ) (rest : List ℕ) → drop i s ≡ number_bytes n ++ rest → n < 2 ^ 32 → read_number s i ≡ Number n (i + length (number_bytes n))
+pub number_at : (s : List ℕ) (i n : ℕ) (rest : List ℕ) → drop i s ≡ number_bytes n ++ rest → n < 2 ^ 32 → read_number s i ≡ Ok (n, (i + length (number_bytes n)))
 unfolding number_bytes read_number
 number_at s i n rest e h =
     let z : 0 + n * 1 ≡ n = omega arith in
@@ -251,8 +252,8 @@ came-more k s i least w v x next h g small few c =
 
 -- the first of them, and what comes of the others
 came-step : (k : ℕ) (s : List ℕ) (i least w v x next : ℕ)
-    → (i < length s → 128 ≤ get_or s i 0 → read_from k s (i + 1) 1 (w * 128) (v + (get_or s i 0 - 128) * w) ≡ Number x next → Came k s i least w v x next)
-    → read_from (suc k) s i least w v ≡ Number x next → Came k s i least w v x next
+    → (i < length s → 128 ≤ get_or s i 0 → read_from k s (i + 1) 1 (w * 128) (v + (get_or s i 0 - 128) * w) ≡ Ok (x, next) → Came k s i least w v x next)
+    → read_from (suc k) s i least w v ≡ Ok (x, next) → Came k s i least w v x next
 came-step k s i least w v x next others e =
     let m : 0 < suc k = omega arith in
     by_order i (length s)
@@ -263,7 +264,7 @@ came-step k s i least w v x next others e =
     (λ t. let q = read_low (suc k) s i least w v m h l t in apart (cc))
     (λ t.
     by_order (v + get_or s i 0 * w) (2 ^ 32)
-    (λ g. let q = read-last (suc k) s i least w v m h l t g in came-last k s i least w v x next h l t (cc) (cc))
+    (λ g. let q = read-last (suc k) s i least w v m h l t g in let p = done-pair (v + get_or s i 0 * w) x (i + 1) next (sym q ∙ e) in came-last k s i least w v x next h l t p.0 p.1)
     (λ g. let q = read-large (suc k) s i least w v m h l t g in apart (cc))))
     (λ l.
     let q = read_more (suc k) s i least w v m h l in
@@ -271,7 +272,7 @@ came-step k s i least w v x next others e =
     others h l (rw j at (sym q ∙ e))))
     (λ h. let q = read-end (suc k) s i least w v m h in apart (cc))
 
-came_from : (k : ℕ) (s : List ℕ) (i least w v x next : ℕ) → ((j : ℕ) → get_or s j 0 < 256) → least ≤ 1 → read_from (suc k) s i least w v ≡ Number x next → Came k s i least w v x next
+came_from : (k : ℕ) (s : List ℕ) (i least w v x next : ℕ) → ((j : ℕ) → get_or s j 0 < 256) → least ≤ 1 → read_from (suc k) s i least w v ≡ Ok (x, next) → Came k s i least w v x next
 came_from zero s i least w v x next small few e =
     came-step 0 s i least w v x next (λ h l f. let q = read_none s (i + 1) 1 (w * 128) (v + (get_or s i 0 - 128) * w) in apart (cc)) e
 came_from (suc k) s i least w v x next small few e =
@@ -279,7 +280,7 @@ came_from (suc k) s i least w v x next small few e =
     (λ h l f. came-more k s i least w v x next h l (small i) few (came_from k s (i + 1) 1 (w * 128) (v + (get_or s i 0 - 128) * w) x next small (omega arith) f)) e
 
 -- the number's bytes, and what stands past them
-read-rest : (s : List ℕ) (at v next : ℕ) → ((i : ℕ) → get_or s i 0 < 256) → read_number s at ≡ Number v next → drop at s ≡ number_bytes v ++ drop next s
+read-rest : (s : List ℕ) (at v next : ℕ) → ((i : ℕ) → get_or s i 0 < 256) → read_number s at ≡ Ok (v, next) → drop at s ≡ number_bytes v ++ drop next s
 unfolding number_bytes read_number
 read-rest s at v next small e =
     let c = came_from 4 s at 0 1 0 v next small (omega arith) e in
@@ -287,7 +288,7 @@ read-rest s at v next small e =
     c.bytes ∙ ap (λ (n : ℕ). groups 4 n ++ drop next s) q
 
 -- Document 01: a number "is below 2^32, in shortest form". The bytes that a number is read from are those that its value is written as.
-pub read-shortest : (s : List ℕ) (at v next : ℕ) → ((i : ℕ) → get_or s i 0 < 256) → read_number s at ≡ Number v next → take (next - at) (drop at s) ≡ number_bytes v
+pub read-shortest : (s : List ℕ) (at v next : ℕ) → ((i : ℕ) → get_or s i 0 < 256) → read_number s at ≡ Ok (v, next) → take (next - at) (drop at s) ≡ number_bytes v
 read-shortest s at v next small e =
     let k = read-bounds s at v next e in
     let f = read-rest s at v next small e in

@@ -1,4 +1,5 @@
 -- Laws of inputs laid one after the other, record by record.
+use Rattle.std.specs.Prelude.{Ok, Err}
 use mathlib.Core.Bool.{false}
 use mathlib.Core.List.{List, ◌∷◌}
 use mathlib.Core.Path.{◌∙◌, ◌≡◌, ap, refl, sym}
@@ -7,7 +8,6 @@ use native.Mathlib.Omega.{arith}
 use lib.ListN.{length}
 use Rattle.laws.proofs.Order.{or_left, or_right, pick-both}
 use Rattle.laws.specs.Any.{any}
-use Rattle.laws.specs.Out.{done, refused}
 use Rattle.laws.specs.declared.Refusal.{Refusal}
 use Rattle.records.specs.Record.{record_at}
 use Rattle.image.specs.declared.format.Form.{Form}
@@ -38,7 +38,7 @@ pub lays-as : (tray : List ℕ) (fr : Frame) (c : Form) (n k : ℕ) → k ≡ n 
 lays-as tray fr c n k e l = rw e l
 
 module _ (c : Form) (body tray : List ℕ) (e : OverlayDescriptor) where
-  pub laid-refused : (n at i : ℕ) (d : List ℕ) (r : Refusal) → record_at tray at ≡ refused r → lay_frames c body tray e i (frames_from n tray at) d ≡ d
+  pub laid-refused : (n at i : ℕ) (d : List ℕ) (r : Refusal) → record_at tray at ≡ Err r → lay_frames c body tray e i (frames_from n tray at) d ≡ d
   unfolding lay_frames
   laid-refused n at i d r q = rw (from-refused n tray at r q)
 
@@ -46,7 +46,7 @@ module _ (c : Form) (body tray : List ℕ) (e : OverlayDescriptor) where
   unfolding lay_frames frames_from
   laid_none n at i d h = let z : n ≡ 0 = omega arith in rw z
 
-module _ (tray : List ℕ) (n at i : ℕ) (fr : Frame) (l : i < n) (q : record_at tray at ≡ done fr) where
+module _ (tray : List ℕ) (n at i : ℕ) (fr : Frame) (l : i < n) (q : record_at tray at ≡ Ok fr) where
   next : frames_from (n - i) tray at ≡ fr ∷ frames_from (n - (i + 1)) tray fr.end
   next = from_next (n - i) tray at fr (omega arith) q ∙ ap (λ (k : ℕ). fr ∷ frames_from k tray fr.end) (less_one n i)
 

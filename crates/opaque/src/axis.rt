@@ -7,14 +7,12 @@ ghost use Rattle.opaque.specs.inner.Window.{stretch_of, window_of};
 use numbers::Offset;
 
 // How many samples begin before a place.
+#[tactic(auto, unfolding(image::specs::Format::side_of))]
 fn before(half: bool, n: usize) -> usize
     requires { n < 2 ^ 40 }
     ensures { result ≡ side_of half n }
 {
-    if half {
-        return (n + 1) / 2;
-    }
-    n
+    if half { (n + 1) / 2 } else { n }
 }
 
 // The samples along an axis that an input of a side covers: from, and up to but not including.
@@ -24,25 +22,24 @@ pub struct Stretch {
     pub to: usize,
 }
 
+#[tactic(auto, unfolding(crate::specs::inner::Window::stretch_of))]
 pub fn reach(half: bool, o: Offset, side: u32) -> Stretch
     ensures { result ≡ stretch_of half o side }
 {
     let ahead = o.ahead as usize;
     let behind = o.behind as usize;
     Stretch {
-        from: before(half, numbers::saturating_sub(ahead, behind)),
-        to: before(half, numbers::saturating_sub(ahead + side as usize, behind)),
+        from: before(half, ahead.saturating_sub(behind)),
+        to: before(half, (ahead + side as usize).saturating_sub(behind)),
     }
 }
 
 // From a sample to the next, so many places.
+#[tactic(auto, unfolding(laws::specs::Pick::pick))]
 pub fn step_of(half: bool) -> usize
     ensures { result ≡ pick half 2 1 }
 {
-    if half {
-        return 2;
-    }
-    1
+    if half { 2 } else { 1 }
 }
 
 // The same within a plane of so many samples: the first that is covered, how many, and the input's place there.
@@ -58,11 +55,11 @@ pub(crate) fn window_of(half: bool, o: Offset, side: u32, samples: usize) -> Win
     ensures { result ≡ window_of half o side samples }
 {
     let s = reach(half, o, side);
-    let at = numbers::min(s.from, samples);
-    let end = numbers::min(s.to, samples);
+    let at = s.from.min(samples);
+    let end = s.to.min(samples);
     Window {
         at,
-        count: numbers::saturating_sub(end, at),
-        spot: numbers::saturating_sub(at * step_of(half) + o.behind as usize, o.ahead as usize),
+        count: end.saturating_sub(at),
+        spot: (at * step_of(half) + o.behind as usize).saturating_sub(o.ahead as usize),
     }
 }

@@ -12,7 +12,7 @@ use crate::axis::{Window, window_of};
 use derived::{OverlayDescriptor, Placement};
 use image::{Form, Part, PixelFormat};
 use paste::Source;
-use records::{Frame, FrameRead};
+use records::Frame;
 
 // The rectangle that an input covers on a plane, in the canvas's record.
 #[derive(Clone, Copy)]
@@ -52,14 +52,13 @@ fn place_of(to: Frame, m: Form, o: Placement, part: Part) -> Place
 }
 
 // What an input that has not the plane shows there: no colour, or top.
+#[tactic(auto, unfolding(crate::specs::inner::Laid::absent_of))]
 fn absent(f: PixelFormat, part: Part) -> u16
     requires { (1 ≤ f.depth) × (f.depth ≤ 16) }
     ensures { result ≡ absent_of f part }
 {
     match part {
-        Part::Luma => f.middle(),
-        Part::Cb => f.middle(),
-        Part::Cr => f.middle(),
+        Part::Luma | Part::Cb | Part::Cr => f.middle(),
         Part::Alpha => f.top(),
     }
 }
@@ -68,27 +67,24 @@ fn absent(f: PixelFormat, part: Part) -> u16
 fn may_exceed(depth: u32) -> bool
     ensures { result ≡ not (eqb depth 8) && not (eqb depth 16) }
 {
-    image::both(depth != 8, depth != 16)
+    depth != 8 && depth != 16
 }
 
 // Where an input's samples are read. A halved axis is walked place by place where the canvas is not halved.
+#[tactic(auto, unfolding(crate::specs::inner::Laid::source_of))]
 fn source_of(fr: Frame, c: PixelFormat, part: Part, to: Place) -> Source
     ensures { result ≡ source_of fr c part to }
 {
-    let m = fr.form;
-    let f = m.format;
-    let from = fr.plane(part);
-    let across = to.across;
-    let down = to.down;
+    let f = fr.form.format;
     let half_across = c.half_width(part);
     let half_down = c.half_height(part);
     Source {
         bytes: f.bytes_per_sample(),
-        stride: from.stride,
-        half_across: image::both(f.half_width(part), !half_across),
-        half_down: image::both(f.half_height(part), !half_down),
-        x: planes::covering(half_across, across.spot),
-        y: planes::covering(half_down, down.spot),
+        stride: fr.plane(part).stride,
+        half_across: f.half_width(part) && !half_across,
+        half_down: f.half_height(part) && !half_down,
+        x: planes::covering(half_across, to.across.spot),
+        y: planes::covering(half_down, to.down.spot),
     }
 }
 
@@ -113,9 +109,9 @@ fn lay_rows(out: &mut [u8], canvas: Form, tray: &[u8], fr: Frame, part: Part, to
             s,
             c.top(),
         );
-        return;
+    } else {
+        paste::store_rows(out, to.at, to.stride, across.count, down.count, data, s);
     }
-    paste::store_rows(out, to.at, to.stride, across.count, down.count, data, s);
 }
 
 // A plane of an input in the rectangle that it covers, if the canvas has the plane.
@@ -126,30 +122,23 @@ fn lay_part(out: &mut [u8], to: Frame, tray: &[u8], fr: Frame, o: Placement, par
     let canvas = to.form;
     let c = canvas.format;
     if c.has(part) {
-        let m = fr.form;
-        let f = m.format;
-        let q = place_of(to, m, o, part);
-        let across = q.across;
-        let down = q.down;
-        if across.count == 0 {
+        let q = place_of(to, fr.form, o, part);
+        if q.across.count == 0 || q.down.count == 0 {
             return;
         }
-        if down.count == 0 {
-            return;
-        }
-        if f.has(part) {
+        if fr.form.format.has(part) {
             lay_rows(out, canvas, tray, fr, part, q);
-            return;
+        } else {
+            paste::store_even(
+                out,
+                q.at,
+                q.stride,
+                q.across.count,
+                q.down.count,
+                c.bytes_per_sample(),
+                absent(c, part),
+            );
         }
-        paste::store_even(
-            out,
-            q.at,
-            q.stride,
-            across.count,
-            down.count,
-            c.bytes_per_sample(),
-            absent(c, part),
-        );
     }
 }
 
@@ -177,19 +166,14 @@ pub fn lay_inputs(
     ensures { out.new ≡ lay_frames canvas body.now tray.now d 0 (frames_from d.count tray.now first) out.old }
 {
     let to = planes::tight(canvas);
-    let count = d.count;
     let mut at = first;
-    let mut i: u32 = 0;
-    while i < count {
+    for i in 0..d.count {
         match records::read_record(tray, at) {
-            FrameRead::Refused(_) => {
-                return;
-            }
-            FrameRead::Read(fr) => {
+            Err(_) => return,
+            Ok(fr) => {
                 lay_input(out, to, tray, fr, d.offset(body, i));
                 at = fr.end;
             }
         }
-        i += 1;
     }
 }

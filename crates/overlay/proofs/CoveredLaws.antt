@@ -7,7 +7,6 @@ use Prim.Native.Nat.{◌*◌, ◌+◌, ◌-◌, ◌/◌, ◌<◌, ◌≤◌, min
 use native.Mathlib.Nat.{div-eq_of_lt, le_refl, mul-add-div, mul-le-mul, mul-le-mul_right}
 use native.Mathlib.Omega.{arith}
 use lib.Dec.{eqb}
-use lib.Pow.{low}
 use borrow.Author.Tests.{eq-eqb, ne_eqb}
 use Rattle.laws.proofs.Order.{by_equal, by_order, by-test, or_left, or_right, pick-false, pick_true, true-and}
 use Rattle.laws.specs.Any.{any}

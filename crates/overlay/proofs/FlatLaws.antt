@@ -1,4 +1,5 @@
 -- A plane's rows one after the other are one run of samples.
+use Rattle.std.specs.Prelude.{Ok, Option}
 use mathlib.Core.List.{List, ◌++◌, append-nil}
 use mathlib.Core.Path.{◌∙◌, ◌≡◌, ap, ap₂, sym}
 use Prim.Native.Nat.{◌%◌, ◌*◌, ◌+◌, ◌/◌, ◌<◌, ◌≤◌, suc, zero, ℕ}
@@ -8,7 +9,6 @@ use lib.Arith.{digits_div, digits_mod}
 use lib.ListN.{length}
 use Rattle.laws.proofs.Out.{refuse-no}
 use Rattle.laws.proofs.Span.{span-cong, span-end, span-shift, span-split, span-step}
-use Rattle.laws.specs.Out.{done}
 use Rattle.laws.specs.Puts.{puts}
 use Rattle.laws.specs.Span.{span}
 use Rattle.image.proofs.JudgedLaws.{depth-taken}
@@ -17,7 +17,7 @@ use Rattle.image.specs.declared.format.Part.{Part}
 use Rattle.planes.proofs.RoundTrip.{length-encode}
 use Rattle.planes.specs.Bytes.{encode, sample_bytes, samples_of, size_of}
 use Rattle.fill.specs.Fill.{fill_of, nclx_of, part_of, ycbcr_of}
-use Rattle.fill.specs.declared.Colour.{Colour}
+use Rattle.fill.specs.declared.Nclx.{Nclx}
 use Rattle.fill.specs.declared.Ycbcr.{Ycbcr}
 use Rattle.derived.specs.declared.overlay.Fill.{Fill}
 use Rattle.inputs.specs.Layers.{Layer}
@@ -42,7 +42,7 @@ flat_rows bytes f c (suc n) h =
     row x b = ap₂ (λ (i j : ℕ). sample_bytes bytes (f i j)) (digits_mod n b) (digits_div n b)
 
 -- a depth that was taken has a fill
-pub fill-taken : (k : Fill) (depth : ℕ) (colour : Colour) → 8 ≤ depth → depth ≤ 16 → fill_of k.red k.green k.blue depth colour ≡ done (ycbcr_of (part_of k.red) (part_of k.green) (part_of k.blue) depth (nclx_of colour))
+pub fill-taken : (k : Fill) (depth : ℕ) (colour : Option Nclx) → 8 ≤ depth → depth ≤ 16 → fill_of k.red k.green k.blue depth colour ≡ Ok (ycbcr_of (part_of k.red) (part_of k.green) (part_of k.blue) depth (nclx_of colour))
 unfolding fill_of
 fill-taken k depth colour l h = refuse-no _ _ (depth-taken depth l h)
 

@@ -1,5 +1,7 @@
 -- The run step by step: what holds of a plan that was read, and what is left to answer.
-use mathlib.Core.Bool.{Bool, false, true}
+use Rattle.laws.specs.declared.Item.TheVariants.{Record}
+use Rattle.std.specs.Prelude.{Ok, Err, Option}
+use mathlib.Core.Bool.{false, true}
 use mathlib.Core.List.{List}
 use mathlib.Core.Path.{◌∙◌, ◌≡◌, ap, ap₂, sym}
 use Prim.Native.Nat.{◌<◌, ◌≤◌, suc, zero, ℕ}
@@ -10,10 +12,9 @@ use borrow.Author.Tests.{eqb-false, eqb-true, not-false}
 use Rattle.laws.proofs.Order.{pick-le, positive}
 use Rattle.laws.proofs.Out.{about-done, and_then-done, done-same, item-done, item-no, item_refused, refuse-done, refused-back, then-done, then-refused}
 use Rattle.laws.specs.Any.{any}
-use Rattle.laws.specs.Out.{Out, and_then, done, fitted, reason, refuse_item, refused}
+use Rattle.laws.specs.Out.{Out, and_then, fitted, refuse_item}
 use Rattle.laws.specs.declared.Refusal.{Refusal}
 use Rattle.numbers.specs.Number.{on_number, read_number}
-use Rattle.numbers.specs.declared.NumberRead.TheVariants.{Malformed, Number}
 use Rattle.records.proofs.RecordLaws.{record-sound}
 use Rattle.image.specs.Format.{half_x, half_y, top_of}
 use Rattle.image.specs.Sound.{FormSound}
@@ -24,7 +25,7 @@ use Rattle.records.specs.inner.Frames.{frames_from}
 use Rattle.planes.proofs.RoundTrip.{length-encode}
 use Rattle.planes.specs.Bytes.{encode, size_of}
 use Rattle.planes.specs.Picture.{Pic}
-use Rattle.fill.specs.declared.Colour.{Colour}
+use Rattle.fill.specs.declared.Nclx.{Nclx}
 use Rattle.derived.proofs.Taken.{overlay-taken}
 use Rattle.derived.specs.Overlay.{overlay_of}
 use Rattle.derived.specs.inner.Sound.{OverlaySound}
@@ -33,8 +34,6 @@ use Rattle.inputs.specs.Inputs.{Inputs, alpha_above, composed_form, first_form, 
 use Rattle.inputs.specs.Layers.{layers_of, overlay_form, see_through}
 use Rattle.inputs.specs.declared.read.Plan.{Plan}
 use Rattle.inputs.specs.inner.Plan.{plan_at, plan_of}
-use Rattle.inputs.specs.declared.alpha_check.AlphaRead.{AlphaRead}
-use Rattle.inputs.specs.inner.Summary.{alpha_out}
 use Rattle.opaque.proofs.FitLaws.{form-fits}
 use Rattle.opaque.specs.inner.Laid.{unfit}
 use Rattle.blend.specs.Overlay.{overlay_pic}
@@ -42,36 +41,36 @@ use Rattle.overlay.proofs.EvenLaws.{alpha-whole}
 use Rattle.overlay.specs.Run.{composed, fill_for, overlay_run}
 use Rattle.overlay.specs.inner.Block.{PlanSound, layers_at}
 
-pub frames-sound : (n : ℕ) (s : List ℕ) (at : ℕ) (frs : List Frame) → 0 < n → frames_at n s at ≡ done frs → FormSound (first_form frs)
+pub frames-sound : (n : ℕ) (s : List ℕ) (at : ℕ) (frs : List Frame) → 0 < n → frames_at n s at ≡ Ok frs → FormSound (first_form frs)
 unfolding frames_at first_form
 frames-sound zero s at frs h e = absurd (not-suc-le-zero h)
 frames-sound (suc n) s at frs h e =
     let a = and_then-done _ _ frs e in
     let b = and_then-done _ _ frs a.2 in
-    rw (← done-same _ frs b.2) (record-sound s at a.0 (about-done 1 0 _ _ a.1)).form
+    rw (← done-same _ frs b.2) (record-sound s at a.0 (about-done Record 0 _ _ a.1)).form
 
 module _ (body tray list : List ℕ) (n at : ℕ) where
   -- what was taken
   pub record Took (q : Inputs) : Type 0 where
-    pub body-read : overlay_of body n ≡ done q.descriptor
+    pub body-read : overlay_of body n ≡ Ok q.descriptor
     pub offsets : OverlaySound body q.descriptor
     pub count : q.descriptor.count ≡ n
     pub nonempty : 0 < n
     pub many : length list ≡ n
-    pub frames : frames_at n tray at ≡ done q.frames
+    pub frames : frames_at n tray at ≡ Ok q.frames
     pub depths : any (other_depth_of (first_format q.frames)) q.frames ≡ false
 
   took-as : (q q' : Inputs) → q ≡ q' → Took q → Took q'
   took-as q q' e k = rw e at k
 
-  pub took : (q : Inputs) → inputs_at body tray list n at ≡ done q → Took q
+  pub took : (q : Inputs) → inputs_at body tray list n at ≡ Ok q → Took q
   unfolding inputs_at
   took q e =
       let a = and_then-done _ _ q e in
       let b = refuse-done _ _ _ q a.2 in
       let c = refuse-done _ _ _ q b.1 in
       let d = and_then-done _ _ q c.1 in
-      let f = item-done 1 _ 14 _ _ q d.2 in
+      let f = item-done Record _ 14 _ _ q d.2 in
       let o = overlay-taken body n a.0 a.1 in
       took-as _ q (done-same _ q f.1) (record { body-read = a.1; offsets = o.0; count = o.1; nonempty = positive n (eqb-false n 0 b.0); many = eqb-true _ _ (not-false _ c.0); frames = d.1; depths = f.0 })
 
@@ -106,35 +105,35 @@ module _ (body tray list : List ℕ) (n at : ℕ) where
     plan-sound = record { form = form-taken; offsets = k.offsets; list = k.many ∙ sym k.count; whole = form-whole; fit = frames-fit }
 
 -- what goes on with a plan
-abbrev pub plan_pic : List ℕ → List ℕ → List ℕ → Colour → Plan → Pic
+abbrev pub plan_pic : List ℕ → List ℕ → List ℕ → Option Nclx → Plan → Pic
 plan_pic body tray list colour plan = overlay_pic plan.form (fill_for plan.descriptor.canvas_fill plan.form.format.depth colour) (layers_at body tray list plan)
 
-pub record Taken (body tray list : List ℕ) (colour : Colour) (room n at : ℕ) (plan : Plan) : Type 0 where
+pub record Taken (body tray list : List ℕ) (colour : Option Nclx) (room n at : ℕ) (plan : Plan) : Type 0 where
   pub sound : PlanSound body tray list plan
   pub left : overlay_run body tray list colour room
-      ≡ refuse_item 1 (alpha_above tray (top_of plan.form.format)) 16 (frames_from n tray at) (fitted room (encode (plan_pic body tray list colour plan)))
+      ≡ refuse_item Record (alpha_above tray (top_of plan.form.format)) 16 (frames_from n tray at) (fitted room (encode (plan_pic body tray list colour plan)))
 
-module _ (body tray list : List ℕ) (colour : Colour) (room : ℕ) where
-  pub run-malformed : read_number tray 0 ≡ Malformed → overlay_run body tray list colour room ≡ refused (reason 5)
+module _ (body tray list : List ℕ) (colour : Option Nclx) (room : ℕ) where
+  pub run-malformed : (r : Refusal) → read_number tray 0 ≡ Err r → overlay_run body tray list colour room ≡ Err r
   unfolding overlay_run on_number
-  run-malformed e = rw e
+  run-malformed r e = rw e
 
-  module _ (n at : ℕ) (counted : read_number tray 0 ≡ Number n at) where
+  module _ (n at : ℕ) (counted : read_number tray 0 ≡ Ok (n, at)) where
     abbrev going : Inputs → Out (List ℕ)
-    going q = refuse_item 1 (alpha_above tray (top_of (first_format q.frames))) 16 q.frames (fitted room (encode (composed body tray list colour q)))
+    going q = refuse_item Record (alpha_above tray (top_of (first_format q.frames))) 16 q.frames (fitted room (encode (composed body tray list colour q)))
 
     run-counted : overlay_run body tray list colour room ≡ and_then (inputs_at body tray list n at) going
     unfolding overlay_run on_number
     run-counted = rw counted
 
-    pub run-refused : (r : Refusal) → plan_at body tray list n at ≡ refused r → overlay_run body tray list colour room ≡ refused r
+    pub run-refused : (r : Refusal) → plan_at body tray list n at ≡ Err r → overlay_run body tray list colour room ≡ Err r
     unfolding plan_at
     run-refused r e = run-counted ∙ then-refused _ (refused-back (inputs_at body tray list n at) (plan_of body tray list at) r e)
 
-    as-plan : (q : Inputs) → Took body tray list n at q → going q ≡ refuse_item 1 (alpha_above tray (top_of (plan_of body tray list at q).form.format)) 16 (frames_from n tray at) (fitted room (encode (plan_pic body tray list colour (plan_of body tray list at q))))
+    as-plan : (q : Inputs) → Took body tray list n at q → going q ≡ refuse_item Record (alpha_above tray (top_of (plan_of body tray list at q).form.format)) 16 (frames_from n tray at) (fitted room (encode (plan_pic body tray list colour (plan_of body tray list at q))))
     unfolding plan_of composed composed_form overlay_form top_of
     as-plan q k =
-        ap₂ (λ (a b : List Frame). refuse_item 1 (alpha_above tray (top_of (first_format q.frames))) 16 a
+        ap₂ (λ (a b : List Frame). refuse_item Record (alpha_above tray (top_of (first_format q.frames))) 16 a
         (fitted room
         (encode (overlay_pic (composed_form body tray list q) (fill_for q.descriptor.canvas_fill (first_format q.frames).depth colour)
         (layers_of body tray list q.descriptor 0 b)))))
@@ -143,7 +142,7 @@ module _ (body tray list : List ℕ) (colour : Colour) (room : ℕ) where
     taken_as : (p p' : Plan) → p ≡ p' → Taken body tray list colour room n at p → Taken body tray list colour room n at p'
     taken_as p p' e k = rw e at k
 
-    pub plan-taken : (plan : Plan) → plan_at body tray list n at ≡ done plan → Taken body tray list colour room n at plan
+    pub plan-taken : (plan : Plan) → plan_at body tray list n at ≡ Ok plan → Taken body tray list colour room n at plan
     unfolding plan_at
     plan-taken plan e =
         let a = and_then-done _ _ plan e in
@@ -151,18 +150,18 @@ module _ (body tray list : List ℕ) (colour : Colour) (room : ℕ) where
         taken_as _ plan (done-same _ plan a.2) (record { sound = plan-sound body tray list n at a.0 k; left = run-counted ∙ then-done _ a.1 ∙ as-plan a.0 k })
 
 -- what alpha samples held to a top that was worked out come to
-module _ (tray : List ℕ) (n at t t' : ℕ) (r : AlphaRead) (e : t ≡ t') (k : alpha_out r ≡ refuse_item 1 (alpha_above tray t) 16 (frames_from n tray at) (done tt)) where
-  held : {B : Type 0} (o : Out B) → refuse_item 1 (alpha_above tray t') 16 (frames_from n tray at) o ≡ refuse_item 1 (alpha_above tray t) 16 (frames_from n tray at) o
+module _ (tray : List ℕ) (n at t t' : ℕ) (r : Out Unit) (e : t ≡ t') (k : r ≡ refuse_item Record (alpha_above tray t) 16 (frames_from n tray at) (Ok tt)) where
+  held : {B : Type 0} (o : Out B) → refuse_item Record (alpha_above tray t') 16 (frames_from n tray at) o ≡ refuse_item Record (alpha_above tray t) 16 (frames_from n tray at) o
   held o = rw (← e)
 
-  pub alpha-refused : {B : Type 0} (o : Out B) (x : Refusal) → r ≡ AlphaRead.Refused x → refuse_item 1 (alpha_above tray t') 16 (frames_from n tray at) o ≡ refused x
-  alpha-refused o x q = held o ∙ item_refused 1 (alpha_above tray t) 16 (frames_from n tray at) tt o x (sym k ∙ ap alpha_out q)
+  pub alpha-refused : {B : Type 0} (o : Out B) (x : Refusal) → r ≡ Err x → refuse_item Record (alpha_above tray t') 16 (frames_from n tray at) o ≡ Err x
+  alpha-refused o x q = held o ∙ item_refused Record (alpha_above tray t) 16 (frames_from n tray at) tt o x (sym k ∙ q)
 
-  pub alpha-within : {B : Type 0} (o : Out B) → r ≡ AlphaRead.Within → refuse_item 1 (alpha_above tray t') 16 (frames_from n tray at) o ≡ o
-  alpha-within o q = held o ∙ item-no 1 (alpha_above tray t) 16 (frames_from n tray at) o (item-done 1 (alpha_above tray t) 16 (frames_from n tray at) (done tt) tt (sym k ∙ ap alpha_out q)).0
+  pub alpha-within : {B : Type 0} (o : Out B) → r ≡ Ok tt → refuse_item Record (alpha_above tray t') 16 (frames_from n tray at) o ≡ o
+  alpha-within o q = held o ∙ item-no Record (alpha_above tray t) 16 (frames_from n tray at) o (item-done Record (alpha_above tray t) 16 (frames_from n tray at) (Ok tt) tt (sym k ∙ q)).0
 
 -- room for the picture, by its size
-module _ {body tray list : List ℕ} {colour : Colour} {room n at : ℕ} {plan : Plan} (t : Taken body tray list colour room n at plan) (k : ℕ) (e : k ≡ size_of plan.form) where
+module _ {body tray list : List ℕ} {colour : Option Nclx} {room n at : ℕ} {plan : Plan} (t : Taken body tray list colour room n at plan) (k : ℕ) (e : k ≡ size_of plan.form) where
   long : length (encode (plan_pic body tray list colour plan)) ≡ k
   unfolding overlay_pic
   long = length-encode (plan_pic body tray list colour plan) ∙ sym e

@@ -1,12 +1,11 @@
 -- Document 01's two sentences on overlay places (Overlay): what the composed picture reads where no input covers, and where all that
 -- cover have alpha top or straight alpha 0.
+use Rattle.std.specs.Prelude.{Ok, Option}
 use mathlib.Core.Bool.{false}
 use mathlib.Core.List.{List}
 use mathlib.Core.Path.{◌∙◌, ◌≡◌}
 use Prim.Native.Nat.{◌<◌, ◌≤◌, ℕ}
-use lib.Pow.{low}
 use Rattle.laws.proofs.Out.{holds-done}
-use Rattle.laws.specs.Out.{done}
 use Rattle.laws.specs.Puts.{Bytes}
 use Rattle.image.proofs.FormLaws.{top-some}
 use Rattle.image.specs.Format.{top_at, top_of}
@@ -17,7 +16,7 @@ use Rattle.image.specs.declared.format.PixelFormat.{PixelFormat}
 use Rattle.planes.specs.Picture.{Pic, pixel}
 use Rattle.fill.proofs.TopLaws.{fill-alpha-top, fill-top}
 use Rattle.fill.specs.Fill.{fill_alpha_of}
-use Rattle.fill.specs.declared.Colour.{Colour}
+use Rattle.fill.specs.declared.Nclx.{Nclx}
 use Rattle.derived.proofs.Taken.{overlay-fill}
 use Rattle.derived.specs.declared.overlay.Fill.{Fill}
 use Rattle.overlay.proofs.CoveredLaws.{settles, uncovered}
@@ -32,7 +31,7 @@ use Rattle.inputs.specs.Inputs.{Inputs, composed_form, first_form, first_format,
 use Rattle.overlay.specs.Run.{composed, fill_for, fill_part}
 
 -- every sample of a fill is at most top
-pub fill-low : (k : Fill) (depth : ℕ) (colour : Colour) → k.alpha ≤ 65535 → 8 ≤ depth → depth ≤ 16 → (p : Part) → fill_for k depth colour p ≤ top_at depth
+pub fill-low : (k : Fill) (depth : ℕ) (colour : Option Nclx) → k.alpha ≤ 65535 → 8 ≤ depth → depth ≤ 16 → (p : Part) → fill_for k depth colour p ≤ top_at depth
 unfolding fill_for fill_part
 fill-low k depth colour a l h Luma = (holds-done _ _ _ (fill-top k.red k.green k.blue depth colour) (fill-taken k depth colour l h)).y
 fill-low k depth colour a l h Cb = (holds-done _ _ _ (fill-top k.red k.green k.blue depth colour) (fill-taken k depth colour l h)).cb
@@ -53,7 +52,7 @@ module _ (f : PixelFormat) (width height alpha : ℕ) (fill : Part → ℕ) (ls 
 
 -- ---- of what is composed from a body's bytes and inputs that were taken
 
-module _ (body tray list : List ℕ) (colour : Colour) (n at : ℕ) (q : Inputs) (small : Bytes body) (taken : inputs_at body tray list n at ≡ done q) where
+module _ (body tray list : List ℕ) (colour : Option Nclx) (n at : ℕ) (q : Inputs) (small : Bytes body) (taken : inputs_at body tray list n at ≡ Ok q) where
   -- the first input's format, the inputs in list order, and the fill
   abbrev first : PixelFormat
   first = first_format q.frames

@@ -1,4 +1,5 @@
 -- Laws of stripes: stored in a canvas's record, they are its picture's next samples.
+use Rattle.std.specs.Prelude.{Option}
 use mathlib.Core.Bool.{false, true}
 use mathlib.Core.List.{List, ◌++◌}
 use mathlib.Core.Path.{◌∙◌, ◌≡◌, ap, ap₂, refl, sym}
@@ -39,6 +40,7 @@ use Rattle.blend.specs.Overlay.{backdrop, base, final_sample, over_all, overlay_
 use Rattle.blend.specs.declared.over.Stripe.{Stripe}
 use Rattle.blend.specs.inner.Stripe.{StripeFits, across_at, down_at}
 use Rattle.blocks.proofs.ListLaws.{list-missed}
+use Rattle.blocks.specs.declared.list.Entry.{Entry}
 use Rattle.blocks.specs.inner.Listed.{AllMissed, Whole}
 use Rattle.overlay.proofs.CoveredLaws.{unchanged}
 use Rattle.overlay.proofs.FlatLaws.{flat_rows}
@@ -397,16 +399,16 @@ run_room {q = q} c r k p h t b n e g l = rw (e, g) (omega (arith, ready-room c r
 
 -- ---- a stripe written, or passed over
 
-module _ {body tray list : List ℕ} {q : Plan} {g : Backdrop} {r : Stripe} {e : List ℕ} {n : ℕ} (k : StripeReady body tray list q g r e n) where
+module _ {body tray list : List ℕ} {q : Plan} {g : Backdrop} {r : Stripe} {e : List Entry} {inputs : Option ℕ} (k : StripeReady body tray list q g r e inputs) where
   abbrev ls : List Layer
   ls = layers_at body tray list q
 
-  pub ready-clear : AllMissed e n r.start r.count → (d : List ℕ) → Continued q.form (backdrop_fill g) ls r.start (r.start + r.count) d d
+  pub ready-clear : AllMissed e inputs r.start r.count → (d : List ℕ) → Continued q.form (backdrop_fill g) ls r.start (r.start + r.count) d d
   ready-clear a d =
       stripe-clear q.form k.canvas.whole k.canvas.plan.form.wide (backdrop_fill g) ls r k.run.columns k.run.whole k.run.ends d
       (λ p j h.
       unchanged (top_of q.form.format) (top-some q.form.format k.canvas.plan.form.low) (backdrop_fill g) (λ t. rw (← k.canvas.top) (k.canvas.low t)) (across_at r j) (down_at r j) ls
-      (λ t. list-missed body tray list q.descriptor q.first (top_of q.form.format) t r k.run.whole (ready-fits k.canvas r k.run).wide e n (k.listed a.few) j h _ a) p)
+      (λ t. list-missed body tray list q.descriptor q.first (top_of q.form.format) t r k.run.whole (ready-fits k.canvas r k.run).wide e a.many (k.listed a.many a.listed) j h _ a.each) p)
 
   pub ready-drawn : (d d1 d2 d3 d4 : List ℕ) → size_of q.form ≤ length d → d1 ≡ colour_stripe q.form g.top (backdrop_fill g) ls Luma r d → d2 ≡ colour_stripe q.form g.top (backdrop_fill g) ls Cb r d1
       → d3 ≡ colour_stripe q.form g.top (backdrop_fill g) ls Cr r d2 → d4 ≡ alpha_stripe q.form g.top (backdrop_fill g) ls r d3 → Continued q.form (backdrop_fill g) ls r.start (r.start + r.count) d d4

@@ -16,7 +16,7 @@ ghost use Rattle.blend.specs.inner.Stripe.{across_at, down_at, StripeFits};
 ghost use Rattle.overlay.specs.inner.Block.{backdrop_fill, layers_at, PlanSound};
 
 use crate::stripes::write_overlay;
-use fill::{Colour, Filled, Ycbcr};
+use fill::{Nclx, Ycbcr};
 use image::Part;
 use inputs::Plan;
 
@@ -28,6 +28,7 @@ pub(crate) struct Backdrop {
     pub top: u16,
 }
 
+#[tactic(auto, unfolding(crate::specs::Run::fill_part))]
 pub(crate) fn fill_part(g: Backdrop, part: Part) -> u16
     ensures { result ≡ backdrop_fill g part }
 {
@@ -41,14 +42,13 @@ pub(crate) fn fill_part(g: Backdrop, part: Part) -> u16
 }
 
 // What a plane starts from: colour times opacity, or opacity.
+#[tactic(auto, unfolding(blend::specs::Overlay::backdrop, crate::specs::Run::fill_part))]
 pub(crate) fn backdrop_of(g: Backdrop, part: Part) -> u32
     ensures { result ≡ backdrop (backdrop_fill g) part }
 {
     let fill = fill_part(g, part) as u32;
     match part {
-        Part::Luma => fill * g.alpha as u32,
-        Part::Cb => fill * g.alpha as u32,
-        Part::Cr => fill * g.alpha as u32,
+        Part::Luma | Part::Cb | Part::Cr => fill * g.alpha as u32,
         Part::Alpha => fill,
     }
 }
@@ -74,7 +74,7 @@ pub fn draw_overlay(
     tray: &[u8],
     premultiplied: &[u8],
     plan: Plan,
-    colour: Colour,
+    colour: Option<Nclx>,
 ) -> usize
     requires { PlanSound body.now tray.now premultiplied.now plan
         × (length (encode (overlay_pic plan.form (fill_for plan.descriptor.canvas_fill plan.form.format.depth colour) (layers_at body.now tray.now premultiplied.now plan))) ≤ length out.old) }
@@ -83,20 +83,16 @@ pub fn draw_overlay(
 {
     let form = plan.form;
     let f = form.format;
-    let d = plan.descriptor;
-    let fill = d.canvas_fill;
-    let Filled::Samples(samples) = fill::fill_to_ycbcr(
-        fill.red, fill.green, fill.blue, f.depth, colour,
-    ) else {
-        return 0;
-    };
+    let fill = plan.descriptor.canvas_fill;
+    let samples = fill::fill_to_ycbcr(fill.red, fill.green, fill.blue, f.depth, colour).unwrap();
     let g = Backdrop {
         colour: samples,
         alpha: fill::fill_alpha(fill.alpha, f.depth),
         top: f.top(),
     };
     if plan.alpha {
-        return write_overlay(out, body, tray, premultiplied, plan, g);
+        write_overlay(out, body, tray, premultiplied, plan, g)
+    } else {
+        write_opaque(out, body, tray, plan, g)
     }
-    write_opaque(out, body, tray, plan, g)
 }

@@ -9,10 +9,8 @@ ghost use Rattle.laws.specs.Out.{answer_of, written};
 ghost use Rattle.overlay.specs.Run.{overlay_run};
 
 pub use crate::draw::draw_overlay;
-use fill::Colour;
-use inputs::{AlphaRead, PlanRead};
-use laws::{Answer, Refusal};
-use numbers::NumberRead;
+use fill::Nclx;
+use laws::Refusal;
 
 // Composes an overlay. Refusals: 5 a tray count that cannot be read; 1, 2, 1, 3, 4, 4, 1 of the body; 15 no inputs; 11 a list of
 // another length; the records in turn and 5 what is left over; 14 a depth that differs; 16 an alpha sample above top; 17.
@@ -20,31 +18,17 @@ pub fn composite_overlay(
     body: &[u8],
     tray: &[u8],
     premultiplied: &[u8],
-    colour: Colour,
+    colour: Option<Nclx>,
     out: &mut [u8],
-) -> Answer
+) -> Result<usize, Refusal>
     ensures { (result ≡ answer_of (overlay_run body.now tray.now premultiplied.now colour (length out.old)))
         × (out.new ≡ written (overlay_run body.now tray.now premultiplied.now colour (length out.old)) out.old) }
 {
-    let NumberRead::Number {
-        value: count,
-        next: first,
-    } = numbers::read_number(tray, 0)
-    else {
-        return Answer::Refused(Refusal::MALFORMED);
-    };
-    match inputs::read_inputs(body, tray, premultiplied, count, first) {
-        PlanRead::Refused(e) => Answer::Refused(e),
-        PlanRead::Read(plan) => {
-            let form = plan.form;
-            let format = form.format;
-            if let AlphaRead::Refused(e) = inputs::check_alpha(tray, first, count, format.top()) {
-                return Answer::Refused(e);
-            }
-            if out.len() < planes::record_size(form) {
-                return Answer::Refused(Refusal::ROOM);
-            }
-            Answer::Wrote(draw_overlay(out, body, tray, premultiplied, plan, colour))
-        }
+    let (count, first) = numbers::read_number(tray, 0)?;
+    let plan = inputs::read_inputs(body, tray, premultiplied, count, first)?;
+    inputs::check_alpha(tray, first, count, plan.form.format.top())?;
+    if out.len() < planes::record_size(plan.form) {
+        return Err(Refusal::ROOM);
     }
+    Ok(draw_overlay(out, body, tray, premultiplied, plan, colour))
 }

@@ -13,7 +13,7 @@ ghost use Rattle.overlay.specs.inner.Striped.{BlockReady, CanvasReady, Continued
 
 use crate::draw::{Backdrop, backdrop_of, fill_part};
 use blend::Stripe;
-use blocks::{fit_block, is_clear, over_stripe};
+use blocks::{Entry, fit_block, is_clear, over_stripe};
 use image::Part;
 use inputs::Plan;
 use records::Frame;
@@ -23,18 +23,14 @@ fn fill_run(acc: &mut [u32], n: usize, v: u32)
     requires { n ≤ length acc.old }
     ensures { (j : ℕ) → j < n → get_or acc.new j 0 ≡ v }
 {
-    let mut i: usize = 0;
-    while i < n {
-        acc[i] = v;
-        i += 1;
-    }
+    acc[..n].fill(v);
 }
 
 // What a plane of a stripe carries under all inputs: colour times opacity, or opacity. An opaque canvas stays opaque.
 fn carry(
     acc: &mut [u32],
-    entries: &[usize],
-    n: usize,
+    entries: &[Entry],
+    inputs: Option<usize>,
     body: &[u8],
     tray: &[u8],
     premultiplied: &[u8],
@@ -43,7 +39,7 @@ fn carry(
     part: Part,
     run: Stripe,
 )
-    requires { StripeReady body.now tray.now premultiplied.now plan g run entries.now n × (run.count ≤ length acc.old) }
+    requires { StripeReady body.now tray.now premultiplied.now plan g run entries.now inputs × (run.count ≤ length acc.old) }
     ensures { (j : ℕ) → j < run.count → get_or acc.new j 0
         ≡ over_all g.top part (across_at run j) (down_at run j) (layers_at body.now tray.now premultiplied.now plan) (backdrop (backdrop_fill g) part) }
 {
@@ -51,7 +47,7 @@ fn carry(
     over_stripe(
         acc,
         entries,
-        n,
+        inputs,
         body,
         tray,
         premultiplied,
@@ -65,8 +61,8 @@ fn carry(
 
 fn carry_opacity(
     acc: &mut [u32],
-    entries: &[usize],
-    n: usize,
+    entries: &[Entry],
+    inputs: Option<usize>,
     body: &[u8],
     tray: &[u8],
     premultiplied: &[u8],
@@ -74,26 +70,26 @@ fn carry_opacity(
     g: Backdrop,
     run: Stripe,
 )
-    requires { StripeReady body.now tray.now premultiplied.now plan g run entries.now n × (run.count ≤ length acc.old) }
+    requires { StripeReady body.now tray.now premultiplied.now plan g run entries.now inputs × (run.count ≤ length acc.old) }
     ensures { (j : ℕ) → j < run.count → get_or acc.new j 0
         ≡ over_all g.top Alpha (across_at run j) (down_at run j) (layers_at body.now tray.now premultiplied.now plan) (backdrop (backdrop_fill g) Alpha) }
 {
     if g.alpha == g.top {
         fill_run(acc, run.count, g.top as u32);
-        return;
+    } else {
+        carry(
+            acc,
+            entries,
+            inputs,
+            body,
+            tray,
+            premultiplied,
+            plan,
+            g,
+            Part::Alpha,
+            run,
+        );
     }
-    carry(
-        acc,
-        entries,
-        n,
-        body,
-        tray,
-        premultiplied,
-        plan,
-        g,
-        Part::Alpha,
-        run,
-    );
 }
 
 // Writes a stripe of a colour plane, if the canvas has it.
@@ -102,8 +98,8 @@ fn write_colour(
     to: Frame,
     colour: &mut [u32],
     opacity: &[u32],
-    entries: &[usize],
-    n: usize,
+    entries: &[Entry],
+    inputs: Option<usize>,
     body: &[u8],
     tray: &[u8],
     premultiplied: &[u8],
@@ -112,7 +108,7 @@ fn write_colour(
     part: Part,
     run: Stripe,
 )
-    requires { StripeReady body.now tray.now premultiplied.now plan g run entries.now n × (to ≡ tight_at plan.form 0) × (run.count ≤ length colour.old) × (run.count ≤ length opacity.now)
+    requires { StripeReady body.now tray.now premultiplied.now plan g run entries.now inputs × (to ≡ tight_at plan.form 0) × (run.count ≤ length colour.old) × (run.count ≤ length opacity.now)
         × (size_of plan.form ≤ length out.old)
         × ((j : ℕ) → j < run.count → get_or opacity.now j 0
         ≡ over_all g.top Alpha (across_at run j) (down_at run j) (layers_at body.now tray.now premultiplied.now plan) (backdrop (backdrop_fill g) Alpha)) }
@@ -127,7 +123,7 @@ fn write_colour(
     carry(
         colour,
         entries,
-        n,
+        inputs,
         body,
         tray,
         premultiplied,
@@ -141,19 +137,19 @@ fn write_colour(
     let at = plane.start + run.start * bytes;
     if g.alpha == g.top {
         blend::write_solid(out, at, bytes, colour, run.count, g.top);
-        return;
+    } else {
+        blend::write_run(
+            out,
+            at,
+            bytes,
+            colour,
+            opacity,
+            run.count,
+            g.top,
+            Part::Luma,
+            fill_part(g, part),
+        );
     }
-    blend::write_run(
-        out,
-        at,
-        bytes,
-        colour,
-        opacity,
-        run.count,
-        g.top,
-        Part::Luma,
-        fill_part(g, part),
-    );
 }
 
 // Writes a stripe of the alpha plane, if the canvas has it.
@@ -201,8 +197,8 @@ fn write_stripe(
     to: Frame,
     colour: &mut [u32],
     opacity: &mut [u32],
-    entries: &[usize],
-    n: usize,
+    entries: &[Entry],
+    inputs: Option<usize>,
     body: &[u8],
     tray: &[u8],
     premultiplied: &[u8],
@@ -210,22 +206,32 @@ fn write_stripe(
     g: Backdrop,
     run: Stripe,
 )
-    requires { StripeReady body.now tray.now premultiplied.now plan g run entries.now n × (to ≡ tight_at plan.form 0) × (run.count ≤ length colour.old) × (run.count ≤ length opacity.old)
+    requires { StripeReady body.now tray.now premultiplied.now plan g run entries.now inputs × (to ≡ tight_at plan.form 0) × (run.count ≤ length colour.old) × (run.count ≤ length opacity.old)
         × (size_of plan.form ≤ length out.old) }
     ensures { Continued plan.form (backdrop_fill g) (layers_at body.now tray.now premultiplied.now plan) run.start (run.start + run.count)
         out.old out.new }
 {
-    if is_clear(entries, n, run.start, run.count) {
+    if is_clear(entries, inputs, run.start, run.count) {
         return;
     }
-    carry_opacity(opacity, entries, n, body, tray, premultiplied, plan, g, run);
+    carry_opacity(
+        opacity,
+        entries,
+        inputs,
+        body,
+        tray,
+        premultiplied,
+        plan,
+        g,
+        run,
+    );
     write_colour(
         out,
         to,
         colour,
         opacity,
         entries,
-        n,
+        inputs,
         body,
         tray,
         premultiplied,
@@ -240,7 +246,7 @@ fn write_stripe(
         colour,
         opacity,
         entries,
-        n,
+        inputs,
         body,
         tray,
         premultiplied,
@@ -255,7 +261,7 @@ fn write_stripe(
         colour,
         opacity,
         entries,
-        n,
+        inputs,
         body,
         tray,
         premultiplied,
@@ -273,8 +279,8 @@ fn write_block(
     to: Frame,
     colour: &mut [u32],
     opacity: &mut [u32],
-    entries: &[usize],
-    n: usize,
+    entries: &[Entry],
+    inputs: Option<usize>,
     body: &[u8],
     tray: &[u8],
     premultiplied: &[u8],
@@ -283,7 +289,7 @@ fn write_block(
     start: usize,
     count: usize,
 )
-    requires { CanvasReady body.now tray.now premultiplied.now plan g × BlockReady body.now tray.now plan start count entries.now n × (to ≡ tight_at plan.form 0)
+    requires { CanvasReady body.now tray.now premultiplied.now plan g × BlockReady body.now tray.now plan start count entries.now inputs × (to ≡ tight_at plan.form 0)
         × (1024 ≤ length colour.old) × (1024 ≤ length opacity.old) × (size_of plan.form ≤ length out.old) }
     ensures { Continued plan.form (backdrop_fill g) (layers_at body.now tray.now premultiplied.now plan) start (start + count)
         out.old out.new }
@@ -298,7 +304,7 @@ fn write_block(
             half_across: false,
             half_down: false,
             start: s,
-            count: numbers::min(end - s, 1024),
+            count: (end - s).min(1024),
         };
         write_stripe(
             out,
@@ -306,7 +312,7 @@ fn write_block(
             colour,
             opacity,
             entries,
-            n,
+            inputs,
             body,
             tray,
             premultiplied,
@@ -323,14 +329,14 @@ fn write_blocks(
     out: &mut [u8],
     colour: &mut [u32],
     opacity: &mut [u32],
-    entries: &mut [usize],
+    entries: &mut [Entry],
     body: &[u8],
     tray: &[u8],
     premultiplied: &[u8],
     plan: Plan,
     g: Backdrop,
 )
-    requires { CanvasReady body.now tray.now premultiplied.now plan g × (1024 ≤ length colour.old) × (1024 ≤ length opacity.old) × (4096 ≤ length entries.old)
+    requires { CanvasReady body.now tray.now premultiplied.now plan g × (1024 ≤ length colour.old) × (1024 ≤ length opacity.old) × (1024 ≤ length entries.old)
         × (size_of plan.form ≤ length out.old) }
     ensures { Continued plan.form (backdrop_fill g) (layers_at body.now tray.now premultiplied.now plan) 0 (plan.form.height * plan.form.width)
         out.old out.new }
@@ -352,42 +358,38 @@ fn write_blocks(
             first,
             columns,
             start,
-            numbers::min(most, total - start),
+            most.min(total - start),
         );
-        let count = b.count;
-        let n = b.inputs;
         write_block(
             out,
             to,
             colour,
             opacity,
             entries,
-            n,
+            b.inputs,
             body,
             tray,
             premultiplied,
             plan,
             g,
             start,
-            count,
+            b.count,
         );
-        start += count;
-        most = next_length(count, n);
+        start += b.count;
+        most = next_length(b.count, b.inputs);
     }
 }
 
-// How long the next block may be.
-fn next_length(count: usize, n: usize) -> usize
+// How long the next block may be, by how many inputs met the last.
+fn next_length(count: usize, inputs: Option<usize>) -> usize
     requires { (1 ≤ count) × (count ≤ 2 ^ 30) }
     ensures { 1 ≤ result }
 {
-    if n <= 512 {
-        return 2 * count;
+    match inputs {
+        Some(n) if n <= 512 => 2 * count,
+        Some(n) if n <= 896 => count + count / 8,
+        _ => count,
     }
-    if n <= 896 {
-        return count + count / 8;
-    }
-    count
 }
 
 // Writes the record of the composed picture over a backdrop, at the start.
@@ -408,7 +410,7 @@ pub(crate) fn write_overlay(
     let size = paste::paint_canvas(out, form, form, c.y, c.cb, c.cr, g.alpha);
     let mut colour = [0u32; 1024];
     let mut opacity = [0u32; 1024];
-    let mut entries = [0usize; 4096];
+    let mut entries = [Entry::NONE; 1024];
     write_blocks(
         out,
         &mut colour,

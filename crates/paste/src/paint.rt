@@ -17,9 +17,10 @@ pub fn paint_plane(out: &mut [u8], at: usize, form: Form, part: Part, v: u16) ->
     if f.has(part) {
         let a = planes::write_plane_head(out, at, form, part);
         let n = f.columns(form.width, part) * f.rows(form.height, part);
-        return planes::fill_row(out, a, f.bytes_per_sample(), v, n);
+        planes::fill_row(out, a, f.bytes_per_sample(), v, n)
+    } else {
+        at
     }
-    at
 }
 
 // The record of a canvas at the start: a header that says that form, and planes of one sample each. Returns the place past it.

@@ -1,5 +1,5 @@
 // Rows of samples stored one below the other.
-ghost use Rattle.std.specs.Prelude.{◌≡◌, ◌+◌, ◌*◌, ◌≤◌, ◌<◌, ◌^◌, min, ℕ, length};
+ghost use Rattle.std.specs.Prelude.{◌≡◌, ◌+◌, ◌*◌, ◌≤◌, ◌<◌, ◌^◌, ℕ, length};
 ghost use Rattle.planes.specs.Bytes.{samples_of};
 ghost use Rattle.paste.specs.Stored.{store_rows};
 ghost use Rattle.paste.specs.inner.Source.{RowsFit, capped_row, source_row};
@@ -35,8 +35,7 @@ pub fn store_rows(
     let half = planes::shift(s.half_across);
     let bytes = s.bytes;
     let x = s.x;
-    let mut k: usize = 0;
-    while k < down {
+    for k in 0..down {
         let line = Line {
             origin: planes::covering(s.half_down, s.y + k) * s.stride,
             step: bytes,
@@ -46,18 +45,7 @@ pub fn store_rows(
             half,
         };
         planes::write_line(out, at + k * stride, plane, bytes, line, across);
-        k += 1;
     }
-}
-
-// A sample held to top.
-fn capped(v: u16, top: u16) -> u16
-    ensures { result ≡ min v top }
-{
-    if v < top {
-        return v;
-    }
-    top
 }
 
 // A row of samples, each held to top, at `at`.
@@ -77,13 +65,11 @@ fn store_capped_row(
     let bytes = s.bytes;
     let stride = s.stride;
     let row = planes::covering(s.half_down, s.y + k);
-    let mut i: usize = 0;
     let mut to = at;
-    while i < across {
+    for i in 0..across {
         let column = planes::covering(s.half_across, s.x + i);
         let v = planes::sample(plane, bytes, stride, column, row);
-        to = planes::put_sample(out, to, bytes, capped(v, top));
-        i += 1;
+        to = planes::put_sample(out, to, bytes, v.min(top));
     }
 }
 
@@ -101,10 +87,8 @@ pub fn store_capped(
     requires { RowsFit (length out.old) (length plane.now) at stride across down s }
     ensures { out.new ≡ store_rows out.old at stride (capped_row plane.now s top across) down }
 {
-    let mut k: usize = 0;
-    while k < down {
+    for k in 0..down {
         store_capped_row(out, at + k * stride, across, plane, s, top, k);
-        k += 1;
     }
 }
 
@@ -121,9 +105,7 @@ pub fn store_even(
     requires { (1 ≤ bytes) × (bytes ≤ 2) × ((k : ℕ) → k < down → at + k * stride + across * bytes ≤ length out.old) }
     ensures { out.new ≡ store_rows out.old at stride (λ k. samples_of bytes (λ i. v) across) down }
 {
-    let mut k: usize = 0;
-    while k < down {
+    for k in 0..down {
         planes::fill_row(out, at + k * stride, bytes, v, across);
-        k += 1;
     }
 }

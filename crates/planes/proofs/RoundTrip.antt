@@ -1,4 +1,5 @@
 -- What was encoded reads back: the tight record of a picture is taken, and shows the picture.
+use Rattle.std.specs.Prelude.{Ok}
 use mathlib.Core.Bool.{Bool, false, true}
 use mathlib.Core.List.{List, [], ◌++◌, ◌∷◌, append_assoc, append-nil}
 use mathlib.Core.Path.{◌∙◌, ◌≡◌, ap, ap₂, refl, sym}
@@ -11,7 +12,7 @@ use borrow.Author.Tests.{eq-eqb, le-ltb, ne_eqb}
 use Rattle.laws.proofs.Order.{by_equal, by-test, pick-false, pick_true}
 use Rattle.laws.proofs.Out.{refuse-no, then-done}
 use Rattle.laws.proofs.Span.{item-at, length-span-all, span-cong}
-use Rattle.laws.specs.Out.{done, fitted}
+use Rattle.laws.specs.Out.{fitted}
 use Rattle.laws.specs.Pick.{pick}
 use Rattle.numbers.proofs.Number.{at_head, number_at, past-append}
 use Rattle.numbers.specs.Number.{number_bytes, on_number}
@@ -72,7 +73,7 @@ placed-none m p at h = pick-false _ _ _ h
 module _ (P : Pic) (ok : FormSound P.form) where
   -- a plane that is there: its two numbers are read, and its rows stand past them
   plane-back : (s : List ℕ) (at : ℕ) (p : Part) (rest : List ℕ) → drop at s ≡ (plane_head P.form p ++ rows_bytes P p) ++ rest
-      → (plane_at s at (rows_of P.form p) (row_size P.form p) ≡ done (record { start = at + length (plane_head P.form p); len = rows_of P.form p * row_size P.form p; stride = row_size P.form p }))
+      → (plane_at s at (rows_of P.form p) (row_size P.form p) ≡ Ok (record { start = at + length (plane_head P.form p); len = rows_of P.form p * row_size P.form p; stride = row_size P.form p }))
       × (drop (at + length (plane_head P.form p)) s ≡ rows_bytes P p ++ rest)
   unfolding plane_at on_number plane_head
   plane-back s at p rest e =
@@ -89,7 +90,7 @@ module _ (P : Pic) (ok : FormSound P.form) where
       let t2 : row * (rows - 1) + row ≤ rows * row = tight rows row (rows-some P.form ok p) in
       let t3 : rows * row ≤ length s - (at + length a + length b) = omega (arith, sym (length-drop (at + length a + length b) s) ∙ ap length e3, length-append (rows_bytes P p) rest, length-rows_bytes P p) in (
         simp (r1, r2) (refuse-no _ _ (le-ltb row row (omega arith)) ∙ refuse-no _ _ (le-ltb (rows * row) (row * (rows - 1) + row) t2) ∙ refuse-no _ _ (le-ltb (length s - (at + length a + length b)) (rows * row) t3)
-            ∙ ap (λ (n : ℕ). done (record { start = n; len = rows * row; stride = row })) q),
+            ∙ ap (λ (n : ℕ). Ok (record { start = n; len = rows * row; stride = row })) q),
         ap (λ (n : ℕ). drop n s) (sym q) ∙ e3,
       )
     where
@@ -102,20 +103,20 @@ module _ (P : Pic) (ok : FormSound P.form) where
           rw x (omega arith)
 
   pub part-back : (s : List ℕ) (at : ℕ) (p : Part) (rest : List ℕ) → drop at s ≡ plane_bytes P p ++ rest
-      → (part_at s at P.form p ≡ done (placed P.form p at)) × (drop (past (placed P.form p at)) s ≡ rest)
+      → (part_at s at P.form p ≡ Ok (placed P.form p at)) × (drop (past (placed P.form p at)) s ≡ rest)
   unfolding part_at past
   part-back s at p rest e =
       by-test (has_part P.form.format p)
       (λ h.
       let b = plane-back s at p rest (e ∙ ap (λ (l : List ℕ). l ++ rest) (plane-some P p h)) in
       let l : length (rows_bytes P p) ≡ rows_of P.form p * row_size P.form p = length-rows_bytes P p in (
-        pick_true _ _ _ h ∙ b.0 ∙ ap done (sym (placed-some P.form p at h)),
+        pick_true _ _ _ h ∙ b.0 ∙ ap Ok (sym (placed-some P.form p at h)),
         ap (λ (q : Plane). drop (q.start + q.len) s) (placed-some P.form p at h)
             ∙ ap (λ (n : ℕ). drop (at + length (plane_head P.form p) + n) s) (sym l) ∙ past-append s _ (rows_bytes P p) rest b.1,
       ))
       (λ h.
       let z : at + 0 ≡ at = omega arith in (
-        pick-false _ _ _ h ∙ ap done (sym (placed-none P.form p at h)),
+        pick-false _ _ _ h ∙ ap Ok (sym (placed-none P.form p at h)),
         ap (λ (q : Plane). drop (q.start + q.len) s) (placed-none P.form p at h) ∙ ap (λ (n : ℕ). drop n s) z ∙ e ∙ ap (λ (l : List ℕ). l ++ rest) (plane-none P p h),
       ))
 
@@ -131,7 +132,7 @@ data-back P ok s at p rest h e =
 -- ---- the header
 
 pub head-back : (m : Form) → FormSound m → (s : List ℕ) (at : ℕ) (rest : List ℕ) → drop at s ≡ head_bytes m ++ rest
-    → (head_at s at ≡ done (record { form = m; next = at + length (head_bytes m) })) × (drop (at + length (head_bytes m)) s ≡ rest)
+    → (head_at s at ≡ Ok ((m, at + length (head_bytes m)))) × (drop (at + length (head_bytes m)) s ≡ rest)
 unfolding head_at head_of head_bytes on_number
 head-back m ok s at rest e =
     let f = m.format in
@@ -152,7 +153,7 @@ head-back m ok s at rest e =
     let r3 = number_at s (at + length a + length b + length c) f.depth _ e3 (omega (arith, ok.high)) in
     let r4 = number_at s (at + length a + length b + length c + length d) f.alpha _ e4 (omega (arith, ok.alpha)) in
     let q : at + length a + length b + length c + length d + length g ≡ at + length (a ++ (b ++ (c ++ (d ++ g)))) = simp length-append (omega arith) in (
-      simp (r0, r1, r2, r3, r4) (then-done _ (form-taken m ok) ∙ ap (λ (n : ℕ). done (record { form = m; next = n })) q),
+      simp (r0, r1, r2, r3, r4) (then-done _ (form-taken m ok) ∙ ap (λ (n : ℕ). Ok ((m, n))) q),
       ap (λ (n : ℕ). drop n s) (sym q) ∙ e5,
     )
 
@@ -166,7 +167,7 @@ tight-planes m at a luma cb cr alpha e p q r t = rw (← e, ← p, ← q, ← r,
 
 -- the tight record of a picture is taken where it stands, its planes hold the picture's rows, and what follows it stands past its end
 pub record Back (P : Pic) (s : List ℕ) (at : ℕ) (rest : List ℕ) : Type 0 where
-  pub taken : record_at s at ≡ done (tight_at P.form at)
+  pub taken : record_at s at ≡ Ok (tight_at P.form at)
   pub rows : (p : Part) → has_part P.form.format p ≡ true → data_of s (plane_of (tight_at P.form at) p) ≡ rows_bytes P p
   pub stride : (p : Part) → has_part P.form.format p ≡ true → (plane_of (tight_at P.form at) p).stride ≡ row_size P.form p
   pub after : drop (tight_at P.form at).end s ≡ rest
@@ -190,28 +191,28 @@ record-back P ok s at rest e =
     a : List ℕ
     a = plane_bytes P Alpha
 
-    k0 : (head_at s at ≡ done (record { form = P.form; next = at + length (head_bytes P.form) })) × (drop (at + length (head_bytes P.form)) s ≡ plane_bytes P Luma ++ (b ++ (r ++ (a ++ rest))))
+    k0 : (head_at s at ≡ Ok ((P.form, at + length (head_bytes P.form)))) × (drop (at + length (head_bytes P.form)) s ≡ plane_bytes P Luma ++ (b ++ (r ++ (a ++ rest))))
     k0 = head-back P.form ok s at (plane_bytes P Luma ++ (b ++ (r ++ (a ++ rest)))) (e ∙ simp append_assoc)
 
     l : Plane
     l = placed P.form Luma (at + length (head_bytes P.form))
 
-    k1 : (part_at s (at + length (head_bytes P.form)) P.form Luma ≡ done l) × (drop (past l) s ≡ b ++ (r ++ (a ++ rest)))
+    k1 : (part_at s (at + length (head_bytes P.form)) P.form Luma ≡ Ok l) × (drop (past l) s ≡ b ++ (r ++ (a ++ rest)))
     k1 = part-back P ok s _ Luma (b ++ (r ++ (a ++ rest))) k0.1
 
     c : Plane
     c = placed P.form Cb (past l)
 
-    k2 : (part_at s (past l) P.form Cb ≡ done c) × (drop (past c) s ≡ r ++ (a ++ rest))
+    k2 : (part_at s (past l) P.form Cb ≡ Ok c) × (drop (past c) s ≡ r ++ (a ++ rest))
     k2 = part-back P ok s _ Cb (r ++ (a ++ rest)) k1.1
 
     d : Plane
     d = placed P.form Cr (past c)
 
-    k3 : (part_at s (past c) P.form Cr ≡ done d) × (drop (past d) s ≡ a ++ rest)
+    k3 : (part_at s (past c) P.form Cr ≡ Ok d) × (drop (past d) s ≡ a ++ rest)
     k3 = part-back P ok s _ Cr (a ++ rest) k2.1
 
-    k4 : (part_at s (past d) P.form Alpha ≡ done (placed P.form Alpha (past d))) × (drop (past (placed P.form Alpha (past d))) s ≡ rest)
+    k4 : (part_at s (past d) P.form Alpha ≡ Ok (placed P.form Alpha (past d))) × (drop (past (placed P.form Alpha (past d))) s ≡ rest)
     k4 = part-back P ok s _ Alpha rest k3.1
 
     rows : (p : Part) → has_part P.form.format p ≡ true → data_of s (plane_of (tight_at P.form at) p) ≡ rows_bytes P p
@@ -227,7 +228,7 @@ record-back P ok s at rest e =
     stride Alpha h = ap (λ (q : Plane). q.stride) (placed-some P.form Alpha _ h)
 
 -- alone: it is the record, and nothing is left over
-pub encode-back : (P : Pic) → FormSound P.form → record_of (encode P) ≡ done (tight_at P.form 0)
+pub encode-back : (P : Pic) → FormSound P.form → record_of (encode P) ≡ Ok (tight_at P.form 0)
 unfolding record_of
 encode-back P ok =
     let k = record-back P ok (encode P) 0 [] (sym (append-nil (encode P))) in
@@ -339,7 +340,7 @@ drawn-as room A B a = ap (fitted room) (sym (encode-agree A B a))
 
 -- THE READ-BACK LAW: what was encoded is taken where it stands, and shows the picture
 pub decode-encode : (P : Pic) → FormSound P.form → Small P → (s : List ℕ) (at : ℕ) (rest : List ℕ) → drop at s ≡ encode P ++ rest
-    → (record_at s at ≡ done (tight_at P.form at)) × Agree (decode s (tight_at P.form at)) P
+    → (record_at s at ≡ Ok (tight_at P.form at)) × Agree (decode s (tight_at P.form at)) P
 unfolding decode tight_at
 decode-encode P ok k s at rest e =
     let b = record-back P ok s at rest e in (

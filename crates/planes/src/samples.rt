@@ -1,5 +1,5 @@
 // Samples and rows of a plane. A plane is a part of the slice that holds its record, handed on as a slice of its own.
-ghost use Rattle.std.specs.Prelude.{[], ◌∷◌, ◌≡◌, ◌+◌, ◌*◌, ◌≤◌, length};
+ghost use Rattle.std.specs.Prelude.{◌≡◌, ◌+◌, ◌*◌, ◌≤◌, length};
 ghost use Rattle.laws.specs.Pick.{pick};
 ghost use Rattle.laws.specs.Puts.{puts};
 ghost use Rattle.image.specs.Format.{cover};
@@ -12,39 +12,39 @@ use image::{Part, PixelFormat};
 use records::Plane;
 
 // A plane's own bytes.
+#[tactic(auto, unfolding(records::specs::Record::data_of))]
 pub fn plane_data(s: &[u8], p: Plane) -> &[u8]
     requires { p.start + p.len ≤ length s.now }
     ensures { result.now ≡ data_of s.now p }
 {
-    let a = p.start;
-    let e = p.start + p.len;
-    &s[a..e]
+    &s[p.start..p.start + p.len]
 }
 
 // The sample at a column and a row of a plane.
+#[tactic(auto, unfolding(crate::specs::Bytes::sample_in, crate::specs::Bytes::sample_at, laws::specs::Pick::pick))]
 pub fn sample(plane: &[u8], bytes: usize, stride: usize, x: usize, y: usize) -> u16
     requires { (1 ≤ bytes) × (bytes ≤ 2) × (y * stride + x * bytes + bytes ≤ length plane.now) }
     ensures { result ≡ sample_in plane.now bytes stride x y }
 {
     let i = y * stride + x * bytes;
     if bytes == 1 {
-        return plane[i] as u16;
+        plane[i] as u16
+    } else {
+        plane[i] as u16 + 256 * (plane[i + 1] as u16)
     }
-    plane[i] as u16 + 256 * (plane[i + 1] as u16)
 }
 
 // Along one axis, the sample that covers a place.
+#[tactic(auto, unfolding(image::specs::Format::cover))]
 pub fn covering(half: bool, x: usize) -> usize
     ensures { result ≡ cover half x }
 {
-    if half {
-        return x / 2;
-    }
-    x
+    if half { x / 2 } else { x }
 }
 
 // The sample that promotion to 4:4:4 puts at a place of the picture: the one that covered it, or 2^(depth - 1) where the picture has
 // not the plane.
+#[tactic(auto, unfolding(crate::specs::inner::Promoted::promoted_in, laws::specs::Pick::pick))]
 pub fn promoted(
     plane: &[u8],
     format: PixelFormat,
@@ -59,9 +59,10 @@ pub fn promoted(
     if format.has(part) {
         let cx = covering(format.half_width(part), x);
         let cy = covering(format.half_height(part), y);
-        return sample(plane, format.bytes_per_sample(), stride, cx, cy);
+        sample(plane, format.bytes_per_sample(), stride, cx, cy)
+    } else {
+        format.middle()
     }
-    format.middle()
 }
 
 // Writes a sample at `at`, and returns the place past it.
@@ -82,40 +83,21 @@ pub fn copy_row(out: &mut [u8], at: usize, row: &[u8]) -> usize
     requires { at + length row.now ≤ length out.old }
     ensures { (result ≡ at + length row.now) × (out.new ≡ puts out.old at row.now) }
 {
-    let n = row.len();
-    let mut i: usize = 0;
-    while i < n {
-        out[at + i] = row[i];
-        i += 1;
-    }
-    at + n
+    let end = at + row.len();
+    out[at..end].copy_from_slice(row);
+    end
 }
 
-// Writes one byte n times at `at`, and returns the place past them.
-fn fill_bytes(out: &mut [u8], at: usize, v: u8, n: usize) -> usize
-    requires { at + n ≤ length out.old }
-    ensures { (result ≡ at + n) × (out.new ≡ puts out.old at (even_bytes (v ∷ []) n)) }
+// Writes the same bytes n times at `at`, and returns the place past them.
+fn fill_bytes<const BYTES: usize>(out: &mut [u8], at: usize, v: [u8; BYTES], n: usize) -> usize
+    requires { at + n * BYTES ≤ length out.old }
+    ensures { (result ≡ at + n * BYTES) × (out.new ≡ puts out.old at (even_bytes v.entry n)) }
 {
-    let mut k: usize = 0;
-    while k < n {
-        out[at + k] = v;
-        k += 1;
+    let mut i = at;
+    for _k in 0..n {
+        i = copy_row(out, i, &v);
     }
-    at + n
-}
-
-// Writes two bytes n times at `at`, and returns the place past them.
-fn fill_pairs(out: &mut [u8], at: usize, low: u8, high: u8, n: usize) -> usize
-    requires { at + 2 * n ≤ length out.old }
-    ensures { (result ≡ at + 2 * n) × (out.new ≡ puts out.old at (even_bytes (low ∷ high ∷ []) n)) }
-{
-    let mut k: usize = 0;
-    while k < n {
-        out[at + 2 * k] = low;
-        out[at + 2 * k + 1] = high;
-        k += 1;
-    }
-    at + 2 * n
+    i
 }
 
 // Writes one sample n times at `at`, and returns the place past them.
@@ -123,10 +105,12 @@ pub fn fill_row(out: &mut [u8], at: usize, bytes: usize, v: u16, n: usize) -> us
     requires { (1 ≤ bytes) × (bytes ≤ 2) × (at + n * bytes ≤ length out.old) }
     ensures { (result ≡ at + n * bytes) × (out.new ≡ puts out.old at (samples_of bytes (λ x. v) n)) }
 {
+    let low = (v % 256) as u8;
     if bytes == 1 {
-        return fill_bytes(out, at, (v % 256) as u8, n);
+        fill_bytes(out, at, [low], n)
+    } else {
+        fill_bytes(out, at, [low, (v / 256) as u8], n)
     }
-    fill_pairs(out, at, (v % 256) as u8, (v / 256) as u8, n)
 }
 
 // A line of samples through a plane. Its k-th sample stands at origin + u × step bytes, where u is from + k or from - k
@@ -142,13 +126,11 @@ pub struct Line {
 }
 
 // How far a line's steps are shifted along an axis that is halved, or not.
+#[tactic(auto, unfolding(laws::specs::Pick::pick))]
 pub fn shift(half: bool) -> u32
     ensures { result ≡ pick half 1 0 }
 {
-    if half {
-        return 1;
-    }
-    0
+    if half { 1 } else { 0 }
 }
 
 // Writes the first n samples of a line at `at`, sample by sample, and returns the place past them. A sample's first and last
@@ -158,21 +140,21 @@ fn copy_line(out: &mut [u8], at: usize, plane: &[u8], bytes: usize, line: Line, 
     ensures { (result ≡ at + n * bytes) × (out.new ≡ puts out.old at (line_bytes plane.now bytes line n)) }
 {
     let last = bytes - 1;
-    let origin = line.origin;
-    let step = line.step;
-    let from = line.from;
-    let forth = line.forth;
-    let back = line.back;
-    let half = line.half;
+    let Line {
+        origin,
+        step,
+        from,
+        forth,
+        back,
+        half,
+    } = line;
     let mut i = at;
-    let mut k: usize = 0;
-    while k < n {
+    for k in 0..n {
         let u = (from + k * forth - k * back) >> half;
         let j = origin + u * step;
         out[i] = plane[j];
         out[i + last] = plane[j + last];
         i += bytes;
-        k += 1;
     }
     i
 }
@@ -193,16 +175,10 @@ pub fn write_line(
     if n == 0 {
         return at;
     }
-    if line.step == bytes {
-        if line.half == 0 {
-            if line.forth == 1 {
-                if line.back == 0 {
-                    let a = line.origin + line.from * bytes;
-                    let e = a + n * bytes;
-                    return copy_row(out, at, &plane[a..e]);
-                }
-            }
-        }
+    if line.step == bytes && line.half == 0 && line.forth == 1 && line.back == 0 {
+        let a = line.origin + line.from * bytes;
+        let e = a + n * bytes;
+        return copy_row(out, at, &plane[a..e]);
     }
     copy_line(out, at, plane, bytes, line, n)
 }

@@ -6,7 +6,7 @@ ghost use Rattle.planes.specs.Bytes.{head_bytes, placed, plane_head, plane_size,
 ghost use Rattle.image.specs.Sound.{FormSound};
 
 use image::{Form, Part};
-use laws::{Answer, Refusal};
+use laws::Refusal;
 use records::{Frame, Plane};
 
 // Writes a record's five first numbers at `at`, and returns the place past them.
@@ -32,20 +32,22 @@ pub fn write_plane_head(out: &mut [u8], at: usize, form: Form, part: Part) -> us
 }
 
 // How many bytes a plane of a tight record takes, its two numbers with them.
+#[tactic(auto, unfolding(crate::specs::Bytes::plane_size, crate::specs::Bytes::plane_head, laws::specs::Pick::pick))]
 pub fn plane_size(form: Form, part: Part) -> usize
     requires { FormSound form }
     ensures { (result ≡ plane_size form part) × (result < 2 ^ 33) }
 {
-    let f = form.format;
-    if f.has(part) {
+    if form.format.has(part) {
         let row = form.row_size(part);
         let len = form.plane_len(part);
-        return numbers::number_length(row) + numbers::number_length(len) + len as usize;
+        numbers::number_length(row) + numbers::number_length(len) + len as usize
+    } else {
+        0
     }
-    0
 }
 
 // How many bytes a record's five first numbers take.
+#[tactic(auto, unfolding(crate::specs::Bytes::head_bytes))]
 pub fn head_size(form: Form) -> usize
     ensures { (result ≡ length (head_bytes form)) × (result ≤ 25) }
 {
@@ -59,6 +61,7 @@ pub fn head_size(form: Form) -> usize
 }
 
 // How many bytes a tight record takes.
+#[tactic(auto, unfolding(crate::specs::Bytes::size_of))]
 pub fn record_size(form: Form) -> usize
     requires { FormSound form }
     ensures { result ≡ size_of form }
@@ -72,29 +75,31 @@ pub fn record_size(form: Form) -> usize
 }
 
 // The plane of a part of a tight record whose numbers and bytes begin at `at`.
+#[tactic(auto, unfolding(crate::specs::Bytes::placed, crate::specs::Bytes::plane_head, laws::specs::Pick::pick))]
 fn placed(form: Form, part: Part, at: usize) -> Plane
     requires { FormSound form × (at ≤ 2 ^ 40) }
     ensures { (result ≡ placed form part at) × (result.start + result.len < at + 2 ^ 33) }
 {
-    let f = form.format;
-    if f.has(part) {
+    if form.format.has(part) {
         let row = form.row_size(part);
         let len = form.plane_len(part);
         let head = numbers::number_length(row) + numbers::number_length(len);
-        return Plane {
+        Plane {
             start: at + head,
             len: len as usize,
             stride: row as usize,
-        };
-    }
-    Plane {
-        start: at,
-        len: 0,
-        stride: 0,
+        }
+    } else {
+        Plane {
+            start: at,
+            len: 0,
+            stride: 0,
+        }
     }
 }
 
 // Where the tight record of a form has its planes.
+#[tactic(auto, unfolding(records::specs::Record::past))]
 pub fn tight(form: Form) -> Frame
     requires { FormSound form }
     ensures { result ≡ tight_at form 0 }
@@ -115,12 +120,12 @@ pub fn tight(form: Form) -> Frame
 }
 
 // Hands a record back byte for byte where there is room for it.
-pub fn hand_back(record: &[u8], out: &mut [u8]) -> Answer
+pub fn hand_back(record: &[u8], out: &mut [u8]) -> Result<usize, Refusal>
     ensures { (result ≡ answer_of (fitted (length out.old) «record».now))
         × (out.new ≡ written (fitted (length out.old) «record».now) out.old) }
 {
     if out.len() < record.len() {
-        return Answer::Refused(Refusal::ROOM);
+        return Err(Refusal::ROOM);
     }
-    Answer::Wrote(crate::samples::copy_row(out, 0, record))
+    Ok(crate::samples::copy_row(out, 0, record))
 }

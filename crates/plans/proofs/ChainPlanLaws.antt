@@ -1,11 +1,12 @@
 -- Where a chain leads by forms is where it leads by pictures.
-use mathlib.Core.Bool.{Bool, ◌&&◌, false, not, true}
+use Rattle.std.specs.Prelude.{Ok}
+use mathlib.Core.Bool.{Bool, false, not, true}
 use mathlib.Core.List.{List, [], ◌∷◌}
 use mathlib.Core.Path.{◌∙◌, ◌≡◌, ap, ap₂, refl, sym}
 use Prim.Native.Nat.{max, ℕ}
 use Rattle.laws.proofs.Order.{by-test}
 use Rattle.laws.proofs.Out.{Holds, Same, alike, both, done-holds, done-same, holds-done, pick-holds, same_left, then-both, then-holds, then_same}
-use Rattle.laws.specs.Out.{Out, and_then, done}
+use Rattle.laws.specs.Out.{Out, and_then}
 use Rattle.laws.specs.Pick.{pick}
 use Rattle.image.specs.Sound.{FormSound}
 use Rattle.image.specs.declared.format.Form.{Form}
@@ -100,8 +101,8 @@ other_after p c d i e =
     (λ m q. both (ap (λ (z : Bool). record { form = m; longest = max c.longest (size_of m); even = z; shown = shown_after p c.form c.shown }) (not-over (begins p c.form c.shown) c.even))))
 
 -- a plan that begins where it says ends in output
-pub plan-lands : (flag : Bool) (es : List PropertyEntry) (m : Form) (b : ChainPlan) → chain_plan_of es flag m ≡ done b
-    → (d : ChainPlan) × (fold_chain chain_plan_after flag es (record { form = m; longest = size_of m; even = b.even; shown = false }) ≡ done d) × (d.even ≡ true)
+pub plan-lands : (flag : Bool) (es : List PropertyEntry) (m : Form) (b : ChainPlan) → chain_plan_of es flag m ≡ Ok b
+    → (d : ChainPlan) × (fold_chain chain_plan_after flag es (record { form = m; longest = size_of m; even = b.even; shown = false }) ≡ Ok d) × (d.even ≡ true)
 unfolding chain_plan_of chain_plan_start OtherSide other_side
 plan-lands flag es m b q = by-test b.even
     (λ t. rw t (b, q, t))
@@ -115,12 +116,12 @@ pub start-sound : (m : Form) → FormSound m → FormSound (chain_plan_start m).
 unfolding chain_plan_start
 start-sound m k = k
 
-pub entry-sound : (flag : Bool) (e : PropertyEntry) (c b : ChainPlan) → FormSound c.form → pick (applies flag e) (chain_plan_after e.property c) (done c) ≡ done b → FormSound b.form
+pub entry-sound : (flag : Bool) (e : PropertyEntry) (c b : ChainPlan) → FormSound c.form → pick (applies flag e) (chain_plan_after e.property c) (Ok c) ≡ Ok b → FormSound b.form
 entry-sound flag e c b k q =
-    holds-done (λ z. FormSound z.form) _ b (pick-holds (λ z. FormSound z.form) (applies flag e) (chain_plan_after e.property c) (done c) (plan-sound e.property c k) (this-sound c k)) q
+    holds-done (λ z. FormSound z.form) _ b (pick-holds (λ z. FormSound z.form) (applies flag e) (chain_plan_after e.property c) (Ok c) (plan-sound e.property c k) (this-sound c k)) q
   where
-    this-sound : (c : ChainPlan) → FormSound c.form → Holds (λ z. FormSound z.form) (done c)
-    this-sound c k = done-holds _ (done c) (λ a e. rw (← done-same c a e) k)
+    this-sound : (c : ChainPlan) → FormSound c.form → Holds (λ z. FormSound z.form) (Ok c)
+    this-sound c k = done-holds _ (Ok c) (λ a e. rw (← done-same c a e) k)
 
 pub plan-start : (n : ℕ) (s : List ℕ) (at : ℕ) (flag : Bool) (m : Form) (c : ChainPlan) → c ≡ chain_plan_start m
     → and_then (entries_at n s at) (λ es. chain_plan_of es flag m) ≡ and_then (entries_at n s at) (λ es. fold_chain chain_plan_after flag es c)

@@ -4,5 +4,5 @@
 mod chain_plan;
 mod plan;
 
-pub use crate::chain_plan::{ChainPlan, ChainPlanRead, plan_chain};
-pub use crate::plan::{CurrentRead, plan_scene};
+pub use crate::chain_plan::{ChainPlan, plan_chain};
+pub use crate::plan::plan_scene;

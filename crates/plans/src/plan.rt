@@ -5,19 +5,13 @@ ghost use Rattle.laws.specs.Out.{and_then};
 ghost use Rattle.image.specs.Sound.{FormSound};
 ghost use Rattle.props.specs.Chain.{entries_at};
 ghost use Rattle.props.specs.inner.Judged.{Judged};
-ghost use Rattle.plans.specs.inner.ChainPlan.{current_of, current_out};
+ghost use Rattle.plans.specs.inner.ChainPlan.{current_of};
 
-use crate::chain_plan::{ChainPlanRead, plan_chain};
+use crate::chain_plan::plan_chain;
 use image::Form;
 use laws::Refusal;
 use props::Chain;
 use stages::Current;
-
-#[derive(Clone, Copy)]
-pub enum CurrentRead {
-    Current(Current),
-    Refused(Refusal),
-}
 
 // Where the composed record of a form lies, for a chain that was judged, output and spare of so many bytes: the record's size, and
 // whether it is drawn in output. Refusals: the entries' in turn; 17 output or spare shorter than the longest of the composed and
@@ -29,23 +23,16 @@ pub fn plan_scene(
     m: Form,
     output: usize,
     spare: usize,
-) -> CurrentRead
+) -> Result<Current, Refusal>
     requires { Judged s.now chain × FormSound m }
-    ensures { current_out result ≡ and_then (entries_at chain.count s.now chain.first) (λ es. current_of es essential_only m output spare) }
+    ensures { result ≡ and_then (entries_at chain.count s.now chain.first) (λ es. current_of es essential_only m output spare) }
 {
-    match plan_chain(s, chain, essential_only, m) {
-        ChainPlanRead::Refused(e) => CurrentRead::Refused(e),
-        ChainPlanRead::ChainPlan(k) => {
-            if output < k.longest {
-                return CurrentRead::Refused(Refusal::ROOM);
-            }
-            if spare < k.longest {
-                return CurrentRead::Refused(Refusal::ROOM);
-            }
-            CurrentRead::Current(Current {
-                size: planes::record_size(m),
-                inside: k.even,
-            })
-        }
+    let k = plan_chain(s, chain, essential_only, m)?;
+    if output < k.longest || spare < k.longest {
+        return Err(Refusal::ROOM);
     }
+    Ok(Current {
+        size: planes::record_size(m),
+        inside: k.even,
+    })
 }

@@ -1,5 +1,6 @@
 -- The composed grid reads, at each place of its canvas, what is read at the tile and the spot that the place names; no two places name
 -- one spot; its halved sides are even.
+use Rattle.std.specs.Prelude.{Ok}
 use mathlib.Core.Bool.{Bool, false, true}
 use mathlib.Core.List.{List, [], ◌∷◌}
 use mathlib.Core.Path.{◌∙◌, ◌≡◌, ap, ap₂, refl, sym}
@@ -11,10 +12,8 @@ use lib.ListN.{get_or, length}
 use borrow.Author.Tests.{eqb-true, not-false}
 use Rattle.laws.proofs.Order.{by-test, or_left, or_right, pick-false, pick_true}
 use Rattle.laws.proofs.Out.{and_then-done, done-same, not_done, refuse-done}
-use Rattle.laws.specs.Out.{done}
 use Rattle.laws.specs.Pick.{pick}
 use Rattle.numbers.specs.Number.{read_number}
-use Rattle.numbers.specs.declared.NumberRead.TheVariants.{Number}
 use Rattle.image.proofs.FormLaws.{like-halved}
 use Rattle.planes.proofs.PictureLaws.{even_x-of, even_y-of, evenly-part, full-pixel, promote-pixel}
 use Rattle.records.proofs.TrayLaws.{frames-length, tray-number}
@@ -167,7 +166,7 @@ grid-sides tray t = canvas-sides t.desc t.tile t.alpha
 
 -- ---- the tiles are the records of the tray
 
-judge-same : (g : GridDescriptor) (at : ℕ) (frs : List Frame) (t : Tiles) → judge_of g at frs ≡ done t → (t.desc ≡ g) × (t.first ≡ at)
+judge-same : (g : GridDescriptor) (at : ℕ) (frs : List Frame) (t : Tiles) → judge_of g at frs ≡ Ok t → (t.desc ≡ g) × (t.first ≡ at)
 unfolding judge_of
 judge-same g at [] t e = not_done _ t e
 judge-same g at (fr ∷ rest) t e =
@@ -176,7 +175,7 @@ judge-same g at (fr ∷ rest) t e =
     let w = done-same _ t v.2 in
     (ap (λ (k : Tiles). k.desc) (sym w), ap (λ (k : Tiles). k.first) (sym w))
 
-pub tiles-records : (body tray : List ℕ) (n at : ℕ) (t : Tiles) → read_number tray 0 ≡ Number n at → tiles_at body tray n at ≡ done t → frames_in tray t ≡ records_in tray
+pub tiles-records : (body tray : List ℕ) (n at : ℕ) (t : Tiles) → read_number tray 0 ≡ Ok (n, at) → tiles_at body tray n at ≡ Ok t → frames_in tray t ≡ records_in tray
 unfolding tiles_at frames_in records_in
 tiles-records body tray n at t c e =
     let u = and_then-done _ _ t e in

@@ -1,5 +1,6 @@
 -- The composed overlay of inputs without alpha reads, at each place of its canvas, what is read at the input and the spot that the place
 -- names, or the fill; no two places name one spot; its halved sides are even.
+use Rattle.std.specs.Prelude.{Ok, Option}
 use mathlib.Core.Bool.{Bool, ◌&&◌, ◌||◌, false, not, true}
 use mathlib.Core.List.{List, [], ◌∷◌}
 use mathlib.Core.Path.{◌∙◌, ◌≡◌, ap, ap₂, refl, sym}
@@ -14,7 +15,6 @@ use Rattle.laws.specs.Out.{Out}
 use Rattle.laws.specs.Pick.{pick}
 use Rattle.laws.specs.Puts.{Bytes}
 use Rattle.numbers.specs.Number.{read_number}
-use Rattle.numbers.specs.declared.NumberRead.TheVariants.{Number}
 use Rattle.numbers.specs.declared.Offset.{Offset}
 use Rattle.image.proofs.FormLaws.{top-some}
 use Rattle.records.proofs.TrayLaws.{frames-length, tray-number}
@@ -29,7 +29,7 @@ use Rattle.planes.specs.Bytes.{decode, input_in, picture_in}
 use Rattle.planes.specs.Picture.{pixel}
 use Rattle.planes.specs.inner.Even.{Even, Evenly}
 use Rattle.fill.specs.Fill.{fill_alpha_of}
-use Rattle.fill.specs.declared.Colour.{Colour}
+use Rattle.fill.specs.declared.Nclx.{Nclx}
 use Rattle.derived.proofs.Taken.{overlay-fill}
 use Rattle.derived.specs.Overlay.{overlay_of, placement_at}
 use Rattle.derived.specs.declared.overlay.OverlayDescriptor.{OverlayDescriptor}
@@ -74,11 +74,11 @@ overlay-form-even f width height alpha ls = go (promotes f width height ls) refl
     go true e = promoted-even width height _ _
     go false e = plain-even f width height _ _ ls e
 
-pub overlay-even : (body tray list : List ℕ) (colour : Colour) (q : Inputs) → Even (composed body tray list colour q).form
+pub overlay-even : (body tray list : List ℕ) (colour : Option Nclx) (q : Inputs) → Even (composed body tray list colour q).form
 unfolding composed composed_form overlay_pic
 overlay-even body tray list colour q = overlay-form-even _ _ _ _ _
 
-pub overlay-sides : (body tray list : List ℕ) (colour : Colour) (q : Inputs)
+pub overlay-sides : (body tray list : List ℕ) (colour : Option Nclx) (q : Inputs)
     → ((composed body tray list colour q).form.width ≡ q.descriptor.output_width) × ((composed body tray list colour q).form.height ≡ q.descriptor.output_height)
 unfolding composed composed_form overlay_pic overlay_form
 overlay-sides body tray list colour q = (refl, refl)
@@ -86,7 +86,7 @@ overlay-sides body tray list colour q = (refl, refl)
 -- ---- what was taken
 
 -- the records of the tray are the inputs
-pub inputs-records : (body tray list : List ℕ) (n at : ℕ) (q : Inputs) → read_number tray 0 ≡ Number n at → Took body tray list n at q → records_in tray ≡ q.frames
+pub inputs-records : (body tray list : List ℕ) (n at : ℕ) (q : Inputs) → read_number tray 0 ≡ Ok (n, at) → Took body tray list n at q → records_in tray ≡ q.frames
 unfolding records_in taken_of
 inputs-records body tray list n at q c k = ap taken_of (tray-number tray n at c ∙ k.frames)
 
@@ -108,7 +108,7 @@ alpha-reads : (tray : List ℕ) (g : PixelFormat) (fr : Frame) (x y : ℕ) → h
 unfolding read_at decode top_of other_depth_of
 alpha-reads tray g fr x y a d = pick-false _ _ _ a ∙ ap (λ (n : ℕ). 2 ^ n - 1) (eqb-true _ _ (not-false _ d))
 
-module _ (body tray list : List ℕ) (colour : Colour) (q : Inputs) (l : Place) where
+module _ (body tray list : List ℕ) (colour : Option Nclx) (q : Inputs) (l : Place) where
   abbrev f : PixelFormat
   f = first_format q.frames
 
@@ -174,7 +174,7 @@ module _ (body tray list : List ℕ) (colour : Colour) (q : Inputs) (l : Place) 
 
 -- ---- the whole
 
-reads-are : (body tray list : List ℕ) (colour : Colour) (n at : ℕ) (q : Inputs) (l : Place) → records_in tray ≡ q.frames → Took body tray list n at q → (named : Named) (p : Part) → reads body tray list colour q l named p ≡ overlay_reads body tray colour named p
+reads-are : (body tray list : List ℕ) (colour : Option Nclx) (n at : ℕ) (q : Inputs) (l : Place) → records_in tray ≡ q.frames → Took body tray list n at q → (named : Named) (p : Part) → reads body tray list colour q l named p ≡ overlay_reads body tray colour named p
 unfolding reads overlay_reads input_in picture_in canvas_fill_of
 reads-are body tray list colour n at q l e k Named.Fill p =
     let m : length (records_in tray) ≡ n = ap length e ∙ frames-length n tray at q.frames k.frames in
@@ -182,7 +182,7 @@ reads-are body tray list colour n at q l e k Named.Fill p =
 reads-are body tray list colour n at q l e k (Named.Spot j) p = rw e refl
 
 -- each place of the canvas reads what is read at the input and the spot that it names, or the fill
-pub overlay-reads : (body tray list : List ℕ) (colour : Colour) (n at : ℕ) (q : Inputs) → Bytes body → read_number tray 0 ≡ Number n at → Took body tray list n at q → any see_through_frame q.frames ≡ false
+pub overlay-reads : (body tray list : List ℕ) (colour : Option Nclx) (n at : ℕ) (q : Inputs) → Bytes body → read_number tray 0 ≡ Ok (n, at) → Took body tray list n at q → any see_through_frame q.frames ≡ false
     → (p : Part) (l : Place) → pixel (composed body tray list colour q) p l.x l.y ≡ overlay_reads body tray colour (overlay_names body q l) p
 unfolding top_of
 overlay-reads body tray list colour n at q small c k none p l =

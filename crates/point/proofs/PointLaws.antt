@@ -1,18 +1,19 @@
 -- Laws of the point calls: everything before the place step by step, and what holds of a place that was found.
-use mathlib.Core.Bool.{Bool, ◌&&◌, ◌||◌, false, not, true}
+use Rattle.laws.specs.declared.Item.TheVariants.{Record}
+use Rattle.std.specs.Prelude.{Ok, Err}
+use mathlib.Core.Bool.{Bool, ◌||◌, false, true}
 use mathlib.Core.List.{List, [], ◌∷◌}
 use mathlib.Core.Path.{◌∙◌, ◌≡◌, ap, ap₂, refl, sym}
 use Prim.Native.Nat.{◌*◌, ◌+◌, ◌-◌, ◌/◌, ◌<◌, ◌^◌, ◌≤◌, ℕ}
 use native.Mathlib.Nat.{div-lt_iff_lt-mul, mul_comm}
 use native.Mathlib.Omega.{arith}
-use borrow.Author.Tests.{leb-false, not-false, not-true}
-use Rattle.laws.proofs.Order.{mul-below, pick-false, pick_true, true-and}
+use borrow.Author.Tests.{leb-false}
+use Rattle.laws.proofs.Order.{mul-below}
 use Rattle.laws.proofs.Out.{and_then-done, done-same, holds-done, item-done, item-no, item-yes, refuse-done, refused-back, then-done, then-refused}
-use Rattle.laws.specs.Out.{Out, and_then, done, own_reason, reason, refuse_item, refused}
+use Rattle.laws.specs.Out.{Out, and_then, own_reason, refuse_item}
 use Rattle.laws.specs.Pick.{pick}
 use Rattle.laws.specs.declared.Refusal.{Refusal}
 use Rattle.numbers.specs.Number.{on_number, read_number}
-use Rattle.numbers.specs.declared.NumberRead.TheVariants.{Malformed, Number}
 use Rattle.laws.specs.Puts.{Bytes}
 use Rattle.planes.specs.Bytes.{decode}
 use Rattle.image.specs.Format.{has_alpha}
@@ -41,7 +42,6 @@ use Rattle.tiles.specs.Tiles.{tiles_of}
 use Rattle.tiles.specs.declared.judge.Tiles.{Tiles}
 use Rattle.inputs.proofs.FrameLaws.{frames-from, from-few, from_next, from-refused}
 use Rattle.records.specs.inner.Frames.{frames_from}
-use Rattle.blend.specs.Overlay.{covers, spot_at}
 use Rattle.inputs.specs.Layers.{see_through, layer_of, layers_of}
 use Rattle.laws.specs.Any.{any}
 use Rattle.inputs.specs.inner.Plan.{plan_at, plan_of}
@@ -54,23 +54,21 @@ use Rattle.point.specs.inner.Look.{GridHeld, Tiled, grid_held, grid_looked, over
 use Rattle.point.specs.Point.{Look, grid_look, grid_names, lies_over, look_on, overlay_look, overlay_names, point_from, see_through_frame, spot_under, topmost_named}
 use Rattle.point.specs.declared.Named.{Named}
 use Rattle.point.specs.declared.look.GridLook.{GridLook}
-use Rattle.point.specs.declared.look.GridLookRead.{GridLookRead}
 use Rattle.point.specs.declared.look.OverlayLook.{OverlayLook}
-use Rattle.point.specs.declared.look.OverlayLookRead.{OverlayLookRead}
 
 -- ---- the place
 
 module _ (k : Look) (x y : ℕ) (b : Bounded k.sight.area) where
-  pub point-refused : (r : Refusal) → bounded_source k.sight x y ≡ refused r → refused r ≡ point_from k x y
+  pub point-refused : (r : Refusal) → bounded_source k.sight x y ≡ Err r → Err r ≡ point_from k x y
   unfolding point_from
   point-refused r e = sym (then-refused _ (sym (bounded-place k.sight x y b) ∙ e))
 
-  pub point-done : (l : CanvasPlace) (m : Named) → bounded_source k.sight x y ≡ done (place_in l) → m ≡ k.names (place_in l) → done (record { named = m; sight = k.sight }) ≡ point_from k x y
+  pub point-done : (l : CanvasPlace) (m : Named) → bounded_source k.sight x y ≡ Ok (place_in l) → m ≡ k.names (place_in l) → Ok (record { named = m; sight = k.sight }) ≡ point_from k x y
   unfolding point_from
-  point-done l m e p = ap (λ (u : Named). done (record { named = u; sight = k.sight })) p ∙ sym (then-done _ (sym (bounded-place k.sight x y b) ∙ e))
+  point-done l m e p = ap (λ (u : Named). Ok (record { named = u; sight = k.sight })) p ∙ sym (then-done _ (sym (bounded-place k.sight x y b) ∙ e))
 
 -- the tiles cover it
-pub held-tiled : (k : GridLook) (x y : ℕ) (l : CanvasPlace) → GridHeld k → bounded_source k.sight x y ≡ done (place_in l) → Tiled k.tiles l
+pub held-tiled : (k : GridLook) (x y : ℕ) (l : CanvasPlace) → GridHeld k → bounded_source k.sight x y ≡ Ok (place_in l) → Tiled k.tiles l
 unfolding source_place
 held-tiled k x y l h e =
     let c = refuse-done _ _ _ (place_in l) (sym (bounded-place k.sight x y h.bounded) ∙ e) in
@@ -85,15 +83,6 @@ held-tiled k x y l h e =
       across = omega (arith, u.0, h.cover_x, ap (λ (v : Place). v.x) p);
       down = omega (arith, u.1, h.cover_y, ap (λ (v : Place). v.y) p);
     }
-
--- what holds of a look that was answered
-pub grid-held : (r : GridLookRead) (k : GridLook) → r ≡ GridLookRead.Look k → grid_held r → GridHeld k
-unfolding grid_held
-grid-held r k e h = rw e at h
-
-pub overlay-held : (body : List ℕ) (r : OverlayLookRead) (k : OverlayLook) → r ≡ OverlayLookRead.Look k → overlay_held body r → OverlaySound body k.descriptor × Bounded k.sight.area
-unfolding overlay_held
-overlay-held body r k e h = rw e at h
 
 -- ---- the tile that covers a place
 
@@ -112,36 +101,12 @@ module _ (t : Tiles) (l : CanvasPlace) (k : Tiled t l) where
 
 -- ---- the topmost input that covers a place
 
-module _ (i : ℕ) (fr : Frame) (o : Placement) (l : Place) (found : Named) where
-  abbrev across : Bool
-  across = covers fr.form.width o.horizontal l.x
-
-  abbrev down : Bool
-  down = covers fr.form.height o.vertical l.y
-
-  abbrev chosen : Named
-  chosen = pick (lies_over fr o l) (spot_under i o l) found
-
-  pub lies-beside : not across ≡ true → found ≡ chosen
-  unfolding lies_over
-  lies-beside e = sym (pick-false (across && down) (spot_under i o l) found (ap (λ (b : Bool). b && down) (not-true across e)))
-
-  pub lies-above : not across ≡ false → not down ≡ true → found ≡ chosen
-  unfolding lies_over
-  lies-above e f = sym (pick-false (across && down) (spot_under i o l) found (ap₂ (λ (a b : Bool). a && b) (not-false across e) (not-true down f)))
-
-  pub lies_over_lem : not across ≡ false → not down ≡ false → (x y : ℕ) → x ≡ spot_at o.horizontal l.x → y ≡ spot_at o.vertical l.y → Named.Spot (record { input = i; x = x; y = y }) ≡ chosen
-  unfolding lies_over spot_under
-  lies_over_lem e f x y p q =
-      ap₂ (λ (a b : ℕ). Named.Spot (record { input = i; x = a; y = b })) p q
-      ∙ sym (pick_true (across && down) (spot_under i o l) found (true-and across down (not-false across e) (not-false down f)))
-
 -- one record after the other
 module _ (body tray : List ℕ) (d : OverlayDescriptor) (l : Place) (i at : ℕ) (found : Named) where
   abbrev left : Named
   left = topmost_named body d l i found (frames_from (d.count - i) tray at)
 
-  pub top-next : (fr : Frame) (o : Placement) (f : Named) → i < d.count → record_at tray at ≡ done fr → o ≡ placement_at body d i → f ≡ pick (lies_over fr o l) (spot_under i o l) found
+  pub top-next : (fr : Frame) (o : Placement) (f : Named) → i < d.count → record_at tray at ≡ Ok fr → o ≡ placement_at body d i → f ≡ pick (lies_over fr o l) (spot_under i o l) found
       → left ≡ topmost_named body d l (i + 1) f (frames_from (d.count - (i + 1)) tray fr.end)
   unfolding topmost_named
   top-next fr o f h e p q =
@@ -149,7 +114,7 @@ module _ (body tray : List ℕ) (d : OverlayDescriptor) (l : Place) (i at : ℕ)
       ap (topmost_named body d l i found) (from_next (d.count - i) tray at fr (omega arith) e)
       ∙ ap₂ (λ (g : Named) (n : ℕ). topmost_named body d l (i + 1) g (frames_from n tray fr.end)) (sym (q ∙ ap (λ (u : Placement). pick (lies_over fr u l) (spot_under i u l) found) p)) z
 
-  pub top-refused : (r : Refusal) → record_at tray at ≡ refused r → left ≡ found
+  pub top-refused : (r : Refusal) → record_at tray at ≡ Err r → left ≡ found
   unfolding topmost_named
   top-refused r e = ap (topmost_named body d l i found) (from-refused (d.count - i) tray at r e)
 
@@ -163,14 +128,14 @@ module _ (body tray : List ℕ) (d : OverlayDescriptor) (l : Place) (i at : ℕ)
 abbrev pub sights : List ℕ → Chain → Bool → ℕ → ℕ → Out Sight
 sights chain c flag w h = and_then (entries_at c.count chain c.first) (λ es. sight_of es flag w h)
 
-look-on : (chain : List ℕ) (c : Chain) (j : Judged chain c) (flag : Bool) (w h : ℕ) (names : Place → Named) → look_on j.entries flag w h names ≡ and_then (sights chain c flag w h) (λ s. done (record { sight = s; names = names }))
+look-on : (chain : List ℕ) (c : Chain) (j : Judged chain c) (flag : Bool) (w h : ℕ) (names : Place → Named) → look_on j.entries flag w h names ≡ and_then (sights chain c flag w h) (λ s. Ok (record { sight = s; names = names }))
 unfolding look_on
-look-on chain c j flag w h names = ap (λ (o : Out Sight). and_then o (λ s. done (record { sight = s; names = names }))) (sym (then-done _ j.read))
+look-on chain c j flag w h names = ap (λ (o : Out Sight). and_then o (λ s. Ok (record { sight = s; names = names }))) (sym (then-done _ j.read))
 
-sights-bounded : (chain : List ℕ) (c : Chain) (j : Judged chain c) (flag : Bool) (w h : ℕ) (s : Sight) → sights chain c flag w h ≡ done s → w < 2 ^ 32 → h < 2 ^ 32 → Bounded s.area
+sights-bounded : (chain : List ℕ) (c : Chain) (j : Judged chain c) (flag : Bool) (w h : ℕ) (s : Sight) → sights chain c flag w h ≡ Ok s → w < 2 ^ 32 → h < 2 ^ 32 → Bounded s.area
 sights-bounded chain c j flag w h s e i k = holds-done (λ u. Bounded u.area) _ s (sight-bounded j.entries flag w h i k) (sym (then-done _ j.read) ∙ e)
 
-sights-inside : (chain : List ℕ) (c : Chain) (j : Judged chain c) (flag : Bool) (w h : ℕ) (s : Sight) → sights chain c flag w h ≡ done s → 1 ≤ w → 1 ≤ h → Inside s.area w h
+sights-inside : (chain : List ℕ) (c : Chain) (j : Judged chain c) (flag : Bool) (w h : ℕ) (s : Sight) → sights chain c flag w h ≡ Ok s → 1 ≤ w → 1 ≤ h → Inside s.area w h
 sights-inside chain c j flag w h s e i k = holds-done (λ u. Inside u.area w h) _ s (sight-inside j.entries flag w h i k) (sym (then-done _ j.read) ∙ e)
 
 sides-low : (w h : ℕ) → 1 ≤ w → 1 ≤ h → w * h ≤ 2 ^ 30 → (w < 2 ^ 32) × (h < 2 ^ 32)
@@ -178,41 +143,41 @@ sides-low w h i j a = (omega (arith, mul-below w h w 1 (omega arith) j, a), omeg
 
 module _ (body tray chain : List ℕ) (flag : Bool) where
   abbrev GridRefused : Refusal → Type 0
-  GridRefused r = (refused r ≡ grid_look body tray chain flag) × grid_held (GridLookRead.Refused r)
+  GridRefused r = (Err r ≡ grid_look body tray chain flag) × grid_held (Err r)
 
-  grid-no : (r : Refusal) → grid_look body tray chain flag ≡ refused r → GridRefused r
+  grid-no : (r : Refusal) → grid_look body tray chain flag ≡ Err r → GridRefused r
   unfolding grid_held
   grid-no r e = (sym e, tt)
 
-  pub grid-malformed : read_number tray 0 ≡ Malformed → GridRefused (reason 5)
+  pub grid-number : (r : Refusal) → read_number tray 0 ≡ Err r → GridRefused r
   unfolding grid_look on_number
-  grid-malformed e = grid-no _ (rw e)
+  grid-number r e = grid-no _ (rw e)
 
-  module _ (n at : ℕ) (counted : read_number tray 0 ≡ Number n at) where
+  module _ (n at : ℕ) (counted : read_number tray 0 ≡ Ok (n, at)) where
     grid-counted : grid_look body tray chain flag
         ≡ and_then (chain_at chain 0) (λ es. and_then (tiles_of body tray) (λ t. look_on es flag t.desc.output_width t.desc.output_height (grid_names t)))
     unfolding grid_look on_number tiles_of
     grid-counted = rw counted
 
-    pub grid-chain : (r : Refusal) → judged_at chain 0 ≡ refused r → GridRefused r
+    pub grid-chain : (r : Refusal) → judged_at chain 0 ≡ Err r → GridRefused r
     grid-chain r e = grid-no _ (grid-counted ∙ then-refused _ (judged-refused _ _ _ e))
 
-    module _ (c : Chain) (judged : judged_at chain 0 ≡ done c) where
-      pub grid-tiles : (r : Refusal) → tiles_of body tray ≡ refused r → GridRefused r
+    module _ (c : Chain) (judged : judged_at chain 0 ≡ Ok c) where
+      pub grid-tiles : (r : Refusal) → tiles_of body tray ≡ Err r → GridRefused r
       grid-tiles r e = grid-no _ (grid-counted ∙ then-done _ (judged-chain chain 0 c judged).1 ∙ then-refused _ e)
 
-      module _ (t : Tiles) (taken : tiles_of body tray ≡ done t) where
+      module _ (t : Tiles) (taken : tiles_of body tray ≡ Ok t) where
         abbrev grid_sights : Out Sight
         grid_sights = sights chain c flag t.desc.output_width t.desc.output_height
 
-        grid-on : grid_look body tray chain flag ≡ and_then grid_sights (λ s. done (record { sight = s; names = grid_names t }))
+        grid-on : grid_look body tray chain flag ≡ and_then grid_sights (λ s. Ok (record { sight = s; names = grid_names t }))
         grid-on = let j = judged-chain chain 0 c judged in grid-counted ∙ then-done _ j.1 ∙ then-done _ taken ∙ look-on chain c j.0 flag _ _ (grid_names t)
 
-        pub grid-sight : (r : Refusal) → grid_sights ≡ refused r → GridRefused r
+        pub grid-sight : (r : Refusal) → grid_sights ≡ Err r → GridRefused r
         grid-sight r e = grid-no _ (grid-on ∙ then-refused _ e)
 
-        pub grid-done : (s : Sight) → grid_sights ≡ done s → Bytes body
-            → (done (grid_looked (record { sight = s; tiles = t })) ≡ grid_look body tray chain flag) × grid_held (GridLookRead.Look (record { sight = s; tiles = t }))
+        pub grid-done : (s : Sight) → grid_sights ≡ Ok s → Bytes body
+            → (Ok (grid_looked (record { sight = s; tiles = t })) ≡ grid_look body tray chain flag) × grid_held (Ok (record { sight = s; tiles = t }))
         unfolding grid_held
         grid-done s e b =
             let j = (judged-chain chain 0 c judged).0 in
@@ -246,42 +211,42 @@ module _ (body tray list : List ℕ) (n at : ℕ) where
   taken_as : (q u : Inputs) → q ≡ u → Taken q → Taken u
   taken_as q u e k = rw e at k
 
-  inputs-taken : (q : Inputs) → inputs_at body tray list n at ≡ done q → Taken q
+  inputs-taken : (q : Inputs) → inputs_at body tray list n at ≡ Ok q → Taken q
   unfolding inputs_at
   inputs-taken q e =
       let a = and_then-done _ _ q e in
       let b = refuse-done _ _ _ q a.2 in
       let c = refuse-done _ _ _ q b.1 in
       let d = and_then-done _ _ q c.1 in
-      let f = item-done 1 _ 14 _ _ q d.2 in
+      let f = item-done Record _ 14 _ _ q d.2 in
       let o = overlay-taken body n a.0 a.1 in
       taken_as _ q (done-same _ q f.1) (o.0, o.1, frames-from n tray at d.0 d.1)
 
 module _ (body tray chain : List ℕ) (flag : Bool) (list : List ℕ) where
   abbrev OverlayRefused : Refusal → Type 0
-  OverlayRefused r = (refused r ≡ overlay_look body tray chain flag list) × overlay_held body (OverlayLookRead.Refused r)
+  OverlayRefused r = (Err r ≡ overlay_look body tray chain flag list) × overlay_held body (Err r)
 
-  overlay-no : (r : Refusal) → overlay_look body tray chain flag list ≡ refused r → OverlayRefused r
+  overlay-no : (r : Refusal) → overlay_look body tray chain flag list ≡ Err r → OverlayRefused r
   unfolding overlay_held
   overlay-no r e = (sym e, tt)
 
-  pub overlay-malformed : read_number tray 0 ≡ Malformed → OverlayRefused (reason 5)
+  pub overlay-number : (r : Refusal) → read_number tray 0 ≡ Err r → OverlayRefused r
   unfolding overlay_look on_number
-  overlay-malformed e = overlay-no _ (rw e)
+  overlay-number r e = overlay-no _ (rw e)
 
-  module _ (n at : ℕ) (counted : read_number tray 0 ≡ Number n at) where
+  module _ (n at : ℕ) (counted : read_number tray 0 ≡ Ok (n, at)) where
     abbrev goes : List PropertyEntry → Inputs → Out Look
-    goes es q = refuse_item 1 see_through_frame 18 q.frames (look_on es flag q.descriptor.output_width q.descriptor.output_height (overlay_names body q))
+    goes es q = refuse_item Record see_through_frame 18 q.frames (look_on es flag q.descriptor.output_width q.descriptor.output_height (overlay_names body q))
 
     overlay-counted : overlay_look body tray chain flag list ≡ and_then (chain_at chain 0) (λ es. and_then (inputs_at body tray list n at) (goes es))
     unfolding overlay_look on_number
     overlay-counted = rw counted
 
-    pub overlay-chain : (r : Refusal) → judged_at chain 0 ≡ refused r → OverlayRefused r
+    pub overlay-chain : (r : Refusal) → judged_at chain 0 ≡ Err r → OverlayRefused r
     overlay-chain r e = overlay-no _ (overlay-counted ∙ then-refused _ (judged-refused _ _ _ e))
 
-    module _ (c : Chain) (judged : judged_at chain 0 ≡ done c) where
-      pub overlay-inputs : (r : Refusal) → plan_at body tray list n at ≡ refused r → OverlayRefused r
+    module _ (c : Chain) (judged : judged_at chain 0 ≡ Ok c) where
+      pub overlay-inputs : (r : Refusal) → plan_at body tray list n at ≡ Err r → OverlayRefused r
       unfolding plan_at
       overlay-inputs r e = overlay-no _ (overlay-counted ∙ then-done _ (judged-chain chain 0 c judged).1 ∙ then-refused _ (refused-back _ (plan_of body tray list at) r e))
 
@@ -295,12 +260,12 @@ module _ (body tray chain : List ℕ) (flag : Bool) (list : List ℕ) where
       record Planned (q : Plan) : Type 0 where
         sound : OverlaySound body q.descriptor
         alpha : q.alpha ≡ any see_through_frame (frames_from n tray at)
-        left : overlay_look body tray chain flag list ≡ refuse_item 1 see_through_frame 18 (frames_from n tray at) (and_then (plan_sights q) (λ s. done (overlay_looked body tray (plan_looked q s))))
+        left : overlay_look body tray chain flag list ≡ refuse_item Record see_through_frame 18 (frames_from n tray at) (and_then (plan_sights q) (λ s. Ok (overlay_looked body tray (plan_looked q s))))
 
       planned-as : (q u : Plan) → q ≡ u → Planned q → Planned u
       planned-as q u e k = rw e at k
 
-      planned : (q : Inputs) → inputs_at body tray list n at ≡ done q → Planned (plan_of body tray list at q)
+      planned : (q : Inputs) → inputs_at body tray list n at ≡ Ok q → Planned (plan_of body tray list at q)
       unfolding plan_of
       planned q e =
           let j = judged-chain chain 0 c judged in
@@ -310,31 +275,31 @@ module _ (body tray chain : List ℕ) (flag : Bool) (list : List ℕ) where
             alpha = some-see body tray list q.descriptor 0 q.frames ∙ ap (any see_through_frame) k.2;
             left =
                 overlay-counted ∙ then-done _ j.1 ∙ then-done _ e
-                ∙ ap₂ (λ (frs : List Frame) (o : Out Look). refuse_item 1 see_through_frame 18 frs o) k.2
+                ∙ ap₂ (λ (frs : List Frame) (o : Out Look). refuse_item Record see_through_frame 18 frs o) k.2
                 (look-on chain c j.0 flag _ _ (overlay_names body q)
-                ∙ ap (λ (frs : List Frame). and_then (sights chain c flag q.descriptor.output_width q.descriptor.output_height) (λ s. done (record { sight = s; names = overlay_names body (record { descriptor = q.descriptor; frames = frs }) })))
+                ∙ ap (λ (frs : List Frame). and_then (sights chain c flag q.descriptor.output_width q.descriptor.output_height) (λ s. Ok (record { sight = s; names = overlay_names body (record { descriptor = q.descriptor; frames = frs }) })))
                 (k.2 ∙ ap (λ (m : ℕ). frames_from m tray at) (sym k.1)));
           }
 
-      module _ (q : Plan) (taken : plan_at body tray list n at ≡ done q) where
+      module _ (q : Plan) (taken : plan_at body tray list n at ≡ Ok q) where
         plan-planned : Planned q
         unfolding plan_at
         plan-planned = let a = and_then-done _ _ q taken in planned-as _ q (done-same _ q a.2) (planned a.0 a.1)
 
-        pub overlay-alpha : (i : ℕ) → q.alpha ≡ true → i ≡ found_at 0 see_through_frame (frames_from n tray at) n → OverlayRefused (own_reason 18 1 i)
+        pub overlay-alpha : (i : ℕ) → q.alpha ≡ true → i ≡ found_at 0 see_through_frame (frames_from n tray at) n → OverlayRefused (own_reason 18 Record i)
         overlay-alpha i e f =
             let some : any see_through_frame (frames_from n tray at) ≡ true = sym plan-planned.alpha ∙ e in
-            overlay-no _ (plan-planned.left ∙ item-yes 1 see_through_frame 18 (frames_from n tray at) i _ some (first_found see_through_frame 1 18 (frames_from n tray at) n i (from-few n tray at) f some))
+            overlay-no _ (plan-planned.left ∙ item-yes Record see_through_frame 18 (frames_from n tray at) i _ some (first_found see_through_frame Record 18 (frames_from n tray at) n i (from-few n tray at) f some))
 
         module _ (opaque : q.alpha ≡ false) where
-          none_seen : {B : Type 0} (o : Out B) → refuse_item 1 see_through_frame 18 (frames_from n tray at) o ≡ o
-          none_seen o = item-no 1 see_through_frame 18 (frames_from n tray at) o (sym plan-planned.alpha ∙ opaque)
+          none_seen : {B : Type 0} (o : Out B) → refuse_item Record see_through_frame 18 (frames_from n tray at) o ≡ o
+          none_seen o = item-no Record see_through_frame 18 (frames_from n tray at) o (sym plan-planned.alpha ∙ opaque)
 
-          pub overlay-sight : (r : Refusal) → plan_sights q ≡ refused r → OverlayRefused r
+          pub overlay-sight : (r : Refusal) → plan_sights q ≡ Err r → OverlayRefused r
           overlay-sight r e = overlay-no _ (plan-planned.left ∙ none_seen _ ∙ then-refused _ e)
 
-          pub overlay-done : (s : Sight) → plan_sights q ≡ done s
-              → (done (overlay_looked body tray (plan_looked q s)) ≡ overlay_look body tray chain flag list) × overlay_held body (OverlayLookRead.Look (plan_looked q s))
+          pub overlay-done : (s : Sight) → plan_sights q ≡ Ok s
+              → (Ok (overlay_looked body tray (plan_looked q s)) ≡ overlay_look body tray chain flag list) × overlay_held body (Ok (plan_looked q s))
           unfolding overlay_held
           overlay-done s e =
               let z = plan-planned.sound.canvas in

@@ -1,6 +1,7 @@
 -- The point calls (document 01, "Point call" and "Refusals in order", Point).
-use Rattle.std.specs.Prelude.{Bool, ◌&&◌, List, [], ◌∷◌, ◌%◌, ◌*◌, ◌+◌, ◌/◌, ℕ}
-use Rattle.laws.specs.Out.{Out, and_then, done, refuse_item, refused}
+use Rattle.laws.specs.declared.Item.TheVariants.{Record}
+use Rattle.std.specs.Prelude.{Bool, ◌&&◌, List, [], ◌∷◌, ◌%◌, ◌*◌, ◌+◌, ◌/◌, ℕ, Ok}
+use Rattle.laws.specs.Out.{Out, and_then, refuse_item}
 use Rattle.laws.specs.Pick.{pick}
 use Rattle.numbers.specs.Number.{on_number, read_number}
 use Rattle.image.specs.Format.{has_alpha}
@@ -19,7 +20,6 @@ use Rattle.blend.specs.Overlay.{covers, spot_at}
 use Rattle.inputs.specs.Inputs.{Inputs, inputs_at}
 use Rattle.point.specs.declared.Named.{Named}
 use Rattle.point.specs.declared.Point.{Point}
-use Rattle.point.specs.declared.PointRead.{PointRead}
 
 -- ---- what a place of the canvas names
 
@@ -59,7 +59,7 @@ pub record Look : Type 0 where
 
 -- a chain on a composed picture of that size: the entries' refusals, 18 an applied iscl
 unfoldable pub look_on : List PropertyEntry → Bool → ℕ → ℕ → (Place → Named) → Out Look
-look_on es essential_only width height names = and_then (sight_of es essential_only width height) (λ s. done (record { sight = s; names = names }))
+look_on es essential_only width height names = and_then (sight_of es essential_only width height) (λ s. Ok (record { sight = s; names = names }))
 
 -- as the grid scene, without 17
 unfoldable pub grid_look : List ℕ → List ℕ → List ℕ → Bool → Out Look
@@ -79,20 +79,15 @@ overlay_look body tray chain essential_only premultiplied =
     on_number (read_number tray 0) (λ n at.
     and_then (chain_at chain 0) (λ es.
     and_then (inputs_at body tray premultiplied n at) (λ q.
-    refuse_item 1 see_through_frame 18 q.frames
+    refuse_item Record see_through_frame 18 q.frames
     (look_on es essential_only q.descriptor.output_width q.descriptor.output_height (overlay_names body q)))))
 
 -- the place: 18 last, a place outside
 unfoldable pub point_from : Look → ℕ → ℕ → Out Point
-point_from k column row = and_then (source_place k.sight column row) (λ l. done (record { named = k.names l; sight = k.sight }))
+point_from k column row = and_then (source_place k.sight column row) (λ l. Ok (record { named = k.names l; sight = k.sight }))
 
 unfoldable pub grid_point : List ℕ → List ℕ → List ℕ → Bool → ℕ → ℕ → Out Point
 grid_point body tray chain essential_only column row = and_then (grid_look body tray chain essential_only) (λ k. point_from k column row)
 
 unfoldable pub overlay_point : List ℕ → List ℕ → List ℕ → Bool → List ℕ → ℕ → ℕ → Out Point
 overlay_point body tray chain essential_only premultiplied column row = and_then (overlay_look body tray chain essential_only premultiplied) (λ k. point_from k column row)
-
--- what a point call answers
-abbrev pub point_out : PointRead → Out Point
-point_out (PointRead.Point a) = done a
-point_out (PointRead.Refused e) = refused e

@@ -1,6 +1,6 @@
 -- What document 01 reads at an input and a spot ("Point call").
-use Rattle.std.specs.Prelude.{List, ◌<◌, min, ℕ, length}
-use Rattle.laws.specs.Out.{Out, done, refused}
+use Rattle.std.specs.Prelude.{List, ◌<◌, min, ℕ, length, Ok, Err, Option}
+use Rattle.laws.specs.Out.{Out}
 use Rattle.laws.specs.Pick.{pick}
 use Rattle.image.specs.Format.{has_alpha, top_of}
 use Rattle.image.specs.declared.format.Part.{Part}
@@ -8,7 +8,7 @@ use Rattle.image.specs.declared.format.Part.TheVariants.{Alpha, Cb, Cr, Luma}
 use Rattle.records.specs.Tray.{records_in}
 use Rattle.planes.specs.Bytes.{input_in}
 use Rattle.planes.specs.Picture.{Pic, full}
-use Rattle.fill.specs.declared.Colour.{Colour}
+use Rattle.fill.specs.declared.Nclx.{Nclx}
 use Rattle.derived.specs.Overlay.{overlay_of}
 use Rattle.derived.specs.declared.overlay.OverlayDescriptor.{OverlayDescriptor}
 use Rattle.inputs.specs.Inputs.{first_format}
@@ -30,12 +30,12 @@ grid_reads tray Named.Fill p = 0
 grid_reads tray (Named.Spot k) p = read_at (input_in tray k.input) p k.x k.y
 
 -- the fill of a body's canvas; none is read where the body is refused
-unfoldable pub canvas_fill_of : Out OverlayDescriptor → ℕ → Colour → Part → ℕ
-canvas_fill_of (refused r) depth colour p = 0
-canvas_fill_of (done d) depth colour p = fill_for d.canvas_fill depth colour p
+unfoldable pub canvas_fill_of : Out OverlayDescriptor → ℕ → Option Nclx → Part → ℕ
+canvas_fill_of (Err r) depth colour p = 0
+canvas_fill_of (Ok d) depth colour p = fill_for d.canvas_fill depth colour p
 
 -- the canvas fill and the fill alpha, or the input's sample, capped at top
-unfoldable pub overlay_reads : List ℕ → List ℕ → Colour → Named → Part → ℕ
+unfoldable pub overlay_reads : List ℕ → List ℕ → Option Nclx → Named → Part → ℕ
 overlay_reads body tray colour Named.Fill p = canvas_fill_of (overlay_of body (length (records_in tray))) (first_format (records_in tray)).depth colour p
 overlay_reads body tray colour (Named.Spot k) p = min (read_at (input_in tray k.input) p k.x k.y) (top_of (first_format (records_in tray)))
 

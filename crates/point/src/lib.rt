@@ -5,11 +5,9 @@ mod look;
 mod names;
 
 ghost use Rattle.std.specs.Prelude.{◌≡◌};
-ghost use Rattle.point.specs.Point.{grid_point, overlay_point, point_out};
+ghost use Rattle.point.specs.Point.{grid_point, overlay_point};
 
-pub use crate::look::{
-    GridLook, GridLookRead, OverlayLook, OverlayLookRead, look_grid, look_overlay,
-};
+pub use crate::look::{GridLook, OverlayLook, look_grid, look_overlay};
 use laws::Refusal;
 use sight::Sight;
 
@@ -35,14 +33,9 @@ pub struct Point {
     pub sight: Sight,
 }
 
-#[derive(Clone, Copy)]
-pub enum PointRead {
-    Point(Point),
-    Refused(Refusal),
-}
-
 // The tile and the spot of it that a final place of a grid scene shows. Refusals: 5 tray count unreadable; the chain's form; the
 // body's and the tiles'; the entries' in turn, 18 an applied iscl; 18 a place outside.
+#[tactic(auto, unfolding(crate::specs::Point::grid_point, crate::specs::inner::Look::grid_held, laws::specs::Out::and_then))]
 pub fn grid_point(
     body: &[u8],
     tray: &[u8],
@@ -50,17 +43,16 @@ pub fn grid_point(
     essential_only: bool,
     column: u32,
     row: u32,
-) -> PointRead
-    ensures { point_out result ≡ grid_point body.now tray.now chain.now essential_only column row }
+) -> Result<Point, Refusal>
+    ensures { result ≡ grid_point body.now tray.now chain.now essential_only column row }
 {
-    match look_grid(body, tray, chain, essential_only) {
-        GridLookRead::Refused(e) => PointRead::Refused(e),
-        GridLookRead::Look(k) => k.point(column, row),
-    }
+    let k = look_grid(body, tray, chain, essential_only)?;
+    k.point(column, row)
 }
 
 // The topmost input and the spot of it that a final place of an overlay scene shows, or fill. Refusals: 5 tray count unreadable; the
 // chain's form; the body's and the inputs'; 18 an input with alpha; the entries' in turn, 18 an applied iscl; 18 a place outside.
+#[tactic(auto, unfolding(crate::specs::Point::overlay_point, crate::specs::inner::Look::overlay_held, laws::specs::Out::and_then))]
 pub fn overlay_point(
     body: &[u8],
     tray: &[u8],
@@ -69,11 +61,9 @@ pub fn overlay_point(
     premultiplied: &[u8],
     column: u32,
     row: u32,
-) -> PointRead
-    ensures { point_out result ≡ overlay_point body.now tray.now chain.now essential_only premultiplied.now column row }
+) -> Result<Point, Refusal>
+    ensures { result ≡ overlay_point body.now tray.now chain.now essential_only premultiplied.now column row }
 {
-    match look_overlay(body, tray, chain, essential_only, premultiplied) {
-        OverlayLookRead::Refused(e) => PointRead::Refused(e),
-        OverlayLookRead::Look(k) => k.point(body, tray, column, row),
-    }
+    let k = look_overlay(body, tray, chain, essential_only, premultiplied)?;
+    k.point(body, tray, column, row)
 }

@@ -11,11 +11,12 @@ ghost use Rattle.point.specs.declared.Named.{Named};
 use crate::{Named, Spot};
 use derived::{OverlayDescriptor, Placement};
 use numbers::Offset;
-use records::{Frame, FrameRead};
+use records::Frame;
 use sight::CanvasPlace;
 use tiles::Tiles;
 
 // The tile that covers a place of the canvas.
+#[tactic(auto, unfolding(crate::specs::Point::grid_names))]
 pub(crate) fn name_tile(t: Tiles, l: CanvasPlace) -> Named
     requires { Tiled t l }
     ensures { result ≡ grid_names t (place_in l) }
@@ -30,15 +31,17 @@ pub(crate) fn name_tile(t: Tiles, l: CanvasPlace) -> Named
 }
 
 // Whether an input of a side covers a place along an axis.
+#[tactic(auto, unfolding(blend::specs::Overlay::covers))]
 fn reaches(side: u32, o: Offset, x: u32) -> bool
     ensures { result ≡ covers side o x }
 {
     let at = x as u64 + o.behind as u64;
     let ahead = o.ahead as u64;
-    image::both(ahead <= at, at < ahead + side as u64)
+    ahead <= at && at < ahead + side as u64
 }
 
 // The spot of an input of a side that covers the place.
+#[tactic(auto, unfolding(blend::specs::Overlay::covers, blend::specs::Overlay::spot_at))]
 fn spot_at(side: u32, o: Offset, x: u32) -> u32
     requires { covers side o x ≡ true }
     ensures { result ≡ spot_at o x }
@@ -47,21 +50,20 @@ fn spot_at(side: u32, o: Offset, x: u32) -> u32
 }
 
 // Input i where it covers the place, else what was found below it.
+#[tactic(auto, unfolding(crate::specs::Point::lies_over, crate::specs::Point::spot_under, laws::specs::Pick::pick))]
 fn name_input(i: u32, fr: Frame, o: Placement, l: CanvasPlace, found: Named) -> Named
     ensures { result ≡ pick (lies_over fr o (place_in l)) (spot_under i o (place_in l)) found }
 {
     let form = fr.form;
-    if !reaches(form.width, o.horizontal, l.x) {
-        return found;
+    if reaches(form.width, o.horizontal, l.x) && reaches(form.height, o.vertical, l.y) {
+        Named::Spot(Spot {
+            input: i,
+            x: spot_at(form.width, o.horizontal, l.x),
+            y: spot_at(form.height, o.vertical, l.y),
+        })
+    } else {
+        found
     }
-    if !reaches(form.height, o.vertical, l.y) {
-        return found;
-    }
-    Named::Spot(Spot {
-        input: i,
-        x: spot_at(form.width, o.horizontal, l.x),
-        y: spot_at(form.height, o.vertical, l.y),
-    })
 }
 
 // The topmost of the inputs that cover a place, or fill: one pass over the tray's records, of which the last that covers it is on top.
@@ -75,21 +77,14 @@ pub(crate) fn name_topmost(
     requires { OverlaySound body.now d }
     ensures { result ≡ topmost_named body.now d (place_in l) 0 Named.Fill (frames_from d.count tray.now first) }
 {
-    let count = d.count;
     let mut at = first;
-    let mut i: u32 = 0;
     let mut found = Named::Fill;
-    while i < count {
-        match records::read_record(tray, at) {
-            FrameRead::Refused(_) => {
-                return found;
-            }
-            FrameRead::Read(fr) => {
-                found = name_input(i, fr, d.offset(body, i), l, found);
-                at = fr.end;
-            }
-        }
-        i += 1;
+    for i in 0..d.count {
+        let Ok(fr) = records::read_record(tray, at) else {
+            return found;
+        };
+        found = name_input(i, fr, d.offset(body, i), l, found);
+        at = fr.end;
     }
     found
 }

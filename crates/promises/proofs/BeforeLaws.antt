@@ -1,4 +1,5 @@
 -- What stood before a request of document 02, in what stands now.
+use Rattle.std.specs.Prelude.{Ok, Err}
 use mathlib.Core.List.{List}
 use mathlib.Core.Path.{◌∙◌, ◌≡◌, sym}
 use Prim.Native.Nat.{◌+◌, ℕ}
@@ -7,7 +8,7 @@ use lib.Dec.{eqb, ltb}
 use borrow.Author.Tests.{eqb-false, le-ltb, ltb-false, ne_eqb}
 use Rattle.laws.proofs.Order.{apart, by-test, positive}
 use Rattle.laws.proofs.Out.{refuse-no, refuse-yes, then-done}
-use Rattle.laws.specs.Out.{Out, done, reason, refused}
+use Rattle.laws.specs.Out.{Out, reason}
 use Rattle.records.specs.Record.{record_of}
 use Rattle.records.specs.declared.record.Frame.{Frame}
 use Rattle.sizes.proofs.MarginLaws.{around-fits, around-inside, between-around, fits-around}
@@ -28,7 +29,7 @@ inside r w h o i =
     ∙ refuse-no _ _ (le-ltb w _ i.across)
     ∙ refuse-no _ _ (le-ltb h _ i.down)
 
-outside : {A : Type 0} (r : CropRect) (w h : ℕ) (o : Out A) → (Inside r w h → ⊥) → rect_judged r w h o ≡ refused (reason 9)
+outside : {A : Type 0} (r : CropRect) (w h : ℕ) (o : Out A) → (Inside r w h → ⊥) → rect_judged r w h o ≡ Err (reason 9)
 unfolding rect_judged
 outside r w h o n =
     by-test (eqb r.width 0) (refuse-yes _ _) (λ a. refuse-no _ _ a
@@ -42,7 +43,7 @@ outside r w h o n =
     }))))))
 
 -- with the margins about a rectangle, crop answers what it did by the rectangle alone, whether it lies inside or not
-pub crop-before : (s : List ℕ) (fr : Frame) (r : CropRect) (room : ℕ) → record_of s ≡ done fr → crop_run s (between r fr.form.width fr.form.height) room ≡ rect_run s r room
+pub crop-before : (s : List ℕ) (fr : Frame) (r : CropRect) (room : ℕ) → record_of s ≡ Ok fr → crop_run s (between r fr.form.width fr.form.height) room ≡ rect_run s r room
 unfolding between rect_run
 crop-before s fr r room e =
     let w = fr.form.width in

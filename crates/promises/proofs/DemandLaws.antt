@@ -1,22 +1,23 @@
 -- Demand 3, of grids and of overlays whose inputs have no alpha.
+use Rattle.laws.specs.declared.Item.TheVariants.{Record}
+use Rattle.std.specs.Prelude.{Ok, Option}
 use mathlib.Core.Bool.{Bool, false}
 use mathlib.Core.List.{List, []}
 use mathlib.Core.Path.{◌∙◌, ◌≡◌, ap, ap₂, refl, sym}
 use Prim.Native.Nat.{◌<◌, ◌≤◌, ℕ}
 use Rattle.laws.proofs.Out.{Holds, and_then-done, holds-map, item-done, item-no, then-done}
 use Rattle.laws.specs.Any.{any}
-use Rattle.laws.specs.Out.{Out, and_then, done, refuse, refuse_item}
+use Rattle.laws.specs.Out.{Out, and_then, refuse, refuse_item}
 use Rattle.laws.specs.Pick.{pick}
 use Rattle.laws.specs.Puts.{Bytes}
 use Rattle.numbers.specs.Number.{last_byte, on_number, read_from, read_number}
-use Rattle.numbers.specs.declared.NumberRead.TheVariants.{Number}
 use Rattle.records.proofs.RecordLaws.{on-number}
 use Rattle.image.specs.Format.{top_of}
 use Rattle.image.specs.Sound.{FormSound, SizeSound}
 use Rattle.records.specs.Tray.{records_in}
 use Rattle.planes.specs.inner.InRange.{InRange}
 use Rattle.planes.specs.Picture.{Pic}
-use Rattle.fill.specs.declared.Colour.{Colour}
+use Rattle.fill.specs.declared.Nclx.{Nclx}
 use Rattle.props.proofs.ChainLaws.{Applied}
 use Rattle.props.specs.Chain.{chain_at, count_at, entries_at}
 use Rattle.props.specs.declared.entry.PropertyEntry.{PropertyEntry}
@@ -55,7 +56,7 @@ use Rattle.promises.specs.Promises.{GridDemand, OverlayDemand}
 
 -- they go by the chain's entries on a canvas whose places have names
 record Places (tray chain : List ℕ) (flag : Bool) (point bare : ℕ → ℕ → Out Point) (es : List PropertyEntry) : Type 0 where
-  chained : chain_at chain 0 ≡ done es
+  chained : chain_at chain 0 ≡ Ok es
   width : ℕ
   height : ℕ
   wide : 1 ≤ width
@@ -67,30 +68,30 @@ record Places (tray chain : List ℕ) (flag : Bool) (point bare : ℕ → ℕ �
   spots : (l : Place) → l.x < width → l.y < height → (k : Spot) → names l ≡ Named.Spot k → InTray tray k
 
 module _ (tray chain : List ℕ) (flag : Bool) (point bare : ℕ → ℕ → Out Point) (es : List PropertyEntry) (t : Places tray chain flag point bare es) where
-  answers : (x y : ℕ) (a : Point) → point x y ≡ done a → point_on es flag t.width t.height x y t.names ≡ done a
+  answers : (x y : ℕ) (a : Point) → point x y ≡ Ok a → point_on es flag t.width t.height x y t.names ≡ Ok a
   answers x y a e = sym (t.points x y) ∙ e
 
-  bare-answers : (u v : ℕ) (b : Point) → bare u v ≡ done b → point_on [] flag t.width t.height u v t.names ≡ done b
+  bare-answers : (u v : ℕ) (b : Point) → bare u v ≡ Ok b → point_on [] flag t.width t.height u v t.names ≡ Ok b
   bare-answers u v b e = sym (t.bares u v) ∙ e
 
-  places-once : (x y u v : ℕ) (a b : Point) (k : Spot) → point x y ≡ done a → point u v ≡ done b → a.named ≡ Named.Spot k → b.named ≡ Named.Spot k → (x ≡ u) × (y ≡ v)
+  places-once : (x y u v : ℕ) (a b : Point) (k : Spot) → point x y ≡ Ok a → point u v ≡ Ok b → a.named ≡ Named.Spot k → b.named ≡ Named.Spot k → (x ≡ u) × (y ≡ v)
   places-once x y u v a b k p q = chain-once t.width t.height t.wide t.tall es flag t.names t.apart x y u v a b k (answers x y a p) (answers u v b q)
 
-  places-there : (x y : ℕ) (a : Point) (k : Spot) → point x y ≡ done a → a.named ≡ Named.Spot k → InTray tray k
+  places-there : (x y : ℕ) (a : Point) (k : Spot) → point x y ≡ Ok a → a.named ≡ Named.Spot k → InTray tray k
   places-there x y a k p e = chain-names t.width t.height t.wide t.tall es flag t.names (λ n. (j : Spot) → n ≡ Named.Spot j → InTray tray j) t.spots x y a (answers x y a p) k e
 
-  places-sighted : (x y u v : ℕ) (a b : Point) → point x y ≡ done a → bare u v ≡ done b → chain_sight chain flag (canvas_width b) (canvas_height b) ≡ done a.sight
+  places-sighted : (x y u v : ℕ) (a b : Point) → point x y ≡ Ok a → bare u v ≡ Ok b → chain_sight chain flag (canvas_width b) (canvas_height b) ≡ Ok a.sight
   unfolding chain_sight
   places-sighted x y u v a b p q = then-done _ t.chained ∙ chain-sighted t.width t.height t.wide t.tall es flag t.names x y u v a b (answers x y a p) (bare-answers u v b q)
 
-  places-stays : (u v : ℕ) (b : Point) (s : Sight) → bare u v ≡ done b → chain_sight chain flag (canvas_width b) (canvas_height b) ≡ done s
+  places-stays : (u v : ℕ) (b : Point) (s : Sight) → bare u v ≡ Ok b → chain_sight chain flag (canvas_width b) (canvas_height b) ≡ Ok s
       → CarriedTo (chain_carries chain flag) (canvas_width b) (canvas_height b) (record { x = u; y = v }) s
   unfolding chain_sight chain_carries
   places-stays u v b s q e =
       let k = chain-stays t.width t.height t.wide t.tall es flag t.names u v b s (bare-answers u v b q) (sym (then-done _ t.chained) ∙ e) in
       record { end = k.end; carried = then-done _ t.chained ∙ k.carried; follows = k.follows }
 
-  places-through : (x y : ℕ) (a : Point) → point x y ≡ done a → CarriedFrom (chain_carries chain flag) bare a x y
+  places-through : (x y : ℕ) (a : Point) → point x y ≡ Ok a → CarriedFrom (chain_carries chain flag) bare a x y
   unfolding chain_carries
   places-through x y a p =
       let k = chain-through t.width t.height t.wide t.tall es flag t.names x y a (answers x y a p) in
@@ -105,13 +106,13 @@ module _ (tray chain : List ℕ) (flag : Bool) (point bare : ℕ → ℕ → Out
       }
 
 -- the chain without entries has none
-no-chain : chain_at no_chain 0 ≡ done []
+no-chain : chain_at no_chain 0 ≡ Ok []
 unfolding chain_at count_at entries_at read_number read_from last_byte on_number and_then refuse pick
 no-chain = refl
 
 -- ---- a grid's tiles that were taken
 
-module _ (body tray : List ℕ) (bytes : Bytes body) (flag : Bool) (n at : ℕ) (number : read_number tray 0 ≡ Number n at) (es : List PropertyEntry) (applied : Applied NotIscl flag es) (t : Tiles) (taken : tiles_at body tray n at ≡ done t) where
+module _ (body tray : List ℕ) (bytes : Bytes body) (flag : Bool) (n at : ℕ) (number : read_number tray 0 ≡ Ok (n, at)) (es : List PropertyEntry) (applied : Applied NotIscl flag es) (t : Tiles) (taken : tiles_at body tray n at ≡ Ok t) where
   abbrev gridded : Pic
   gridded = grid_on tray t
 
@@ -146,8 +147,8 @@ module _ (body tray : List ℕ) (bytes : Bytes body) (flag : Bool) (n at : ℕ) 
 
 -- ---- an overlay's inputs that were taken, without alpha
 
-module _ (body tray list : List ℕ) (colour : Colour) (bytes : Bytes body) (flag : Bool) (n at : ℕ) (number : read_number tray 0 ≡ Number n at) (es : List PropertyEntry) (applied : Applied NotIscl flag es) (q : Inputs)
-    (taken : inputs_at body tray list n at ≡ done q) (none : any see_through_frame (records_in tray) ≡ false) where
+module _ (body tray list : List ℕ) (colour : Option Nclx) (bytes : Bytes body) (flag : Bool) (n at : ℕ) (number : read_number tray 0 ≡ Ok (n, at)) (es : List PropertyEntry) (applied : Applied NotIscl flag es) (q : Inputs)
+    (taken : inputs_at body tray list n at ≡ Ok q) (none : any see_through_frame (records_in tray) ≡ false) where
   abbrev overlaid : Pic
   overlaid = composed body tray list colour q
 
@@ -171,12 +172,12 @@ module _ (body tray list : List ℕ) (colour : Colour) (bytes : Bytes body) (fla
   sides-point x y = ap₂ (λ (w h : ℕ). point_on es flag w h x y (overlay_names body q)) canvas-sides.0 canvas-sides.1
 
   -- 18 an input with alpha
-  not-18 : (x y : ℕ) → refuse_item 1 see_through_frame 18 q.frames (overlay_pointed x y) ≡ overlay_pointed x y
-  not-18 x y = item-no 1 _ 18 _ _ opaque
+  not-18 : (x y : ℕ) → refuse_item Record see_through_frame 18 q.frames (overlay_pointed x y) ≡ overlay_pointed x y
+  not-18 x y = item-no Record _ 18 _ _ opaque
 
   -- 16 an alpha sample above top
-  not_16 : refuse_item 1 (alpha_above tray (top_of (first_format q.frames))) 16 q.frames (chain_drawn es flag overlaid) ≡ chain_drawn es flag overlaid
-  not_16 = item-no 1 _ 16 _ _ (none_above tray (top_of (first_format q.frames)) q.frames opaque)
+  not_16 : refuse_item Record (alpha_above tray (top_of (first_format q.frames))) 16 q.frames (chain_drawn es flag overlaid) ≡ chain_drawn es flag overlaid
+  not_16 = item-no Record _ 16 _ _ (none_above tray (top_of (first_format q.frames)) q.frames opaque)
 
   chained-agree : Holds (λ (d : Drawn). ReadsBack d.pic) (chain_drawn es flag overlaid) → (x y : ℕ) → Agrees (overlay_reads body tray colour) x y (chain_drawn es flag overlaid) (overlay_pointed x y)
   unfolding Agrees
@@ -187,7 +188,7 @@ module _ (body tray list : List ℕ) (colour : Colour) (bytes : Bytes body) (fla
       drawn x y output spare m)
 
   inputs-agree : Holds (λ (d : Drawn). ReadsBack d.pic) (chain_drawn es flag overlaid) → (x y : ℕ)
-      → Agrees (overlay_reads body tray colour) x y (refuse_item 1 (alpha_above tray (top_of (first_format q.frames))) 16 q.frames (chain_drawn es flag overlaid)) (refuse_item 1 see_through_frame 18 q.frames (overlay_pointed x y))
+      → Agrees (overlay_reads body tray colour) x y (refuse_item Record (alpha_above tray (top_of (first_format q.frames))) 16 q.frames (chain_drawn es flag overlaid)) (refuse_item Record see_through_frame 18 q.frames (overlay_pointed x y))
   inputs-agree drawn x y = agrees-as (overlay_reads body tray colour) x y (sym not_16) (sym (not-18 x y)) (chained-agree drawn x y)
 
 -- ---- the calls
@@ -200,13 +201,13 @@ chain_back es flag P k = holds-map _ _ _ (λ d f. in-range-back d.pic f) (chain-
 record GridTaken (body tray chain : List ℕ) : Type 0 where
   n : ℕ
   at : ℕ
-  number : read_number tray 0 ≡ Number n at
+  number : read_number tray 0 ≡ Ok (n, at)
   es : List PropertyEntry
-  chained : chain_at chain 0 ≡ done es
+  chained : chain_at chain 0 ≡ Ok es
   t : Tiles
-  taken : tiles_at body tray n at ≡ done t
+  taken : tiles_at body tray n at ≡ Ok t
 
-grid-read : (body tray chain : List ℕ) (flag : Bool) (x y : ℕ) (a : Point) → grid_point body tray chain flag x y ≡ done a → GridTaken body tray chain
+grid-read : (body tray chain : List ℕ) (flag : Bool) (x y : ℕ) (a : Point) → grid_point body tray chain flag x y ≡ Ok a → GridTaken body tray chain
 grid-read body tray chain flag x y a e =
     let i = on-number _ _ a (sym (grid-steps body tray chain flag x y) ∙ e) in
     let j = and_then-done _ _ a i.3 in
@@ -264,24 +265,24 @@ grid-demand body tray chain flag bytes small =
 record OverlayTaken (body tray chain list : List ℕ) : Type 0 where
   n : ℕ
   at : ℕ
-  number : read_number tray 0 ≡ Number n at
+  number : read_number tray 0 ≡ Ok (n, at)
   es : List PropertyEntry
-  chained : chain_at chain 0 ≡ done es
+  chained : chain_at chain 0 ≡ Ok es
   q : Inputs
-  taken : inputs_at body tray list n at ≡ done q
+  taken : inputs_at body tray list n at ≡ Ok q
   opaque : any see_through_frame q.frames ≡ false
 
-overlay_read : (body tray chain : List ℕ) (flag : Bool) (list : List ℕ) (x y : ℕ) (a : Point) → overlay_point body tray chain flag list x y ≡ done a → OverlayTaken body tray chain list
+overlay_read : (body tray chain : List ℕ) (flag : Bool) (list : List ℕ) (x y : ℕ) (a : Point) → overlay_point body tray chain flag list x y ≡ Ok a → OverlayTaken body tray chain list
 overlay_read body tray chain flag list x y a e =
     let i = on-number _ _ a (sym (overlay-steps body tray chain flag list x y) ∙ e) in
     let j = and_then-done _ _ a i.3 in
     let k = and_then-done _ _ a j.2 in
-    record { n = i.0; at = i.1; number = i.2; es = j.0; chained = j.1; q = k.0; taken = k.1; opaque = (item-done 1 _ 18 _ _ a k.2).0 }
+    record { n = i.0; at = i.1; number = i.2; es = j.0; chained = j.1; q = k.0; taken = k.1; opaque = (item-done Record _ 18 _ _ a k.2).0 }
 
 module _ (body tray chain : List ℕ) (flag : Bool) (list : List ℕ) where
   overlay-points : (c : List ℕ) (r : OverlayTaken body tray c list) (x y : ℕ)
       → overlay_point body tray c flag list x y ≡ point_on r.es flag r.q.descriptor.output_width r.q.descriptor.output_height x y (overlay_names body r.q)
-  overlay-points c r x y = overlay-steps body tray c flag list x y ∙ on-taken _ r.number ∙ then-done _ r.chained ∙ then-done _ r.taken ∙ item-no 1 _ 18 _ _ r.opaque
+  overlay-points c r x y = overlay-steps body tray c flag list x y ∙ on-taken _ r.number ∙ then-done _ r.chained ∙ then-done _ r.taken ∙ item-no Record _ 18 _ _ r.opaque
 
   overlay-places : (r : OverlayTaken body tray chain list) → Places tray chain flag (overlay_point body tray chain flag list) (overlay_point body tray no_chain flag list) r.es
   overlay-places r =
@@ -301,7 +302,7 @@ module _ (body tray chain : List ℕ) (flag : Bool) (list : List ℕ) where
       }
 
 -- DEMAND 3, of overlays; picture runs whose inputs have no alpha
-pub overlay-demand : (body tray chain : List ℕ) (flag : Bool) (premultiplied : List ℕ) (colour : Colour) → OverlayDemand body tray chain flag premultiplied colour
+pub overlay-demand : (body tray chain : List ℕ) (flag : Bool) (premultiplied : List ℕ) (colour : Option Nclx) → OverlayDemand body tray chain flag premultiplied colour
 unfolding OverlayDemand NoScaling NoAlpha overlay_drawn overlay_scene chain_sight Agrees
 overlay-demand body tray chain flag list colour bytes small =
     record {

@@ -1,22 +1,22 @@
 -- The promises, each by its law.
+use Rattle.std.specs.Prelude.{Ok, Err, Option}
 use mathlib.Core.List.{List}
 use mathlib.Core.Path.{◌≡◌}
 use Prim.Native.Nat.{◌-◌, ◌^◌, ◌≤◌, ℕ}
 use lib.ListN.{drop, take}
 use mathlib.Core.Bool.{Bool}
 use Rattle.laws.proofs.Out.{holds-done}
-use Rattle.laws.specs.Out.{done, refused}
 use Rattle.laws.specs.Puts.{Bytes}
+use Rattle.laws.specs.declared.Item.TheVariants.{Record, Entry}
 use Rattle.laws.specs.declared.Refusal.{Refusal}
 use Rattle.laws.specs.Pick.{pick}
 use Rattle.numbers.proofs.Number.{read-shortest, round_trip}
 use Rattle.numbers.specs.Number.{number_bytes, read_number}
-use Rattle.numbers.specs.declared.NumberRead.TheVariants.{Number}
 use Rattle.image.specs.Sound.{SizeSound}
 use Rattle.figures.proofs.Bound.{fill-within}
 use Rattle.figures.specs.Figure.{AllWithin, figures_of}
 use Rattle.fill.specs.Fill.{fill_of}
-use Rattle.fill.specs.declared.Colour.{Colour}
+use Rattle.fill.specs.declared.Nclx.{Nclx}
 use Rattle.fill.specs.declared.Ycbcr.{Ycbcr}
 use Rattle.derived.proofs.OffsetLaws.{offset-is}
 use Rattle.bodies.proofs.AgainLaws.{grid-rewritten, overlay-rewritten, words-there}
@@ -53,24 +53,24 @@ use Rattle.promises.proofs.BeforeLaws.{crop-before}
 use Rattle.promises.proofs.DemandLaws.{grid-demand, overlay-demand}
 use Rattle.promises.specs.Promises.{Promises}
 
-shortest : (s : List ℕ) (at v next : ℕ) → Bytes s → read_number s at ≡ Number v next → take (next - at) (drop at s) ≡ number_bytes v
+shortest : (s : List ℕ) (at v next : ℕ) → Bytes s → read_number s at ≡ Ok (v, next) → take (next - at) (drop at s) ≡ number_bytes v
 unfolding Bytes
 shortest = read-shortest
 
 depth-top : (old new : ℕ) → 8 ≤ old → old ≤ 16 → level_of old new (2 ^ old - 1) ≡ 2 ^ new - 1
 depth-top = level-top
 
-fill-figures : (red green blue depth : ℕ) (colour : Colour) (s : Ycbcr) → red ≤ 65535 → green ≤ 65535 → blue ≤ 65535 → fill_of red green blue depth colour ≡ done s
+fill-figures : (red green blue depth : ℕ) (colour : Option Nclx) (s : Ycbcr) → red ≤ 65535 → green ≤ 65535 → blue ≤ 65535 → fill_of red green blue depth colour ≡ Ok s
     → AllWithin s (2 ^ depth - 1) (figures_of red green blue depth colour)
 fill-figures red green blue depth colour s r g b e = holds-done _ _ s (fill-within red green blue depth colour r g b) e
 
-drawn-names : (es : List PropertyEntry) (flag : Bool) (P : Pic) (r : Refusal) → chain_drawn es flag P ≡ refused r
-    → OwnStep (fold_chain drawn_after flag) (λ e d. pick (applies flag e) (drawn_after e.property d) (done d)) 2 es (first_drawn P) r
+drawn-names : (es : List PropertyEntry) (flag : Bool) (P : Pic) (r : Refusal) → chain_drawn es flag P ≡ Err r
+    → OwnStep (fold_chain drawn_after flag) (λ e d. pick (applies flag e) (drawn_after e.property d) (Ok d)) Entry es (first_drawn P) r
 unfolding chain_drawn
 drawn-names es flag P r e = entry-item drawn_after flag es (first_drawn P) r e
 
-sight-names : (es : List PropertyEntry) (flag : Bool) (w h : ℕ) (r : Refusal) → sight_of es flag w h ≡ refused r
-    → OwnStep (fold_chain sight_after flag) (λ e s. pick (applies flag e) (sight_after e.property s) (done s)) 2 es (whole w h) r
+sight-names : (es : List PropertyEntry) (flag : Bool) (w h : ℕ) (r : Refusal) → sight_of es flag w h ≡ Err r
+    → OwnStep (fold_chain sight_after flag) (λ e s. pick (applies flag e) (sight_after e.property s) (Ok s)) Entry es (whole w h) r
 unfolding sight_of
 sight-names es flag w h r e = entry-item sight_after flag es (whole w h) r e
 
@@ -98,7 +98,7 @@ kept = record {
   chain_within = λ flag es z y s e. holds-done SizeSound _ y (chain-sound flag es z s) e;
   tray_names = tray-item;
   tile_names = tile_item;
-  input_names = λ test n inputs r e. first-named test 1 n inputs inputs r e;
+  input_names = λ test n inputs r e. first-named test Record n inputs inputs r e;
   chain_names = chain-item;
   drawn_names = drawn-names;
   sight_names = sight-names;

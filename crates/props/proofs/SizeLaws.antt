@@ -1,4 +1,5 @@
 -- Laws of sizes: a chain keeps within a picture's limits.
+use Rattle.std.specs.Prelude.{Ok}
 use mathlib.Core.Bool.{Bool, false, true}
 use mathlib.Core.List.{List}
 use mathlib.Core.Path.{◌≡◌}
@@ -7,7 +8,7 @@ use native.Mathlib.Nat.{le_trans, mul_comm}
 use native.Mathlib.Omega.{arith}
 use Rattle.laws.proofs.Order.{mul-below}
 use Rattle.laws.proofs.Out.{Holds, and_then-done, done-holds, done-same}
-use Rattle.laws.specs.Out.{done}
+use Rattle.laws.specs.Out.{Out}
 use Rattle.laws.specs.Pick.{pick}
 use Rattle.image.specs.Format.{odd}
 use Rattle.image.specs.Sound.{SizeSound}
@@ -32,12 +33,12 @@ clap-sound c z r y s i e =
       area = le_trans (mul-below z.width z.height r.width r.height (omega (arith, i.across)) (omega (arith, i.down))) s.area;
     })
 
-turn-sound : (z y : Size) (b : Bool) → SizeSound z → pick b (done (swapped z)) (done z) ≡ done y → SizeSound y
+turn-sound : (z y : Size) (b : Bool) → SizeSound z → pick {A = Out Size} b (Ok (swapped z)) (Ok z) ≡ Ok y → SizeSound y
 unfolding pick swapped
 turn-sound z y true s e = sound-as _ y (done-same _ y e) (record { wide = s.tall; tall = s.wide; area = rw (mul_comm z.height z.width) s.area })
 turn-sound z y false s e = sound-as z y (done-same z y e) s
 
-pub size-sound : (p : Property) (z y : Size) → SizeSound z → size_after p z ≡ done y → SizeSound y
+pub size-sound : (p : Property) (z y : Size) → SizeSound z → size_after p z ≡ Ok y → SizeSound y
 unfolding size_after
 size-sound Property.Other z y s e = sound-as z y (done-same z y e) s
 size-sound (Property.Clap c) z y s e =

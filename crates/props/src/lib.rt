@@ -5,5 +5,5 @@ mod chain;
 mod entry;
 mod size;
 
-pub use crate::chain::{Chain, ChainRead, check_chain};
-pub use crate::entry::{EntryAt, EntryRead, Imir, Irot, Property, PropertyEntry, read_entry};
+pub use crate::chain::{Chain, check_chain};
+pub use crate::entry::{Imir, Irot, Property, PropertyEntry, read_entry};

@@ -1,40 +1,40 @@
 // A picture's size, and what a property makes of it.
 ghost use Rattle.std.specs.Prelude.{◌≡◌};
-ghost use Rattle.image.specs.Format.{size_out};
 ghost use Rattle.props.specs.Size.{size_after};
 
 use crate::entry::Property;
-use image::{Size, SizeAnswer};
-use sizes::Resolved;
+use image::Size;
+use laws::Refusal;
 
 impl Property {
     // The size of what the property makes of a picture of that size. Refusals: a clap's, an iscl's.
-    pub fn size_after(self, size: Size) -> SizeAnswer
-        ensures { size_out result ≡ size_after self size }
+    #[tactic(auto, unfolding(crate::specs::Size::size_after, crate::specs::Size::swapped, image::specs::Format::odd, laws::specs::Out::and_then, laws::specs::Pick::pick))]
+    pub fn size_after(self, size: Size) -> Result<Size, Refusal>
+        ensures { result ≡ size_after self size }
     {
         match self {
-            Property::Other => SizeAnswer::Size(size),
+            Property::Other => Ok(size),
             Property::Clap(c) => {
                 let found = c.resolve(size.width, size.height);
-                let Resolved::Rect(k) = found else {
-                    return SizeAnswer::Refused(found.refusal());
+                let Ok(k) = found else {
+                    return Err(found.unwrap_err());
                 };
-                let r = k.rect;
-                SizeAnswer::Size(Size {
-                    width: r.width,
-                    height: r.height,
+                Ok(Size {
+                    width: k.rect.width,
+                    height: k.rect.height,
                 })
             }
             Property::Irot(t) => {
                 if t.angle % 4 % 2 == 1 {
-                    return SizeAnswer::Size(Size {
+                    Ok(Size {
                         width: size.height,
                         height: size.width,
-                    });
+                    })
+                } else {
+                    Ok(size)
                 }
-                SizeAnswer::Size(size)
             }
-            Property::Imir(_) => SizeAnswer::Size(size),
+            Property::Imir(_) => Ok(size),
             Property::Iscl(k) => k.output_size(size.width, size.height),
         }
     }

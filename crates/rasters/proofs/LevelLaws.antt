@@ -1,24 +1,21 @@
 -- Rows by a table and rows by a fixed step are the rows that the rule draws.
-use mathlib.Core.Bool.{Bool, ◌&&◌, false, true}
+use mathlib.Core.Bool.{Bool, true}
 use mathlib.Core.List.{List}
 use mathlib.Core.Path.{◌∙◌, ◌≡◌, ap, ap₂, subst, sym}
 use Prim.Native.Nat.{◌%◌, ◌*◌, ◌+◌, ◌-◌, ◌/◌, ◌<◌, ◌^◌, ◌≤◌, ℕ}
 use native.Mathlib.Nat.{div-add-mod, div-le_self, le_trans, mul_assoc, mul-div_cancel, mul-zero}
 use native.Mathlib.Omega.{arith}
-use lib.Dec.{eqb, ltb}
 use lib.ListN.{length, set}
 use lib.Pow.{pow_mono, pow_pos}
 use lib.Seq.{get_or-set_other, get_or-set_same}
 use borrow.Author.Tests.{eqb-true, le-ltb, lt-ltb}
 use Rattle.laws.proofs.Order.{and-true, by_equal, by_order, mul-below, pick-false, pick_true}
 use Rattle.laws.proofs.Span.{span-cong}
-use Rattle.laws.specs.Span.{span}
-use Rattle.laws.specs.Pick.{pick}
 use Rattle.image.specs.Format.{top_at}
 use Rattle.planes.proofs.ByteLaws.{length-samples_of}
 use Rattle.planes.specs.Bytes.{sample_at, sample_bytes, sample_in, samples_of}
 use Rattle.turns.specs.inner.Stepped.{SteppedFits, step_to, stepped}
-use Rattle.sampling.proofs.DepthLaws.{level-above}
+use Rattle.sampling.proofs.DepthLaws.{depths-same, level-above}
 use Rattle.sampling.proofs.PlaceLaws.{level-same, near-in, near_same}
 use Rattle.sampling.specs.Depth.{level_of}
 use Rattle.sampling.specs.Nearest.{near_place}
@@ -29,29 +26,29 @@ use Rattle.sampling.specs.declared.raster.NearRow.{NearRow}
 use Rattle.sampling.specs.declared.raster.Raster.{Raster}
 use Rattle.sampling.specs.declared.raster.RowRule.{RowRule}
 use Rattle.sampling.specs.declared.raster.Rule.{Rule}
-use Rattle.sampling.specs.inner.Depths.{DepthsFit}
+use Rattle.means.specs.inner.Columns.{MeansFits}
 use Rattle.ten_to_eight.specs.inner.Table.{ten_to_eight_of}
 use Rattle.rasters.specs.inner.Levels.{HasTable, Levels, look_of, looked_row}
-use Rattle.sampling.specs.inner.Redraw.{RasterFits, RuleFits, RuleRowFits, has_steps, raster_at, raster_row, row_at, row_of}
+use Rattle.sampling.specs.inner.Redraw.{RasterFits, RuleRowFits, has_steps, raster_at, raster_row, row_at, row_of}
 
 -- ---- a table
 
-look-level : (t : List ℕ) (k : Depths) (n top : ℕ) → DepthsFit k → (k.old ≡ k.new → ⊥) → Levels t k n → n ≡ top_at k.old + 1 → top ≡ top_at k.new → (v : ℕ) → look_of t n top v ≡ level_of k.old k.new v
+look-level : (t : List ℕ) (k : Depths) (n top : ℕ) → (k.old ≡ k.new → ⊥) → Levels t k n → n ≡ top_at k.old + 1 → top ≡ top_at k.new → (v : ℕ) → look_of t n top v ≡ level_of k.old k.new v
 unfolding look_of Levels
-look-level t k n top f h g e q v =
+look-level t k n top h g e q v =
     by_order v n
     (λ l. pick_true _ _ _ (lt-ltb v n l) ∙ g v l)
-    (λ l. pick-false _ _ _ (le-ltb v n l) ∙ q ∙ level-above k f h v (omega (arith, l, e)))
+    (λ l. pick-false _ _ _ (le-ltb v n l) ∙ q ∙ level-above k h v (omega (arith, l, e)))
 
-pub looked-row : (d : List ℕ) (r : Raster) (k : Depths) (t : List ℕ) (n top y : ℕ) → RasterFits d r → DepthsFit k → HasTable r k → Levels t k n → n ≡ top_at k.old + 1 → top ≡ top_at k.new
+pub looked-row : (d : List ℕ) (r : Raster) (k : Depths) (t : List ℕ) (n top y : ℕ) → RasterFits d r → HasTable r k → Levels t k n → n ≡ top_at k.old + 1 → top ≡ top_at k.new
     → looked_row d r t n top y ≡ raster_row d r (row_of (Rule.Near k) r.down y)
 unfolding looked_row raster_row raster_at row_of row_at samples_of
-looked-row d r k t n top y f g h l e q =
+looked-row d r k t n top y f h l e q =
     let z : near_place r.down.from r.down.to y ≡ y = ap (λ (m : ℕ). near_place m r.down.to y) h.down ∙ near_same r.down.to y f.down.made in
     span-cong _ _ 0 r.across.to (λ x a b.
     let w : near_place r.across.from r.across.to x ≡ x = ap (λ (m : ℕ). near_place m r.across.to x) h.across ∙ near_same r.across.to x f.across.made in
     ap (sample_bytes r.to_bytes)
-    (look-level t k n top g h.apart l e q _ ∙ ap₂ (λ (u v : ℕ). level_of k.old k.new (sample_in d r.bytes r.stride u v)) (sym w) (sym z)))
+    (look-level t k n top h.apart l e q _ ∙ ap₂ (λ (u v : ℕ). level_of k.old k.new (sample_in d r.bytes r.stride u v)) (sym w) (sym z)))
 
 pub length-looked_row : (d : List ℕ) (r : Raster) (t : List ℕ) (n top y : ℕ) → RasterFits d r → length (looked_row d r t n top y) ≡ r.across.to * r.to_bytes
 unfolding looked_row
@@ -81,7 +78,7 @@ steps_apart d r k w f g h =
     let q : ℕ = r.across.from / r.across.to in
     let place : (x : ℕ) → x * (q * r.bytes) ≡ x * q * r.bytes = λ x. sym (mul_assoc x q r.bytes) in
     let inside : (x : ℕ) → x < r.across.to → k.y * r.stride + x * (q * r.bytes) + r.bytes ≤ length d =
-    λ x l. rw (place x, ← near-whole r.across.from r.across.to x f.across.made whole) (f.inside _ k.y (near-in r.across.from r.across.to x f.across.positive l) g.1) in
+    λ x l. rw (place x, ← near-whole r.across.from r.across.to x f.across.made whole) (f.inside _ k.y (near-in r.across.from r.across.to x f.across.positive l) g) in
     record {
       bytes = eqb-true _ _ b.1;
       fits = record {
@@ -132,15 +129,9 @@ looked_item d bytes stride to t n top y x = sample_bytes to (look_of t n top (sa
 pub looked-inside : (d : List ℕ) (r : Raster) (x y : ℕ) → RasterFits d r → r.across.from ≡ r.across.to → y < r.down.from → x < r.across.to → (1 ≤ r.bytes) × (r.bytes ≤ 2) × (y * r.stride + x * r.bytes + r.bytes ≤ length d)
 looked-inside d r x y f e h l = (f.positive, f.bounded, f.inside x y (omega (arith, e, l)) h)
 
-pub near_fits : (k : Depths) (rule : Rule) (across down : Axis) → rule ≡ Rule.Near k → RuleFits rule across down → DepthsFit k
-unfolding RuleFits
-near_fits k rule across down e f = subst (λ (z : Rule). RuleFits z across down) e f
-
 -- the rule for planes that go from depth 10 to 8
-pub ten-rule : (k : Depths) (rule : Rule) (b : Bool) → rule ≡ Rule.Near k → b ≡ (eqb k.old 10 && eqb k.new 8) → b ≡ true → rule ≡ Rule.Near ten_to_eight_of
-ten-rule k rule b e h t =
-    let a = and-true (eqb k.old 10) (eqb k.new 8) (sym h ∙ t) in
-    e ∙ ap₂ (λ (old new : ℕ). Rule.Near (record { old = old; new = new })) (eqb-true _ _ a.0) (eqb-true _ _ a.1)
+pub ten-rule : (k : Depths) (rule : Rule) → rule ≡ Rule.Near k → k.old ≡ 10 → k.new ≡ 8 → rule ≡ Rule.Near ten_to_eight_of
+ten-rule k rule e a b = e ∙ ap Rule.Near (depths-same k ten_to_eight_of a b)
 
 -- ---- the rows
 
@@ -166,3 +157,7 @@ area-row f row across rows e k = subst (λ (z : RowRule). RuleRowFits z across r
 pub area-some : (f : Foot) (across : Axis) (rows : ℕ) → RuleRowFits (RowRule.Area f) across rows → f.start < f.end
 unfolding RuleRowFits
 area-some f across rows k = k.1.positive
+
+pub area-means : (f : Foot) (row : RowRule) (r : Raster) → row ≡ RowRule.Area f → RuleRowFits row r.across r.down.from → f.end - f.start ≤ 65536 → MeansFits r f
+unfolding RuleRowFits
+area-means f row r e k short = let a = area-row f row r.across r.down.from e k in record { across = a.0; tall = a.1; size = a.2; short = short }

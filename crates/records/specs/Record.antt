@@ -1,7 +1,7 @@
 -- Frame records ("What is handed in" and "Refusals in order", Record).
-use Rattle.std.specs.Prelude.{List, ℕ, ◌+◌, ◌-◌, ◌*◌, ltb, drop, length, take}
+use Rattle.std.specs.Prelude.{Ok, List, ℕ, ◌+◌, ◌-◌, ◌*◌, ltb, drop, length, take}
 use Rattle.laws.specs.Pick.{pick}
-use Rattle.laws.specs.Out.{Out, refused, done, and_then, refuse}
+use Rattle.laws.specs.Out.{Out, and_then, refuse}
 use Rattle.numbers.specs.Number.{read_number, on_number}
 use Rattle.image.specs.Format.{has_part, rows_of, row_size, form_of}
 use Rattle.image.specs.declared.format.Part.{Part}
@@ -9,31 +9,14 @@ use Rattle.image.specs.declared.format.Part.TheVariants.{Luma, Cb, Cr, Alpha}
 use Rattle.image.specs.declared.format.Form.{Form}
 use Rattle.records.specs.declared.record.Plane.{Plane}
 use Rattle.records.specs.declared.record.Frame.{Frame}
-use Rattle.records.specs.declared.record.Head.{Head}
-use Rattle.records.specs.declared.record.HeadRead.{HeadRead}
-use Rattle.records.specs.declared.record.PlaneRead.{PlaneRead}
-use Rattle.records.specs.declared.record.FrameRead.{FrameRead}
-
--- what reading a header, a plane and a record answers
-abbrev pub head_out : HeadRead → Out Head
-head_out (HeadRead.Read h) = done h
-head_out (HeadRead.Refused e) = refused e
-
-abbrev pub plane_out : PlaneRead → Out Plane
-plane_out (PlaneRead.Read q) = done q
-plane_out (PlaneRead.Refused e) = refused e
-
-abbrev pub frame_out : FrameRead → Out Frame
-frame_out (FrameRead.Read fr) = done fr
-frame_out (FrameRead.Refused e) = refused e
 
 -- a header's numbers, judged, and the place past it
-unfoldable pub head_of : ℕ → ℕ → ℕ → ℕ → ℕ → ℕ → Out Head
+unfoldable pub head_of : ℕ → ℕ → ℕ → ℕ → ℕ → ℕ → Out (Form × ℕ)
 head_of width height chroma depth alpha next =
-    and_then (form_of width height chroma depth alpha) (λ m. done (record { form = m; next = next }))
+    and_then (form_of width height chroma depth alpha) (λ m. Ok ((m, next)))
 
 -- the five numbers of a header are read before any is judged
-unfoldable pub head_at : List ℕ → ℕ → Out Head
+unfoldable pub head_at : List ℕ → ℕ → Out (Form × ℕ)
 head_at s at =
     on_number (read_number s at) (λ width a.
     on_number (read_number s a) (λ height b.
@@ -50,11 +33,11 @@ plane_at s at rows row =
     on_number (read_number s a) (λ len b.
     refuse (ltb stride row) 5
     (refuse (ltb len (stride * (rows - 1) + row)) 5
-    (refuse (ltb (length s - b) len) 5 (done (record { start = b; len = len; stride = stride }))))))
+    (refuse (ltb (length s - b) len) 5 (Ok (record { start = b; len = len; stride = stride }))))))
 
 -- the plane of a part; of a part that the picture has not, no bytes
 unfoldable pub part_at : List ℕ → ℕ → Form → Part → Out Plane
-part_at s at m p = pick (has_part m.format p) (plane_at s at (rows_of m p) (row_size m p)) (done (record { start = at; len = 0; stride = 0 }))
+part_at s at m p = pick (has_part m.format p) (plane_at s at (rows_of m p) (row_size m p)) (Ok (record { start = at; len = 0; stride = 0 }))
 
 -- the place past a plane
 unfoldable pub past : Plane → ℕ
@@ -66,15 +49,15 @@ planes_at s at m =
     and_then (part_at s (past luma) m Cb) (λ cb.
     and_then (part_at s (past cb) m Cr) (λ cr.
     and_then (part_at s (past cr) m Alpha) (λ alpha.
-    done (record { form = m; luma = luma; cb = cb; cr = cr; alpha = alpha; end = past alpha })))))
+    Ok (record { form = m; luma = luma; cb = cb; cr = cr; alpha = alpha; end = past alpha })))))
 
 -- the record that stands at a place
 unfoldable pub record_at : List ℕ → ℕ → Out Frame
-record_at s at = and_then (head_at s at) (λ h. planes_at s h.next h.form)
+record_at s at = and_then (head_at s at) (λ h. planes_at s h.1 h.0)
 
 -- a record and nothing after it
 unfoldable pub record_of : List ℕ → Out Frame
-record_of s = and_then (record_at s 0) (λ fr. refuse (ltb fr.end (length s)) 5 (done fr))
+record_of s = and_then (record_at s 0) (λ fr. refuse (ltb fr.end (length s)) 5 (Ok fr))
 
 -- the plane of a frame by its part
 unfoldable pub plane_of : Frame → Part → Plane

@@ -8,570 +8,370 @@
 
 ghost use Rattle.std.specs.Prelude.{◌≤◌, IfOk, length};
 
-use fill::{Colour, Filled, Nclx};
-use image::SizeAnswer;
-use laws::{Answer, Refusal};
-use numbers::{Cursor, FieldRead};
+use fill::Nclx;
+use laws::Refusal;
+use numbers::Cursor;
 use props::{Imir, Irot};
-use session::{Called, Canvas};
-use sizes::{Clap, Crop, CropRect, Iscl, Margins, Resolved};
+use session::Canvas;
+use sizes::{Clap, Crop, CropRect, Iscl, Margins};
 use std::io;
 use std::io::Read;
+
+// What stands in every byte of an output before the call.
+const BEFORE: u8 = 165;
+
+// A call as it is stored: its twenty numbers, its four parts, and its answer.
+#[derive(Clone, Copy)]
+struct Stored<'a> {
+    head: &'a [u8],
+    one: &'a [u8],
+    two: &'a [u8],
+    three: &'a [u8],
+    four: &'a [u8],
+    want: &'a [u8],
+}
 
 // The number at a place, 0 where there is none whole.
 fn number_at(s: &[u8], at: usize) -> u32 {
     let c = Cursor { at };
     match c.field(s, 4) {
-        FieldRead::Field { value, next: _ } => value,
-        FieldRead::Short => 0,
+        Ok((value, _)) => value,
+        Err(_) => 0,
     }
 }
 
-// Field i of a call, counted from 0.
-fn field(head: &[u8], i: usize) -> u32 {
-    if i > 9 {
-        return 0;
-    }
-    number_at(head, 40 + 4 * i)
+// So many bytes from a place on, none where there are fewer.
+fn part(s: &[u8], from: u32, count: u32) -> &[u8] {
+    let from = from as usize;
+    s.get(from..from + count as usize).unwrap_or(&s[..0])
 }
 
-fn byte(head: &[u8], i: usize) -> u8 {
-    (field(head, i) % 256) as u8
-}
-
-fn short(head: &[u8], i: usize) -> u16 {
-    (field(head, i) % 65536) as u16
-}
-
-// Whether the start of `a` is `b`.
-fn starts(a: &[u8], b: &[u8]) -> bool {
-    if a.len() < b.len() {
-        return false;
-    }
-    let mut i: usize = 0;
-    while i < b.len() {
-        if a[i] != b[i] {
-            return false;
-        }
-        i += 1;
-    }
-    true
-}
-
-// Whether a refusal is the stored one.
-fn refused_so(head: &[u8], e: Refusal) -> bool {
-    e.number as u32 == number_at(head, 4)
-}
-
-// Whether an answer is none of the stored refusals.
-fn is_taken(head: &[u8]) -> bool {
-    number_at(head, 4) == 0
+// The start of a buffer that a call says, or all of it.
+fn lent(out: &mut [u8], count: u32) -> &mut [u8] {
+    let n = out.len().min(count as usize);
+    &mut out[..n]
 }
 
 // Whether every byte from a place on is `v`.
 fn rest_is(s: &[u8], from: usize, v: u8) -> bool {
-    let mut i = from;
-    while i < s.len() {
-        if s[i] != v {
-            return false;
+    s.iter().skip(from).all(|b| *b == v)
+}
+
+impl<'a> Stored<'a> {
+    // A call of parts that stand at the start of longer ones, if they are as long as it says.
+    fn of(
+        head: &'a [u8],
+        one: &'a [u8],
+        two: &'a [u8],
+        three: &'a [u8],
+        four: &'a [u8],
+        want: &'a [u8],
+    ) -> Option<Stored<'a>> {
+        let zeros = number_at(head, 24) as usize;
+        Some(Stored {
+            head,
+            one: one.get(..number_at(head, 8) as usize + zeros)?,
+            two: two.get(..number_at(head, 12) as usize)?,
+            three: three.get(..number_at(head, 16) as usize)?,
+            four: four.get(..number_at(head, 20) as usize)?,
+            want: want.get(..number_at(head, 28) as usize)?,
+        })
+    }
+
+    // What a call does.
+    fn operation(self) -> u32 {
+        number_at(self.head, 0)
+    }
+
+    // How many bytes of output and of spare it is lent.
+    fn output(self) -> u32 {
+        number_at(self.head, 32)
+    }
+
+    fn spare(self) -> u32 {
+        number_at(self.head, 36)
+    }
+
+    // Field i, counted from 0.
+    fn field(self, i: usize) -> u32 {
+        if i > 9 {
+            return 0;
         }
-        i += 1;
+        number_at(self.head, 40 + 4 * i)
     }
-    true
-}
 
-// What stands in every byte of an output before the call.
-const BEFORE: u8 = 165;
+    fn byte(self, i: usize) -> u8 {
+        (self.field(i) % 256) as u8
+    }
 
-// Whether what was written is the stored answer, and what is past it, or all of it where it was refused, as it was.
-fn written_so(head: &[u8], answer: Answer, out: &[u8], want: &[u8]) -> bool {
-    match answer {
-        Answer::Refused(e) => {
-            if !rest_is(out, 0, BEFORE) {
-                return false;
-            }
-            refused_so(head, e)
-        }
-        Answer::Wrote(n) => {
-            if !is_taken(head) {
-                return false;
-            }
-            if n != want.len() {
-                return false;
-            }
-            if !starts(out, want) {
-                return false;
-            }
-            rest_is(out, n, BEFORE)
-        }
+    fn short(self, i: usize) -> u16 {
+        (self.field(i) % 65536) as u16
     }
-}
 
-fn clap_of(head: &[u8]) -> Clap {
-    Clap {
-        width_n: field(head, 0),
-        width_d: field(head, 1),
-        height_n: field(head, 2),
-        height_d: field(head, 3),
-        horiz_off_n: field(head, 4),
-        horiz_off_d: field(head, 5),
-        vert_off_n: field(head, 6),
-        vert_off_d: field(head, 7),
-    }
-}
-
-fn crop_of(head: &[u8]) -> Crop {
-    Crop {
-        rect: CropRect {
-            x: field(head, 0),
-            y: field(head, 1),
-            width: field(head, 2),
-            height: field(head, 3),
-        },
-        margins: Margins {
-            left: field(head, 4),
-            top: field(head, 5),
-            right: field(head, 6),
-            bottom: field(head, 7),
-        },
-    }
-}
-
-fn iscl_of(head: &[u8]) -> Iscl {
-    Iscl {
-        width_num: short(head, 0),
-        width_den: short(head, 1),
-        height_num: short(head, 2),
-        height_den: short(head, 3),
-    }
-}
-
-// A colour description from field i on: 1, its matrix and its range, or 0.
-fn colour_of(head: &[u8], i: usize) -> Colour {
-    if i > 7 {
-        return Colour::None;
-    }
-    if field(head, i) == 0 {
-        return Colour::None;
-    }
-    Colour::Nclx(Nclx {
-        matrix: short(head, i + 1),
-        full_range: field(head, i + 2) != 0,
-    })
-}
-
-// An operation on one record.
-fn on_record(op: u32, head: &[u8], record: &[u8], out: &mut [u8]) -> Answer {
-    if op == 1 {
-        return transform::crop(record, crop_of(head), out);
-    }
-    if op == 2 {
-        return transform::apply_clap(record, clap_of(head), out);
-    }
-    if op == 3 {
-        let angle = byte(head, 0);
-        return transform::apply_irot(record, Irot { angle }, out);
-    }
-    if op == 4 {
-        let axis = byte(head, 0);
-        return transform::apply_imir(record, Imir { axis }, out);
-    }
-    if op == 5 {
-        return resample::apply_iscl(record, iscl_of(head), out);
-    }
-    if op == 6 {
-        return resample::resize_nearest(record, field(head, 0), field(head, 1), out);
-    }
-    resample::rescale_depth(record, field(head, 0), out)
-}
-
-// An operation that writes.
-fn write(op: u32, head: &[u8], one: &[u8], two: &[u8], three: &[u8], out: &mut [u8]) -> Answer {
-    if op < 8 {
-        return on_record(op, head, one, out);
-    }
-    if op == 8 {
-        return attach::attach_alpha(one, two, out);
-    }
-    if op == 10 {
-        return grid::composite_grid(one, two, out);
-    }
-    if op == 11 {
-        return overlay::composite_overlay(one, two, three, colour_of(head, 0), out);
-    }
-    steps_text::steps_text(one, out)
-}
-
-// The same, lent the start of a buffer that the call says, or all of it.
-fn write_lent(
-    op: u32,
-    head: &[u8],
-    one: &[u8],
-    two: &[u8],
-    three: &[u8],
-    out: &mut [u8],
-) -> Answer {
-    let n = number_at(head, 32) as usize;
-    if n < out.len() {
-        return write(op, head, one, two, three, &mut out[0..n]);
-    }
-    write(op, head, one, two, three, out)
-}
-
-// A fill's three samples.
-fn filled_so(head: &[u8], want: &[u8]) -> bool {
-    let colour = colour_of(head, 4);
-    match fill::fill_to_ycbcr(
-        short(head, 0),
-        short(head, 1),
-        short(head, 2),
-        field(head, 3),
-        colour,
-    ) {
-        Filled::Refused(e) => refused_so(head, e),
-        Filled::Samples(s) => {
-            if s.y as u32 != number_at(want, 0) {
-                return false;
-            }
-            if s.cb as u32 != number_at(want, 4) {
-                return false;
-            }
-            if s.cr as u32 != number_at(want, 8) {
-                return false;
-            }
-            is_taken(head)
+    fn clap(self) -> Clap {
+        Clap {
+            width_n: self.field(0),
+            width_d: self.field(1),
+            height_n: self.field(2),
+            height_d: self.field(3),
+            horiz_off_n: self.field(4),
+            horiz_off_d: self.field(5),
+            vert_off_n: self.field(6),
+            vert_off_d: self.field(7),
         }
     }
-}
 
-// The rectangle that a clap leaves of a size, with the margins about it.
-fn resolved_so(head: &[u8], want: &[u8]) -> bool {
-    let clap = clap_of(head);
-    match clap.resolve(field(head, 8), field(head, 9)) {
-        Resolved::Refused(e) => refused_so(head, e),
-        Resolved::Rect(k) => {
-            let r = k.rect;
-            if r.x != number_at(want, 0) {
-                return false;
-            }
-            if r.y != number_at(want, 4) {
-                return false;
-            }
-            if r.width != number_at(want, 8) {
-                return false;
-            }
-            if r.height != number_at(want, 12) {
-                return false;
-            }
-            if !k.fits(field(head, 8), field(head, 9)) {
-                return false;
-            }
-            is_taken(head)
+    fn crop(self) -> Crop {
+        Crop {
+            rect: CropRect {
+                x: self.field(0),
+                y: self.field(1),
+                width: self.field(2),
+                height: self.field(3),
+            },
+            margins: Margins {
+                left: self.field(4),
+                top: self.field(5),
+                right: self.field(6),
+                bottom: self.field(7),
+            },
         }
     }
-}
 
-// The size that an iscl makes of a size.
-fn sized_so(head: &[u8], want: &[u8]) -> bool {
-    let iscl = iscl_of(head);
-    match iscl.output_size(field(head, 4), field(head, 5)) {
-        SizeAnswer::Refused(e) => refused_so(head, e),
-        SizeAnswer::Size(z) => {
-            if z.width != number_at(want, 0) {
-                return false;
-            }
-            if z.height != number_at(want, 4) {
-                return false;
-            }
-            is_taken(head)
+    fn iscl(self) -> Iscl {
+        Iscl {
+            width_num: self.short(0),
+            width_den: self.short(1),
+            height_num: self.short(2),
+            height_den: self.short(3),
         }
     }
-}
 
-// A scene call; field 3 says whether the essential entries alone are applied.
-fn compose(
-    op: u32,
-    head: &[u8],
-    one: &[u8],
-    two: &[u8],
-    three: &[u8],
-    four: &[u8],
-    out: &mut [u8],
-    spare: &mut [u8],
-) -> Answer {
-    let essential_only = field(head, 3) != 0;
-    if op == 15 {
-        return scene::grid_scene(one, two, three, essential_only, out, spare);
-    }
-    let colour = colour_of(head, 0);
-    scene::overlay_scene(one, two, three, essential_only, four, colour, out, spare)
-}
-
-// The same, lent the start of the spare that the call says, or all of it.
-fn compose_spare(
-    op: u32,
-    head: &[u8],
-    one: &[u8],
-    two: &[u8],
-    three: &[u8],
-    four: &[u8],
-    out: &mut [u8],
-    spare: &mut [u8],
-) -> Answer {
-    let n = number_at(head, 36) as usize;
-    if n < spare.len() {
-        return compose(op, head, one, two, three, four, out, &mut spare[0..n]);
-    }
-    compose(op, head, one, two, three, four, out, spare)
-}
-
-// The same, lent so much of the output, too.
-fn compose_lent(
-    op: u32,
-    head: &[u8],
-    one: &[u8],
-    two: &[u8],
-    three: &[u8],
-    four: &[u8],
-    out: &mut [u8],
-    spare: &mut [u8],
-) -> Answer {
-    let n = number_at(head, 32) as usize;
-    if n < out.len() {
-        return compose_spare(op, head, one, two, three, four, &mut out[0..n], spare);
-    }
-    compose_spare(op, head, one, two, three, four, out, spare)
-}
-
-// The first n bytes, or all of them.
-fn start(s: &[u8], n: u32) -> &[u8] {
-    let n = n as usize;
-    if n < s.len() {
-        return &s[0..n];
-    }
-    s
-}
-
-// Whether a scene is the stored one: past the record the output is zero, and so is the spare; refused, both are as they were.
-fn composed_so(head: &[u8], answer: Answer, out: &[u8], spare: &[u8], want: &[u8]) -> bool {
-    match answer {
-        Answer::Refused(e) => {
-            if !rest_is(out, 0, BEFORE) {
-                return false;
-            }
-            if !rest_is(spare, 0, BEFORE) {
-                return false;
-            }
-            refused_so(head, e)
+    // A colour description from field i on: 1, its matrix and its range, or 0.
+    fn colour(self, i: usize) -> Option<Nclx> {
+        if i > 7 || self.field(i) == 0 {
+            return None;
         }
-        Answer::Wrote(n) => {
-            if !is_taken(head) {
-                return false;
-            }
-            if n != want.len() {
-                return false;
-            }
-            if !starts(out, want) {
-                return false;
-            }
-            if !rest_is(out, n, 0) {
-                return false;
-            }
-            rest_is(spare, 0, 0)
+        Some(Nclx {
+            matrix: self.short(i + 1),
+            full_range: self.field(i + 2) != 0,
+        })
+    }
+
+    // Whether a refusal is the stored one.
+    fn refused_so(self, e: Refusal) -> bool {
+        e.reason.number() as u32 == number_at(self.head, 4)
+    }
+
+    // Whether the stored answer is no refusal.
+    fn is_taken(self) -> bool {
+        number_at(self.head, 4) == 0
+    }
+
+    // Whether the stored answer has a number at a place.
+    fn wants(self, at: usize, n: u32) -> bool {
+        n == number_at(self.want, at)
+    }
+
+    // Whether what was written is the stored answer.
+    fn wrote_so(self, n: usize, out: &[u8]) -> bool {
+        self.is_taken() && n == self.want.len() && out.starts_with(self.want)
+    }
+
+    // The same, and what is past it, or all of it where it was refused, as it was.
+    fn written_so(self, answer: Result<usize, Refusal>, out: &[u8]) -> bool {
+        match answer {
+            Err(e) => rest_is(out, 0, BEFORE) && self.refused_so(e),
+            Ok(n) => self.wrote_so(n, out) && rest_is(out, n, BEFORE),
         }
     }
-}
 
-// A scene on what the call lends.
-fn scene_so(
-    op: u32,
-    head: &[u8],
-    one: &[u8],
-    two: &[u8],
-    three: &[u8],
-    four: &[u8],
-    want: &[u8],
-) -> bool {
-    let mut out = [BEFORE; 4096];
-    let mut spare = [BEFORE; 4096];
-    let answer = compose_lent(op, head, one, two, three, four, &mut out, &mut spare);
-    let output = start(&out, number_at(head, 32));
-    composed_so(
-        head,
-        answer,
-        output,
-        start(&spare, number_at(head, 36)),
-        want,
-    )
-}
+    // Whether a scene is the stored one: past the record the output is zero, and so is the spare; refused, both are as they were.
+    fn composed_so(self, answer: Result<usize, Refusal>, out: &[u8], spare: &[u8]) -> bool {
+        match answer {
+            Err(e) => rest_is(out, 0, BEFORE) && rest_is(spare, 0, BEFORE) && self.refused_so(e),
+            Ok(n) => self.wrote_so(n, out) && rest_is(out, n, 0) && rest_is(spare, 0, 0),
+        }
+    }
 
-// So many bytes from a place on, none where there are fewer.
-fn part(s: &[u8], from: usize, count: usize) -> &[u8] {
-    if from > s.len() {
-        return &s[..0];
+    // An operation that writes, by its number.
+    fn write(self, out: &mut [u8]) -> Result<usize, Refusal> {
+        match self.operation() {
+            1 => transform::crop(self.one, self.crop(), out),
+            2 => transform::apply_clap(self.one, self.clap(), out),
+            3 => transform::apply_irot(
+                self.one,
+                Irot {
+                    angle: self.byte(0),
+                },
+                out,
+            ),
+            4 => transform::apply_imir(self.one, Imir { axis: self.byte(0) }, out),
+            5 => resample::apply_iscl(self.one, self.iscl(), out),
+            6 => resample::resize_nearest(self.one, self.field(0), self.field(1), out),
+            7 => resample::rescale_depth(self.one, self.field(0), out),
+            8 => attach::attach_alpha(self.one, self.two, out),
+            10 => grid::composite_grid(self.one, self.two, out),
+            11 => overlay::composite_overlay(self.one, self.two, self.three, self.colour(0), out),
+            _ => steps_text::steps_text(self.one, out),
+        }
     }
-    if count > s.len() - from {
-        return &s[..0];
-    }
-    let end = from + count;
-    &s[from..end]
-}
 
-// A call of a session, by the first four of its five numbers of the script: 0 place, 1 blank, else finish; the cell; its record's
-// place and length.
-fn call(canvas: Canvas, turn: u32, records: &[u8], script: &[u8], out: &mut [u8]) -> Called {
-    let at = 20 * (turn as usize);
-    let kind = number_at(script, at);
-    let cell = number_at(script, at + 4);
-    if kind == 0 {
-        let from = number_at(script, at + 8) as usize;
-        let count = number_at(script, at + 12) as usize;
-        return canvas.place(cell, part(records, from, count), out);
+    // The same, of what the call lends.
+    fn wrote_lent(self) -> bool {
+        let mut out = [BEFORE; 4096];
+        let answer = self.write(lent(&mut out, self.output()));
+        self.written_so(answer, &out)
     }
-    if kind == 1 {
-        return canvas.blank(cell, out);
-    }
-    let answer = canvas.finish(out.len());
-    Called { canvas, answer }
-}
 
-// The same, lent the start of the buffer that the fifth number says, or all of it.
-fn call_lent(canvas: Canvas, turn: u32, records: &[u8], script: &[u8], out: &mut [u8]) -> Called {
-    let n = number_at(script, 20 * (turn as usize) + 16) as usize;
-    if n < out.len() {
-        return call(canvas, turn, records, script, &mut out[0..n]);
-    }
-    call(canvas, turn, records, script, out)
-}
-
-// Whether a call of a session is answered by 0, or else by the refusal's number, as stored, and then left the buffer as it was.
-fn called_so(answer: Answer, number: u32, before: &[u8], after: &[u8]) -> bool {
-    match answer {
-        Answer::Refused(e) => {
-            if e.number as u32 != number {
-                return false;
+    // A fill's three samples.
+    fn filled_so(self) -> bool {
+        match fill::fill_to_ycbcr(
+            self.short(0),
+            self.short(1),
+            self.short(2),
+            self.field(3),
+            self.colour(4),
+        ) {
+            Err(e) => self.refused_so(e),
+            Ok(s) => {
+                self.is_taken()
+                    && self.wants(0, s.y as u32)
+                    && self.wants(4, s.cb as u32)
+                    && self.wants(8, s.cr as u32)
             }
-            starts(after, before)
         }
-        Answer::Wrote(_) => number == 0,
     }
-}
 
-// The length of a record that an answer gives.
-fn wrote(answer: Answer) -> usize {
-    match answer {
-        Answer::Refused(_) => 0,
-        Answer::Wrote(n) => n,
-    }
-}
-
-// Whether so many calls on a canvas are answered as stored: a number each, then the record where the last one is a finish.
-fn calls_so(start: Canvas, calls: u32, records: &[u8], script: &[u8], want: &[u8]) -> bool {
-    let mut out = [BEFORE; 4096];
-    let mut canvas = start;
-    let mut length: usize = 0;
-    let mut turn: u32 = 0;
-    while turn < calls {
-        let before = out;
-        let called = call_lent(canvas, turn, records, script, &mut out);
-        let answer = called.answer;
-        let number = number_at(want, 4 * (turn as usize));
-        if !called_so(answer, number, &before, &out) {
-            return false;
-        }
-        length = wrote(answer);
-        canvas = called.canvas;
-        turn += 1;
-    }
-    let from = 4 * (calls as usize);
-    if want.len() < from {
-        return false;
-    }
-    if want.len() - from != length {
-        return false;
-    }
-    starts(&out, part(want, from, length))
-}
-
-// A session, from the start of its canvas on; field 0 says how many calls follow.
-fn session_so(head: &[u8], body: &[u8], records: &[u8], script: &[u8], want: &[u8]) -> bool {
-    let started = Canvas::start(body);
-    let answer = started.answer;
-    match answer {
-        Answer::Refused(e) => refused_so(head, e),
-        Answer::Wrote(_) => {
-            if !is_taken(head) {
-                return false;
+    // The rectangle that a clap leaves of a size, with the margins about it.
+    fn resolved_so(self) -> bool {
+        let clap = self.clap();
+        match clap.resolve(self.field(8), self.field(9)) {
+            Err(e) => self.refused_so(e),
+            Ok(k) => {
+                let r = k.rect;
+                self.is_taken()
+                    && self.wants(0, r.x)
+                    && self.wants(4, r.y)
+                    && self.wants(8, r.width)
+                    && self.wants(12, r.height)
+                    && k.fits(self.field(8), self.field(9))
             }
-            calls_so(started.canvas, field(head, 0), records, script, want)
         }
     }
-}
 
-// Whether a call is answered as it is stored.
-fn answered_so(
-    head: &[u8],
-    one: &[u8],
-    two: &[u8],
-    three: &[u8],
-    four: &[u8],
-    want: &[u8],
-) -> bool {
-    let op = number_at(head, 0);
-    if op == 17 {
-        return session_so(head, one, two, three, want);
+    // The size that an iscl makes of a size.
+    fn sized_so(self) -> bool {
+        let iscl = self.iscl();
+        match iscl.output_size(self.field(4), self.field(5)) {
+            Err(e) => self.refused_so(e),
+            Ok(z) => self.is_taken() && self.wants(0, z.width) && self.wants(4, z.height),
+        }
     }
-    if op > 14 {
-        return scene_so(op, head, one, two, three, four, want);
-    }
-    if op == 9 {
-        return filled_so(head, want);
-    }
-    if op == 12 {
-        return resolved_so(head, want);
-    }
-    if op == 13 {
-        return sized_so(head, want);
-    }
-    let mut out = [BEFORE; 4096];
-    let answer = write_lent(op, head, one, two, three, &mut out);
-    written_so(head, answer, &out, want)
-}
 
-fn sum(a: u32, b: u32) -> usize {
-    a as usize + b as usize
-}
+    // A scene call; field 3 says whether the essential entries alone are applied.
+    fn compose(self, out: &mut [u8], spare: &mut [u8]) -> Result<usize, Refusal> {
+        let essential_only = self.field(3) != 0;
+        if self.operation() == 15 {
+            return scene::grid_scene(self.one, self.two, self.three, essential_only, out, spare);
+        }
+        scene::overlay_scene(
+            self.one,
+            self.two,
+            self.three,
+            essential_only,
+            self.four,
+            self.colour(0),
+            out,
+            spare,
+        )
+    }
 
-// The same of parts that stand at the start of longer ones.
-fn held_so(head: &[u8], one: &[u8], two: &[u8], three: &[u8], four: &[u8], want: &[u8]) -> bool {
-    let a = sum(number_at(head, 8), number_at(head, 24));
-    let b = number_at(head, 12) as usize;
-    let c = number_at(head, 16) as usize;
-    let d = number_at(head, 20) as usize;
-    let w = number_at(head, 28) as usize;
-    if a > one.len() {
-        return false;
+    // A scene on what the call lends.
+    fn scene_so(self) -> bool {
+        let mut out = [BEFORE; 4096];
+        let mut spare = [BEFORE; 4096];
+        let answer = self.compose(
+            lent(&mut out, self.output()),
+            lent(&mut spare, self.spare()),
+        );
+        self.composed_so(
+            answer,
+            lent(&mut out, self.output()),
+            lent(&mut spare, self.spare()),
+        )
     }
-    if b > two.len() {
-        return false;
+
+    // A call of a session, by the first four of its five numbers of the script: 0 place, 1 blank, else finish; the cell; its record's
+    // place and length. The state that it leaves, and where it is a finish the length of the finished record.
+    fn call(self, canvas: Canvas, turn: u32, out: &mut [u8]) -> Result<(Canvas, usize), Refusal> {
+        let at = 20 * turn as usize;
+        let cell = number_at(self.three, at + 4);
+        match number_at(self.three, at) {
+            0 => {
+                let record = part(
+                    self.two,
+                    number_at(self.three, at + 8),
+                    number_at(self.three, at + 12),
+                );
+                Ok((canvas.place(cell, record, out)?, 0))
+            }
+            1 => Ok((canvas.blank(cell, out)?, 0)),
+            _ => Ok((canvas, canvas.finish(out.len())?)),
+        }
     }
-    if c > three.len() {
-        return false;
+
+    // Whether so many calls on a canvas are answered as stored: a number each, 0 or else the refusal's, which leaves the buffer as it was;
+    // then the record where the last one is a finish.
+    fn calls_so(self, start: Canvas, calls: u32) -> bool {
+        let mut out = [BEFORE; 4096];
+        let mut canvas = start;
+        let mut length: usize = 0;
+        for turn in 0..calls {
+            let before = out;
+            let size = number_at(self.three, 20 * turn as usize + 16);
+            let at = 4 * turn as usize;
+            match self.call(canvas, turn, lent(&mut out, size)) {
+                Err(e) => {
+                    if !self.wants(at, e.reason.number() as u32) || out != before {
+                        return false;
+                    }
+                    length = 0;
+                }
+                Ok((next, n)) => {
+                    if !self.wants(at, 0) {
+                        return false;
+                    }
+                    canvas = next;
+                    length = n;
+                }
+            }
+        }
+        match self.want.get(4 * calls as usize..) {
+            None => false,
+            Some(record) => record.len() == length && out.starts_with(record),
+        }
     }
-    if d > four.len() {
-        return false;
+
+    // A session, from the start of its canvas on; field 0 says how many calls follow.
+    fn session_so(self) -> bool {
+        match Canvas::start(self.one) {
+            Err(e) => self.refused_so(e),
+            Ok(canvas) => self.is_taken() && self.calls_so(canvas, self.field(0)),
+        }
     }
-    if w > want.len() {
-        return false;
+
+    // Whether the call is answered as it is stored.
+    fn answered_so(self) -> bool {
+        match self.operation() {
+            9 => self.filled_so(),
+            12 => self.resolved_so(),
+            13 => self.sized_so(),
+            15 | 16 => self.scene_so(),
+            17 => self.session_so(),
+            _ => self.wrote_lent(),
+        }
     }
-    answered_so(
-        head,
-        &one[0..a],
-        &two[0..b],
-        &three[0..c],
-        &four[0..d],
-        &want[0..w],
-    )
 }
 
 // Reads until `buf` is full or the input ends, and returns how many bytes it put at the start of `buf`.
@@ -593,7 +393,7 @@ fn read_full<R: Read>(input: &mut R, buf: &mut [u8]) -> io::Result<usize>
 fn read_part<R: Read>(input: &mut R, part: &mut [u8], count: u32) -> io::Result<()> {
     let n = count as usize;
     if n <= part.len() {
-        read_full(input, &mut part[0..n])?;
+        read_full(input, &mut part[..n])?;
     }
     Ok(())
 }
@@ -612,25 +412,17 @@ fn replay_one<R: Read>(input: &mut R) -> io::Result<bool> {
     read_part(input, &mut three, number_at(&head, 16))?;
     read_part(input, &mut four, number_at(&head, 20))?;
     read_part(input, &mut want, number_at(&head, 28))?;
-    Ok(held_so(&head, &one, &two, &three, &four, &want))
-}
-
-fn one_if(b: bool) -> u32
-    ensures { result ≤ 1 }
-{
-    if b {
-        return 1;
-    }
-    0
+    let call = Stored::of(&head, &one, &two, &three, &four, &want);
+    Ok(call.is_some_and(|c| c.answered_so()))
 }
 
 // Reads so many calls, and says how many of them are answered as they are stored.
 fn replay_all<R: Read>(input: &mut R, count: u32) -> io::Result<u32> {
     let mut alike: u32 = 0;
-    let mut i: u32 = 0;
-    while i < count {
-        alike += one_if(replay_one(input)?);
-        i += 1;
+    for _turn in 0..count {
+        if replay_one(input)? {
+            alike += 1;
+        }
     }
     Ok(alike)
 }
@@ -652,9 +444,10 @@ fn operation<R: Read>(rt: &impl Print, input: &mut R) -> io::Result<bool> {
 
 fn main(rt: HostRuntime) -> io::Result<()> {
     let mut input = rt.stdin();
-    let mut turns: u32 = 1000;
-    while turns > 0 && operation(&rt, &mut input)? {
-        turns -= 1;
+    for _ in 0..1000 {
+        if !operation(&rt, &mut input)? {
+            break;
+        }
     }
     Ok(())
 }

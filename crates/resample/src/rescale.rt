@@ -4,40 +4,27 @@ ghost use Rattle.laws.specs.Out.{answer_of, written};
 ghost use Rattle.resample.specs.Run.{depth_run};
 
 use image::{Form, PixelFormat};
-use laws::{Answer, Refusal};
-use records::FrameRead;
+use laws::Refusal;
+use records::Picture;
 use sampling::{Depths, Rule};
 
 // A record's picture at another depth. Refusals: the record's, 6, 17.
-pub fn rescale_depth(record: &[u8], depth: u32, out: &mut [u8]) -> Answer
+#[tactic(auto, unfolding(crate::specs::Run::depth_run, laws::specs::Out::and_then, laws::specs::Out::answer_of, laws::specs::Out::written))]
+pub fn rescale_depth(record: &[u8], depth: u32, out: &mut [u8]) -> Result<usize, Refusal>
     ensures { (result ≡ answer_of (depth_run «record».now depth (length out.old)))
         × (out.new ≡ written (depth_run «record».now depth (length out.old)) out.old) }
 {
-    match records::parse_record(record) {
-        FrameRead::Refused(e) => Answer::Refused(e),
-        FrameRead::Read(f) => {
-            if !PixelFormat::is_depth(depth) {
-                return Answer::Refused(Refusal::DEPTH);
-            }
-            let m = f.form;
-            let g = m.format;
-            if depth == g.depth {
-                return planes::hand_back(record, out);
-            }
-            let form = Form {
-                width: m.width,
-                height: m.height,
-                format: PixelFormat {
-                    chroma: g.chroma,
-                    depth,
-                    alpha: g.alpha,
-                },
-            };
-            let rule = Rule::Near(Depths {
-                old: g.depth,
-                new: depth,
-            });
-            crate::draw::draw(record, f, form, rule, out)
-        }
+    let frame = records::parse_record(record)?;
+    let picture = Picture { record, frame };
+    if !PixelFormat::is_depth(depth) {
+        return Err(Refusal::DEPTH);
     }
+    let m = frame.form;
+    let old = m.format.depth;
+    if depth == old {
+        return planes::hand_back(record, out);
+    }
+    let format = PixelFormat { depth, ..m.format };
+    let rule = Rule::Near(Depths { old, new: depth });
+    crate::draw::draw(picture, Form { format, ..m }, rule, out)
 }

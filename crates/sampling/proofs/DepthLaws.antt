@@ -1,5 +1,7 @@
 -- Laws of another depth, for every pair of depths: 0 stays 0, top becomes top, and the order is kept.
 use mathlib.Core.Path.{◌∙◌, ◌≡◌, ap}
+use mathlib.Core.HLevel.{is_prop→PathP}
+use Rattle.std.specs.Coded.{le_prop}
 use Prim.Native.Nat.{◌*◌, ◌+◌, ◌/◌, ◌<◌, ◌≤◌, min, ℕ}
 use native.Mathlib.Nat.{add-zero, div-eq_of_lt, div-mul-le_self, le-div_iff_mul-le, le_trans, mul-add-div, mul-le-mul_right, zero-mul}
 use native.Mathlib.Omega.{arith}
@@ -55,10 +57,17 @@ module _ (old new : ℕ) (low : 8 ≤ old) (high : old ≤ 16) where
       (λ e. rw (← e) (rw (level-same old v, level-same old w) h))
       (λ e. rw (level-other old new v e, level-other old new w e) (min-mono _ _ (top_at new) (rises (top_at new) (top_at old) some v w h)))
 
+fit-prop : (old new : ℕ) → IsProp (DepthsFit old new)
+fit-prop old new = hlevel (le_prop)
+
+-- depths of the same numbers are the same
+pub depths-same : (k m : Depths) → k.old ≡ m.old → k.new ≡ m.new → k ≡ m
+depths-same k m a b = λ i. record { old = a i; new = b i; fit = is_prop→PathP (λ j. DepthsFit (a j) (b j)) (λ j. fit-prop (a j) (b j)) k.fit m.fit i }
+
 -- a sample above the old top becomes the new one
-pub level-above : (k : Depths) → DepthsFit k → (k.old ≡ k.new → ⊥) → (v : ℕ) → top_at k.old ≤ v → top_at k.new ≡ level_of k.old k.new v
-level-above k f h v l =
-    let a = level-mono k.old k.new f.old_low f.old_high (top_at k.old) v l in
-    let t = level-top k.old k.new f.old_low f.old_high in
+pub level-above : (k : Depths) → (k.old ≡ k.new → ⊥) → (v : ℕ) → top_at k.old ≤ v → top_at k.new ≡ level_of k.old k.new v
+level-above k h v l =
+    let a = level-mono k.old k.new k.fit.old_low k.fit.old_high (top_at k.old) v l in
+    let t = level-top k.old k.new k.fit.old_low k.fit.old_high in
     let o = level-other k.old k.new v h in
     omega (arith, a, t, o, (min-le (rounded (v * top_at k.new) (top_at k.old)) (top_at k.new)).1)

@@ -42,7 +42,7 @@ length-raster_bytes d r k = length-span-all _ (r.across.to * r.to_bytes) r.down.
 -- a row of a rule that fits
 pub row_fits : (k : Rule) (across down : Axis) (y : ℕ) → RuleFits k across down → AxisFits down → y < down.to → RuleRowFits (row_of k down y) across down.from
 unfolding RuleRowFits RuleFits row_of
-row_fits (Rule.Near k) across down y f a h = (f, near-in down.from down.to y a.positive h)
+row_fits (Rule.Near k) across down y f a h = near-in down.from down.to y a.positive h
 row_fits Rule.Area across down y f a h = (f.0, foot-in down.from down.to y a.positive h, f.2)
 
 -- the area of a row that fits

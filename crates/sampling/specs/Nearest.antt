@@ -1,8 +1,7 @@
 -- Another size by nearest samples (document 01, "Other operations", `resize_nearest`): each plane between its own sizes.
-use Rattle.std.specs.Prelude.{Bool, ◌&&◌, ◌*◌, ◌/◌, ℕ, eqb}
+use Rattle.std.specs.Prelude.{◌*◌, ◌/◌, ℕ}
 use Rattle.image.specs.Format.{columns_of, rows_of, sized}
 use Rattle.planes.specs.Picture.{Pic}
-use Rattle.image.specs.declared.format.Form.{Form}
 
 -- the sample, of so many that there were, that stands for sample k of so many that there are to be
 unfoldable pub near_place : ℕ → ℕ → ℕ → ℕ

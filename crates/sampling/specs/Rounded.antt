@@ -1,6 +1,5 @@
 -- The whole number nearest to a quotient.
-use Rattle.std.specs.Prelude.{ℕ, ◌+◌, ◌/◌, leb}
-use Rattle.laws.specs.Pick.{pick}
+use Rattle.std.specs.Prelude.{ℕ, ◌+◌, ◌/◌}
 
 -- n / d to the nearest whole number, a half up
 unfoldable pub rounded : ℕ → ℕ → ℕ

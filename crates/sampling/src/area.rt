@@ -19,16 +19,14 @@ pub fn footprint(a: Axis, k: usize) -> Foot
     requires { (k < a.to) × (1 ≤ a.from) × (a.to ≤ 2 ^ 26) × (a.from ≤ 2 ^ 26) }
     ensures { result ≡ foot_of a.from a.to k }
 {
-    let from = a.from;
-    let to = a.to;
-    if to <= from {
+    if a.to <= a.from {
         return Foot {
-            start: k * from * 256 / to,
-            end: (k + 1) * from * 256 / to,
+            start: k * a.from * 256 / a.to,
+            end: (k + 1) * a.from * 256 / a.to,
         };
     }
-    let centre = (2 * k + 1) * from * 256 / (2 * to);
-    let start = numbers::min(numbers::saturating_sub(centre, 128), 256 * (from - 1));
+    let centre = (2 * k + 1) * a.from * 256 / (2 * a.to);
+    let start = centre.saturating_sub(128).min(256 * (a.from - 1));
     Foot {
         start,
         end: start + 256,
@@ -40,7 +38,7 @@ pub fn weight(f: Foot, j: usize) -> usize
     requires { (f.start < f.end) × (f.end ≤ 2 ^ 40) × (first_of f ≤ j) × (j < past_of f) }
     ensures { (result ≡ weight_of f j) × (result ≤ 256) }
 {
-    numbers::min(f.end, 256 * j + 256) - numbers::max(f.start, 256 * j)
+    f.end.min(256 * j + 256) - f.start.max(256 * j)
 }
 
 // The samples of row y under a footprint, each times its weight.
@@ -49,11 +47,9 @@ fn row_sum(plane: &[u8], bytes: usize, stride: usize, f: Foot, y: usize) -> usiz
     ensures { (result ≡ weighed f (λ x. sample_in plane.now bytes stride x y)) × (result ≤ (f.end - f.start) * 65535) }
 {
     let past = (f.end + 255) / 256;
-    let mut sum: usize = 0;
-    let mut j = f.start / 256;
-    while j < past {
+    let mut sum = 0;
+    for j in f.start / 256..past {
         sum += planes::sample(plane, bytes, stride, j, y) as usize * weight(f, j);
-        j += 1;
     }
     sum
 }
@@ -64,11 +60,9 @@ pub fn area_sample(plane: &[u8], bytes: usize, stride: usize, across: Foot, down
     ensures { result ≡ area_mean across down (λ x y. sample_in plane.now bytes stride x y) }
 {
     let past = (down.end + 255) / 256;
-    let mut sum: usize = 0;
-    let mut j = down.start / 256;
-    while j < past {
+    let mut sum = 0;
+    for j in down.start / 256..past {
         sum += row_sum(plane, bytes, stride, across, j) * weight(down, j);
-        j += 1;
     }
     let whole = (across.end - across.start) * (down.end - down.start);
     ((sum + whole / 2) / whole) as u16

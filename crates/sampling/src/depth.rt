@@ -10,12 +10,12 @@ use image::PixelFormat;
 pub struct Depths {
     pub old: u32,
     pub new: u32,
+    pub ghost fit: { DepthsFit old new },
 }
 
 impl Depths {
     // The sample of the new depth: v * new top / old top to the nearest whole number, at most the new top.
     pub fn level(self, v: u16) -> u16
-        requires { DepthsFit self }
         ensures { result ≡ level_of self.old self.new v }
     {
         if self.old == self.new {
@@ -24,9 +24,6 @@ impl Depths {
         let old = PixelFormat::top_at(self.old) as usize;
         let new = PixelFormat::top_at(self.new) as usize;
         let level = (v as usize * new + old / 2) / old;
-        if level > new {
-            return new as u16;
-        }
-        level as u16
+        level.min(new) as u16
     }
 }

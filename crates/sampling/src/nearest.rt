@@ -9,10 +9,8 @@ pub fn nearest_place(a: Axis, k: usize) -> usize
     requires { (1 ≤ a.to) × (k < a.to) × (a.to ≤ 2 ^ 30) × (a.from ≤ 2 ^ 30) }
     ensures { result ≡ near_place a.from a.to k }
 {
-    let from = a.from;
-    let to = a.to;
-    if from == to {
+    if a.from == a.to {
         return k;
     }
-    k * from / to
+    k * a.from / a.to
 }

@@ -1,4 +1,5 @@
 -- The composed picture of a grid or an overlay that was taken has a sound form and samples that fit their bytes.
+use Rattle.std.specs.Prelude.{Ok, Option}
 use mathlib.Core.Bool.{Bool, false, true}
 use mathlib.Core.List.{List}
 use mathlib.Core.Path.{◌≡◌, refl}
@@ -10,11 +11,9 @@ use lib.Pow.{pow_mono, pow_pos}
 use borrow.Author.Tests.{le-leb, leb-true}
 use Rattle.laws.proofs.Order.{by_order, by-test, pick-both, pick-false, pick-le, pick_true}
 use Rattle.laws.proofs.Out.{then-done}
-use Rattle.laws.specs.Out.{done}
 use Rattle.laws.specs.Pick.{pick}
 use Rattle.laws.specs.Puts.{Bytes}
 use Rattle.numbers.specs.Number.{on_number, read_number}
-use Rattle.numbers.specs.declared.NumberRead.TheVariants.{Number}
 use Rattle.image.proofs.FormLaws.{bytes-cases, bytes-few}
 use Rattle.records.proofs.TrayLaws.{frames-length}
 use Rattle.image.specs.Format.{as444, bytes_of, has_part, middle_of, top_of}
@@ -30,7 +29,7 @@ use Rattle.planes.proofs.ByteLaws.{data-bytes, sample-small}
 use Rattle.planes.specs.inner.InRange.{InRange}
 use Rattle.planes.specs.Bytes.{decode, picture_in, sample_in}
 use Rattle.planes.specs.Picture.{Pic, full, pixel, promote}
-use Rattle.fill.specs.declared.Colour.{Colour}
+use Rattle.fill.specs.declared.Nclx.{Nclx}
 use Rattle.derived.proofs.Taken.{overlay-fill}
 use Rattle.grid.proofs.Composed.{canvas-depth}
 use Rattle.grid.proofs.GridLaws.{tiles-taken}
@@ -149,19 +148,19 @@ module _ (tray : List ℕ) (t : Tiles) (ok : TilesTaken tray t) (small : Bytes t
         small = λ p h x y i j. fit-bytes canvas.format _ (tile-in-fits _ _ p _ _);
       }
 
-tiles-at : (body tray : List ℕ) (n at : ℕ) (t : Tiles) → read_number tray 0 ≡ Number n at → tiles_at body tray n at ≡ done t → tiles_of body tray ≡ done t
+tiles-at : (body tray : List ℕ) (n at : ℕ) (t : Tiles) → read_number tray 0 ≡ Ok (n, at) → tiles_at body tray n at ≡ Ok t → tiles_of body tray ≡ Ok t
 unfolding tiles_of on_number
 tiles-at body tray n at t c e = rw c e
 
-pub grid-in-range : (body tray : List ℕ) (n at : ℕ) (t : Tiles) → Bytes body → Bytes tray → read_number tray 0 ≡ Number n at → tiles_at body tray n at ≡ done t → InRange (grid_on tray t)
+pub grid-in-range : (body tray : List ℕ) (n at : ℕ) (t : Tiles) → Bytes body → Bytes tray → read_number tray 0 ≡ Ok (n, at) → tiles_at body tray n at ≡ Ok t → InRange (grid_on tray t)
 grid-in-range body tray n at t small bytes c e = taken-in-range tray t (tiles-taken body tray t small (tiles-at body tray n at t c e)) bytes
 
 -- ---- the overlay
 
-inputs-fill : (body tray list : List ℕ) (n at : ℕ) (q : Inputs) → Bytes body → inputs_at body tray list n at ≡ done q → q.descriptor.canvas_fill.alpha ≤ 65535
+inputs-fill : (body tray list : List ℕ) (n at : ℕ) (q : Inputs) → Bytes body → inputs_at body tray list n at ≡ Ok q → q.descriptor.canvas_fill.alpha ≤ 65535
 inputs-fill body tray list n at q small e = overlay-fill body n q.descriptor small (took body tray list n at q e).body-read
 
-form-taken : (body tray list : List ℕ) (colour : Colour) (n at : ℕ) (q : Inputs) → read_number tray 0 ≡ Number n at → inputs_at body tray list n at ≡ done q → FormSound (composed_form body tray list q)
+form-taken : (body tray list : List ℕ) (colour : Option Nclx) (n at : ℕ) (q : Inputs) → read_number tray 0 ≡ Ok (n, at) → inputs_at body tray list n at ≡ Ok q → FormSound (composed_form body tray list q)
 unfolding plan_at plan_of
 form-taken body tray list colour n at q c e = (plan-taken body tray list colour 0 n at c (plan_of body tray list at q) (then-done _ e)).sound.form
 
@@ -173,7 +172,7 @@ settled-low top Cb fill v a h = pick-le _ fill _ top h (omega arith)
 settled-low top Cr fill v a h = pick-le _ fill _ top h (omega arith)
 settled-low top Alpha fill v a h = omega arith
 
-pub overlay-in-range : (body tray premultiplied : List ℕ) (colour : Colour) (n at : ℕ) (q : Inputs) → Bytes body → read_number tray 0 ≡ Number n at → inputs_at body tray premultiplied n at ≡ done q
+pub overlay-in-range : (body tray premultiplied : List ℕ) (colour : Option Nclx) (n at : ℕ) (q : Inputs) → Bytes body → read_number tray 0 ≡ Ok (n, at) → inputs_at body tray premultiplied n at ≡ Ok q
     → InRange (composed body tray premultiplied colour q)
 unfolding composed overlay_pic place_at composed_form overlay_form top_of
 overlay-in-range body tray premultiplied colour n at q small c e =

@@ -1,4 +1,6 @@
 -- What the scene calls come to, refusal by refusal.
+use Rattle.laws.specs.declared.Item.TheVariants.{Record}
+use Rattle.std.specs.Prelude.{Ok, Err, Option}
 use mathlib.Core.Bool.{Bool, false, true}
 use mathlib.Core.List.{List, ◌++◌}
 use mathlib.Core.Path.{◌∙◌, ◌≡◌, ap, refl, sym}
@@ -11,13 +13,10 @@ use lib.Seq.{take_at}
 use borrow.Author.Tests.{le-ltb, ltb-false}
 use Rattle.laws.proofs.Out.{Same, alike, and_then-done, both, done-same, item-then, not_done, refuse-done, refuse-no, refused-back, same_left, then-done, then-refused}
 use Rattle.laws.proofs.Puts.{length-puts, puts-start}
-use Rattle.laws.specs.Out.{Out, and_then, answer_of, done, reason, refuse, refuse_item, refused}
+use Rattle.laws.specs.Out.{Out, and_then, answer_of, refuse, refuse_item}
 use Rattle.laws.specs.Puts.{Bytes, puts}
-use Rattle.laws.specs.declared.Answer.{Answer}
-use Rattle.laws.specs.declared.Answer.TheVariants.{Refused}
 use Rattle.laws.specs.declared.Refusal.{Refusal}
 use Rattle.numbers.specs.Number.{on_number, read_number}
-use Rattle.numbers.specs.declared.NumberRead.{NumberRead}
 use Rattle.records.proofs.RecordLaws.{whole-sound}
 use Rattle.image.specs.Format.{top_of}
 use Rattle.records.specs.Record.{record_of}
@@ -29,7 +28,7 @@ use Rattle.planes.specs.inner.InRange.{InRange}
 use Rattle.planes.proofs.RoundTrip.{length-encode}
 use Rattle.planes.specs.Bytes.{decode, encode, size_of}
 use Rattle.planes.specs.Picture.{Pic}
-use Rattle.fill.specs.declared.Colour.{Colour}
+use Rattle.fill.specs.declared.Nclx.{Nclx}
 use Rattle.props.proofs.ChainLaws.{judged-chain, judged-refused}
 use Rattle.props.specs.Chain.{chain_at, fold_chain}
 use Rattle.props.specs.declared.chain.Chain.{Chain}
@@ -67,12 +66,12 @@ use Rattle.plans.specs.inner.ChainPlan.{chain_plan_of, current_for, current_of}
 
 -- ---- what is answered and written
 
-pub scene-refused : (o : Out (List ℕ)) (r : Refusal) (d f : List ℕ) → o ≡ refused r → (Refused r ≡ answer_of o) × (d ≡ output_of o d) × (f ≡ spare_of o f)
+pub scene-refused : (o : Out (List ℕ)) (r : Refusal) (d f : List ℕ) → o ≡ Err r → (Err r ≡ answer_of o) × (d ≡ output_of o d) × (f ≡ spare_of o f)
 unfolding answer_of output_of spare_of
 scene-refused o r d f e = (sym (ap answer_of e), sym (ap (λ (u : Out (List ℕ)). output_of u d) e), sym (ap (λ (u : Out (List ℕ)). spare_of u f) e))
 
 -- the buffers were d and f, and are e and g; on the way they were as long
-pub scene-done : (o : Out (List ℕ)) (bs d d' e f f' g : List ℕ) (a : Answer) → o ≡ done bs → length d' ≡ length d → length f' ≡ length f → Finished a bs d' e f' g
+pub scene-done : (o : Out (List ℕ)) (bs d d' e f f' g : List ℕ) (a : Out ℕ) → o ≡ Ok bs → length d' ≡ length d → length f' ≡ length f → Finished a bs d' e f' g
     → (a ≡ answer_of o) × (e ≡ output_of o d) × (g ≡ spare_of o f)
 unfolding answer_of output_of spare_of
 scene-done o bs d d' e f f' g a q i j k = (
@@ -90,12 +89,12 @@ scene_on es flag P output spare = and_then (chain_drawn es flag P) (room_for out
 -- where a form's record lies, and what the chain on its picture comes to
 record Planned (es : List PropertyEntry) (flag : Bool) (P : Pic) (m : Form) (output spare : ℕ) (h : Current) : Type 0 where
   drawn : Drawn
-  run : chain_drawn es flag P ≡ done drawn
+  run : chain_drawn es flag P ≡ Ok drawn
   over : drawn.longest ≤ output
   under : drawn.longest ≤ spare
   size : h.size ≡ size_of m
   plan : ChainPlan
-  planned : chain_plan_of es flag m ≡ done plan
+  planned : chain_plan_of es flag m ≡ Ok plan
   side : h.inside ≡ plan.even
 
 module _ (es : List PropertyEntry) (flag : Bool) (P : Pic) (k : InRange P) (m : Form) (same : m ≡ P.form) (output spare : ℕ) where
@@ -103,27 +102,27 @@ module _ (es : List PropertyEntry) (flag : Bool) (P : Pic) (k : InRange P) (m : 
   by-forms = rw same (plan-drawn es flag P k)
 
   -- 17 by forms is 17 by pictures
-  room-refused : (c : ChainPlan) (d : Drawn) (r : Refusal) → Leads c d → current_for output spare m c ≡ refused r → room_for output spare d ≡ refused r
+  room-refused : (c : ChainPlan) (d : Drawn) (r : Refusal) → Leads c d → current_for output spare m c ≡ Err r → room_for output spare d ≡ Err r
   unfolding current_for room_for refuse
   room-refused c d r l = rw l.longest (go (ltb output d.longest) (ltb spare d.longest))
     where
       held : Current
       held = record { size = size_of m; inside = c.even }
 
-      go : (t u : Bool) → refuse t 17 (refuse u 17 (done held)) ≡ refused r → refuse t 17 (refuse u 17 (done (encode d.pic))) ≡ refused r
+      go : (t u : Bool) → refuse t 17 (refuse u 17 (Ok held)) ≡ Err r → refuse t 17 (refuse u 17 (Ok (encode d.pic))) ≡ Err r
       go true u q = cc
       go false true q = cc
       go false false q = not_done r _ (sym q)
 
-  pub held-refused : (r : Refusal) → current_of es flag m output spare ≡ refused r → scene_on es flag P output spare ≡ refused r
+  pub held-refused : (r : Refusal) → current_of es flag m output spare ≡ Err r → scene_on es flag P output spare ≡ Err r
   unfolding current_of scene_on and_then
   held-refused r = go _ _ by-forms
     where
-      go : (o : Out ChainPlan) (u : Out Drawn) → Same Leads o u → and_then o (current_for output spare m) ≡ refused r → and_then u (room_for output spare) ≡ refused r
+      go : (o : Out ChainPlan) (u : Out Drawn) → Same Leads o u → and_then o (current_for output spare m) ≡ Err r → and_then u (room_for output spare) ≡ Err r
       go _ _ alike q = cc
       go _ _ (both {a = c} {b = d} l) q = room-refused c d r l q
 
-  held-planned : (h : Current) → current_of es flag m output spare ≡ done h → Planned es flag P m output spare h
+  held-planned : (h : Current) → current_of es flag m output spare ≡ Ok h → Planned es flag P m output spare h
   unfolding current_of current_for
   held-planned h q =
       let a = and_then-done _ _ h q in
@@ -143,7 +142,7 @@ module _ (es : List PropertyEntry) (flag : Bool) (P : Pic) (k : InRange P) (m : 
       }
 
   module _ (h : Current) (p : Planned es flag P m output spare h) where
-    planned-done : scene_on es flag P output spare ≡ done (encode p.drawn.pic)
+    planned-done : scene_on es flag P output spare ≡ Ok (encode p.drawn.pic)
     unfolding scene_on room_for
     planned-done = then-done _ p.run ∙ refuse-no _ _ (le-ltb _ _ p.over) ∙ refuse-no _ _ (le-ltb _ _ p.under)
 
@@ -154,7 +153,7 @@ module _ (es : List PropertyEntry) (flag : Bool) (P : Pic) (k : InRange P) (m : 
 -- ---- the composed record in one of the buffers
 
 module _ (s : List ℕ) (g : Chain) (judged : Judged s g) (flag : Bool) (P : Pic) (k : InRange P) (m : Form) (same : m ≡ P.form) (output spare : List ℕ) (h : Current)
-    (e : current_of judged.entries flag m (length output) (length spare) ≡ done h) where
+    (e : current_of judged.entries flag m (length output) (length spare) ≡ Ok h) where
   abbrev es : List PropertyEntry
   es = judged.entries
 
@@ -219,8 +218,8 @@ module _ (s : List ℕ) (g : Chain) (judged : Judged s g) (flag : Bool) (P : Pic
     ready-spare t i = ready_with output d refl (ap length i ∙ length-puts spare 0 (encode P)) (lies-spare t i)
 
     -- what the call then comes to
-    module _ (u : Out (List ℕ)) (is : u ≡ scene_on es flag P (length output) (length spare)) (a : Answer) (f z : List ℕ) where
-      scene-ends : u ≡ done (encode planned.drawn.pic)
+    module _ (u : Out (List ℕ)) (is : u ≡ scene_on es flag P (length output) (length spare)) (a : Out ℕ) (f z : List ℕ) where
+      scene-ends : u ≡ Ok (encode planned.drawn.pic)
       scene-ends = is ∙ planned-done es flag P k m same (length output) (length spare) h planned
 
       pub scene-output : h.inside ≡ true → d ≡ puts output 0 (encode P) → Finished a (chain_bytes s g.count g.first flag (lying h.inside h.size d spare)) d f spare z
@@ -250,15 +249,15 @@ unfolding grid_on grid_pic
 grid-size tray t = sym (length-encode (grid_on tray t))
 
 module _ (body tray chain : List ℕ) (flag : Bool) where
-  pub grid-drawn-malformed : read_number tray 0 ≡ NumberRead.Malformed → grid_drawn body tray chain flag ≡ refused (reason 5)
+  pub grid-drawn-malformed : (r : Refusal) → read_number tray 0 ≡ Err r → grid_drawn body tray chain flag ≡ Err r
   unfolding grid_drawn on_number
-  grid-drawn-malformed e = rw e
+  grid-drawn-malformed r e = rw e
 
-  pub grid-malformed : read_number tray 0 ≡ NumberRead.Malformed → (output spare : ℕ) → grid_scene body tray chain flag output spare ≡ refused (reason 5)
+  pub grid-malformed : (r : Refusal) → read_number tray 0 ≡ Err r → (output spare : ℕ) → grid_scene body tray chain flag output spare ≡ Err r
   unfolding grid_scene
-  grid-malformed e output spare = then-refused (room_for output spare) (grid-drawn-malformed e)
+  grid-malformed r e output spare = then-refused (room_for output spare) (grid-drawn-malformed r e)
 
-  module _ (n at : ℕ) (counted : read_number tray 0 ≡ NumberRead.Number n at) where
+  module _ (n at : ℕ) (counted : read_number tray 0 ≡ Ok (n, at)) where
     pub grid-counted : grid_drawn body tray chain flag ≡ and_then (chain_at chain 0) (λ es. and_then (tiles_at body tray n at) (λ t. chain_drawn es flag (grid_on tray t)))
     unfolding grid_drawn on_number
     grid-counted = rw counted
@@ -267,22 +266,22 @@ module _ (body tray chain : List ℕ) (flag : Bool) where
     unfolding tiles_of on_number
     tiles-at = sym (ap (λ z. on_number z (tiles_at body tray)) counted)
 
-    pub grid-drawn-chain : (r : Refusal) → judged_at chain 0 ≡ refused r → grid_drawn body tray chain flag ≡ refused r
+    pub grid-drawn-chain : (r : Refusal) → judged_at chain 0 ≡ Err r → grid_drawn body tray chain flag ≡ Err r
     grid-drawn-chain r e = grid-counted ∙ then-refused _ (judged-refused chain 0 r e)
 
-    pub grid-chain : (r : Refusal) → judged_at chain 0 ≡ refused r → (output spare : ℕ) → grid_scene body tray chain flag output spare ≡ refused r
+    pub grid-chain : (r : Refusal) → judged_at chain 0 ≡ Err r → (output spare : ℕ) → grid_scene body tray chain flag output spare ≡ Err r
     unfolding grid_scene
     grid-chain r e output spare = then-refused _ (grid-drawn-chain r e)
 
-    module _ (h : Chain) (e : judged_at chain 0 ≡ done h) where
-      pub grid-drawn-tiles : (r : Refusal) → tiles_of body tray ≡ refused r → grid_drawn body tray chain flag ≡ refused r
+    module _ (h : Chain) (e : judged_at chain 0 ≡ Ok h) where
+      pub grid-drawn-tiles : (r : Refusal) → tiles_of body tray ≡ Err r → grid_drawn body tray chain flag ≡ Err r
       grid-drawn-tiles r q = grid-counted ∙ then-done _ (judged-chain chain 0 h e).1 ∙ then-refused _ (tiles-at ∙ q)
 
-      pub grid-tiles : (r : Refusal) → tiles_of body tray ≡ refused r → (output spare : ℕ) → grid_scene body tray chain flag output spare ≡ refused r
+      pub grid-tiles : (r : Refusal) → tiles_of body tray ≡ Err r → (output spare : ℕ) → grid_scene body tray chain flag output spare ≡ Err r
       unfolding grid_scene
       grid-tiles r q output spare = then-refused _ (grid-drawn-tiles r q)
 
-      pub grid-read : Bytes body → Bytes tray → (t : Tiles) → tiles_of body tray ≡ done t → GridKnown body tray chain flag h t
+      pub grid-read : Bytes body → Bytes tray → (t : Tiles) → tiles_of body tray ≡ Ok t → GridKnown body tray chain flag h t
       unfolding grid_scene scene_on
       grid-read b d t q =
           let drawn = grid-counted ∙ then-done _ (judged-chain chain 0 h e).1 ∙ then-done _ (tiles-at ∙ q) in
@@ -297,49 +296,49 @@ module _ (body tray chain : List ℕ) (flag : Bool) where
 -- ---- the overlay's scene
 
 -- a chain and inputs that were read
-pub record OverlayKnown (body tray chain : List ℕ) (flag : Bool) (list : List ℕ) (colour : Colour) (n at : ℕ) (h : Chain) (plan : Plan) : Type 0 where
+pub record OverlayKnown (body tray chain : List ℕ) (flag : Bool) (list : List ℕ) (colour : Option Nclx) (n at : ℕ) (h : Chain) (plan : Plan) : Type 0 where
   pub judged : Judged chain h
   pub sound : PlanSound body tray list plan
   pub in_range : InRange (plan_pic body tray list colour plan)
   pub drawn : overlay_drawn body tray chain flag list colour
-      ≡ refuse_item 1 (alpha_above tray (top_of plan.form.format)) 16 (frames_from n tray at) (chain_drawn judged.entries flag (plan_pic body tray list colour plan))
+      ≡ refuse_item Record (alpha_above tray (top_of plan.form.format)) 16 (frames_from n tray at) (chain_drawn judged.entries flag (plan_pic body tray list colour plan))
   pub is : (output spare : ℕ) → overlay_scene body tray chain flag list colour output spare
-      ≡ refuse_item 1 (alpha_above tray (top_of plan.form.format)) 16 (frames_from n tray at) (scene_on judged.entries flag (plan_pic body tray list colour plan) output spare)
+      ≡ refuse_item Record (alpha_above tray (top_of plan.form.format)) 16 (frames_from n tray at) (scene_on judged.entries flag (plan_pic body tray list colour plan) output spare)
 
-pub plan-form : (body tray list : List ℕ) (colour : Colour) (plan : Plan) → plan.form ≡ (plan_pic body tray list colour plan).form
+pub plan-form : (body tray list : List ℕ) (colour : Option Nclx) (plan : Plan) → plan.form ≡ (plan_pic body tray list colour plan).form
 unfolding overlay_pic
 plan-form body tray list colour plan = refl
 
-module _ (body tray chain : List ℕ) (flag : Bool) (list : List ℕ) (colour : Colour) where
-  pub overlay-drawn-malformed : read_number tray 0 ≡ NumberRead.Malformed → overlay_drawn body tray chain flag list colour ≡ refused (reason 5)
+module _ (body tray chain : List ℕ) (flag : Bool) (list : List ℕ) (colour : Option Nclx) where
+  pub overlay-drawn-malformed : (r : Refusal) → read_number tray 0 ≡ Err r → overlay_drawn body tray chain flag list colour ≡ Err r
   unfolding overlay_drawn on_number
-  overlay-drawn-malformed e = rw e
+  overlay-drawn-malformed r e = rw e
 
-  pub overlay-malformed : read_number tray 0 ≡ NumberRead.Malformed → (output spare : ℕ) → overlay_scene body tray chain flag list colour output spare ≡ refused (reason 5)
+  pub overlay-malformed : (r : Refusal) → read_number tray 0 ≡ Err r → (output spare : ℕ) → overlay_scene body tray chain flag list colour output spare ≡ Err r
   unfolding overlay_scene
-  overlay-malformed e output spare = then-refused (room_for output spare) (overlay-drawn-malformed e)
+  overlay-malformed r e output spare = then-refused (room_for output spare) (overlay-drawn-malformed r e)
 
-  module _ (n at : ℕ) (counted : read_number tray 0 ≡ NumberRead.Number n at) where
+  module _ (n at : ℕ) (counted : read_number tray 0 ≡ Ok (n, at)) where
     overlay-counted : overlay_drawn body tray chain flag list colour
         ≡ and_then (chain_at chain 0) (λ es. and_then (inputs_at body tray list n at) (λ q.
-        refuse_item 1 (alpha_above tray (top_of (first_format q.frames))) 16 q.frames (chain_drawn es flag (composed body tray list colour q))))
+        refuse_item Record (alpha_above tray (top_of (first_format q.frames))) 16 q.frames (chain_drawn es flag (composed body tray list colour q))))
     unfolding overlay_drawn on_number
     overlay-counted = rw counted
 
-    pub overlay-drawn-chain : (r : Refusal) → judged_at chain 0 ≡ refused r → overlay_drawn body tray chain flag list colour ≡ refused r
+    pub overlay-drawn-chain : (r : Refusal) → judged_at chain 0 ≡ Err r → overlay_drawn body tray chain flag list colour ≡ Err r
     overlay-drawn-chain r e = overlay-counted ∙ then-refused _ (judged-refused chain 0 r e)
 
-    pub overlay-chain : (r : Refusal) → judged_at chain 0 ≡ refused r → (output spare : ℕ) → overlay_scene body tray chain flag list colour output spare ≡ refused r
+    pub overlay-chain : (r : Refusal) → judged_at chain 0 ≡ Err r → (output spare : ℕ) → overlay_scene body tray chain flag list colour output spare ≡ Err r
     unfolding overlay_scene
     overlay-chain r e output spare = then-refused _ (overlay-drawn-chain r e)
 
-    module _ (h : Chain) (e : judged_at chain 0 ≡ done h) where
-      pub overlay-drawn-inputs : (r : Refusal) → plan_at body tray list n at ≡ refused r → overlay_drawn body tray chain flag list colour ≡ refused r
+    module _ (h : Chain) (e : judged_at chain 0 ≡ Ok h) where
+      pub overlay-drawn-inputs : (r : Refusal) → plan_at body tray list n at ≡ Err r → overlay_drawn body tray chain flag list colour ≡ Err r
       unfolding plan_at
       overlay-drawn-inputs r q =
           overlay-counted ∙ then-done _ (judged-chain chain 0 h e).1 ∙ then-refused _ (refused-back (inputs_at body tray list n at) (plan_of body tray list at) r q)
 
-      pub overlay-inputs : (r : Refusal) → plan_at body tray list n at ≡ refused r → (output spare : ℕ) → overlay_scene body tray chain flag list colour output spare ≡ refused r
+      pub overlay-inputs : (r : Refusal) → plan_at body tray list n at ≡ Err r → (output spare : ℕ) → overlay_scene body tray chain flag list colour output spare ≡ Err r
       unfolding overlay_scene
       overlay-inputs r q output spare = then-refused _ (overlay-drawn-inputs r q)
 
@@ -354,23 +353,23 @@ module _ (body tray chain : List ℕ) (flag : Bool) (list : List ℕ) (colour : 
       unfolding plan_of composed_form overlay_form top_of
       top-is q = refl
 
-      known_of : (q : Inputs) → inputs_at body tray list n at ≡ done q → Bytes body → OverlayKnown body tray chain flag list colour n at h (plan_of body tray list at q)
+      known_of : (q : Inputs) → inputs_at body tray list n at ≡ Ok q → Bytes body → OverlayKnown body tray chain flag list colour n at h (plan_of body tray list at q)
       unfolding overlay_scene scene_on
       known_of q i b =
           let k = took body tray list n at q i in
           let j = judged-chain chain 0 h e in
           let drawn : overlay_drawn body tray chain flag list colour
-          ≡ refuse_item 1 (alpha_above tray (top_of (plan_of body tray list at q).form.format)) 16 (frames_from n tray at) (chain_drawn j.0.entries flag (plan_pic body tray list colour (plan_of body tray list at q))) =
+          ≡ refuse_item Record (alpha_above tray (top_of (plan_of body tray list at q).form.format)) 16 (frames_from n tray at) (chain_drawn j.0.entries flag (plan_pic body tray list colour (plan_of body tray list at q))) =
           overlay-counted ∙ then-done _ j.1 ∙ then-done _ i ∙ rw (top-is q, pic-is q k, frames-from n tray at q.frames k.frames) in
           record {
             judged = j.0;
             sound = plan-sound body tray list n at q k;
             in_range = rw (← pic-is q k) (overlay-in-range body tray list colour n at q b counted i);
             drawn = drawn;
-            is = λ output spare. ap (λ z. and_then z (room_for output spare)) drawn ∙ item-then 1 _ 16 _ _ (room_for output spare);
+            is = λ output spare. ap (λ z. and_then z (room_for output spare)) drawn ∙ item-then Record _ 16 _ _ (room_for output spare);
           }
 
-      pub overlay_read : Bytes body → (plan : Plan) → plan_at body tray list n at ≡ done plan → OverlayKnown body tray chain flag list colour n at h plan
+      pub overlay_read : Bytes body → (plan : Plan) → plan_at body tray list n at ≡ Ok plan → OverlayKnown body tray chain flag list colour n at h plan
       unfolding plan_at
       overlay_read b plan q = let a = and_then-done _ _ plan q in known_as _ plan (done-same _ plan a.2) (known_of a.0 a.1 b)
         where
@@ -380,15 +379,15 @@ module _ (body tray chain : List ℕ) (flag : Bool) (list : List ℕ) (colour : 
 -- ---- room
 
 -- the longest record by forms is that by pictures
-pub room-on : (es : List PropertyEntry) (flag : Bool) (P : Pic) → InRange P → (m : Form) → m ≡ P.form → and_then (chain_plan_of es flag m) (λ c. done c.longest) ≡ longest_of (chain_drawn es flag P)
+pub room-on : (es : List PropertyEntry) (flag : Bool) (P : Pic) → InRange P → (m : Form) → m ≡ P.form → and_then (chain_plan_of es flag m) (λ c. Ok c.longest) ≡ longest_of (chain_drawn es flag P)
 unfolding longest_of and_then
 room-on es flag P k m same = go (chain_plan_of es flag m) (chain_drawn es flag P) (rw same (plan-drawn es flag P k))
   where
-    go : (o : Out ChainPlan) (u : Out Drawn) → Same Leads o u → and_then o (λ c. done c.longest) ≡ and_then u (λ d. done d.longest)
+    go : (o : Out ChainPlan) (u : Out Drawn) → Same Leads o u → and_then o (λ c. Ok c.longest) ≡ and_then u (λ d. Ok d.longest)
     go _ _ alike = refl
-    go _ _ (both {a = c} {b = d} l) = ap done l.longest
+    go _ _ (both {a = c} {b = d} l) = ap Ok l.longest
 
-pub room-refused-as : (o : Out Drawn) (r : Refusal) → o ≡ refused r → refused r ≡ longest_of o
+pub room-refused-as : (o : Out Drawn) (r : Refusal) → o ≡ Err r → Err r ≡ longest_of o
 unfolding longest_of
 room-refused-as o r e = sym (then-refused _ e)
 
@@ -406,16 +405,16 @@ unfolding decode
 record-form s fr = refl
 
 module _ (s chain : List ℕ) (flag : Bool) where
-  pub record-refused : (r : Refusal) → record_of s ≡ refused r → (output spare : ℕ) → transforms_run s chain flag output spare ≡ refused r
+  pub record-refused : (r : Refusal) → record_of s ≡ Err r → (output spare : ℕ) → transforms_run s chain flag output spare ≡ Err r
   unfolding transforms_run record_drawn
   record-refused r e output spare = then-refused _ (then-refused _ e)
 
-  module _ (fr : Frame) (taken : record_of s ≡ done fr) where
-    pub record-chain : (r : Refusal) → judged_at chain 0 ≡ refused r → (output spare : ℕ) → transforms_run s chain flag output spare ≡ refused r
+  module _ (fr : Frame) (taken : record_of s ≡ Ok fr) where
+    pub record-chain : (r : Refusal) → judged_at chain 0 ≡ Err r → (output spare : ℕ) → transforms_run s chain flag output spare ≡ Err r
     unfolding transforms_run record_drawn
     record-chain r e output spare = then-refused _ (then-done _ taken ∙ then-refused _ (judged-refused chain 0 r e))
 
-    pub record-read : Bytes s → (h : Chain) → judged_at chain 0 ≡ done h → RecordKnown s chain flag h fr
+    pub record-read : Bytes s → (h : Chain) → judged_at chain 0 ≡ Ok h → RecordKnown s chain flag h fr
     unfolding transforms_run record_drawn scene_on
     record-read b h e = record {
       judged = (judged-chain chain 0 h e).0;

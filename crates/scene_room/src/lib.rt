@@ -3,4 +3,4 @@
 
 mod room;
 
-pub use crate::room::{RoomRead, grid_room, overlay_room};
+pub use crate::room::{grid_room, overlay_room};

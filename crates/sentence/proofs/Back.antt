@@ -1,4 +1,5 @@
 -- From a sentence alone, language, number, sort and index are read back.
+use Rattle.std.specs.Prelude.{Ok}
 use mathlib.Core.Bool.{Bool, ◌&&◌, false, true}
 use mathlib.Core.List.{List, [], ◌++◌, ◌∷◌, append_assoc, append-nil}
 use mathlib.Core.Path.{◌∙◌, ◌≡◌, ap, refl, sym}
@@ -9,7 +10,7 @@ use lib.ListN.{get_or}
 use borrow.Author.Tests.{eq-eqb, ltb-false}
 use Rattle.laws.proofs.Order.{and-true, apart, by-test, pick-false, pick_true}
 use Rattle.laws.proofs.Out.{and_then-done, done-same, not_done, refuse-done}
-use Rattle.laws.specs.Out.{done, fitted, reason}
+use Rattle.laws.specs.Out.{fitted, reason}
 use Rattle.laws.specs.Pick.{pick}
 use Rattle.laws.specs.Utf8.{character_bytes, utf8}
 use Rattle.numbers.proofs.Decimal.{decimal-back}
@@ -67,7 +68,7 @@ key_back text k _ s f e (there {j = j} {ks = ks} a) =
 
 -- ---- the keys of the tables
 
-among-keys : (n language : ℕ) (rows : List Row) (r : Row) → row_of n rows ≡ done r → Among (record { language = language; row = r }) (keys language rows)
+among-keys : (n language : ℕ) (rows : List Row) (r : Row) → row_of n rows ≡ Ok r → Among (record { language = language; row = r }) (keys language rows)
 unfolding row_of keys
 among-keys n language [] r e = not_done (reason 5) r e
 among-keys n language (q ∷ rows) r e =
@@ -129,7 +130,7 @@ back language index why of h l a b =
     (key_back word (record { language = language; row = of }) (keys language sorts) _ _ (words-differ language l) b
     ∙ ap (told language why.number of.number) (index_back of.number index h))
 
-pub sentence-back : (number sort index language room : ℕ) (bs : List ℕ) → index < 2 ^ 64 → sentence_run number sort index language room ≡ done bs
+pub sentence-back : (number sort index language room : ℕ) (bs : List ℕ) → index < 2 ^ 64 → sentence_run number sort index language room ≡ Ok bs
     → read_back bs ≡ told language number sort (pick (eqb sort 0) 0 index)
 unfolding sentence_run fitted
 sentence-back number sort index language room bs h e =

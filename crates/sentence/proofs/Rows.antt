@@ -1,4 +1,5 @@
 -- Laws of the table's rows: which numbers have one, where it stands, and how long its texts are.
+use Rattle.std.specs.Prelude.{Ok, Err}
 use mathlib.Core.Bool.{Bool, ◌&&◌, true}
 use mathlib.Core.List.{List, [], ◌∷◌}
 use mathlib.Core.Path.{◌∙◌, ◌≡◌, ap, refl, sym}
@@ -10,7 +11,7 @@ use lib.ListN.{get_or, length}
 use borrow.Author.Tests.{eq-eqb, eqb-true, leb-true, ne_eqb}
 use Rattle.laws.proofs.Order.{and-true, by_order, by-test, pick-both, pick-false, pick_true}
 use Rattle.laws.proofs.Out.{done-same, not_done}
-use Rattle.laws.specs.Out.{done, reason, refused}
+use Rattle.laws.specs.Out.{reason}
 use Rattle.laws.specs.Pick.{pick}
 use Rattle.laws.specs.Utf8.{character_bytes, utf8}
 use Rattle.sentence.specs.Sentence.{in_language, row_of}
@@ -19,7 +20,7 @@ use Rattle.sentence.specs.inner.Texts.{no_row}
 
 -- ---- the row of a number
 
-pub row_number : (n : ℕ) (rows : List Row) (r : Row) → row_of n rows ≡ done r → r.number ≡ n
+pub row_number : (n : ℕ) (rows : List Row) (r : Row) → row_of n rows ≡ Ok r → r.number ≡ n
 unfolding row_of
 row_number n [] r e = not_done (reason 5) r e
 row_number n (q ∷ rows) r e =
@@ -37,7 +38,7 @@ unfolding numbered
 numbered_next n r rows t = let a = and-true (eqb r.number n) (numbered (n + 1) rows) t in (eqb-true r.number n a.0, a.1)
 
 -- row k of them
-pub row_at : (rows : List Row) (n k : ℕ) → numbered n rows ≡ true → k < length rows → row_of (n + k) rows ≡ done (get_or rows k no_row)
+pub row_at : (rows : List Row) (n k : ℕ) → numbered n rows ≡ true → k < length rows → row_of (n + k) rows ≡ Ok (get_or rows k no_row)
 unfolding row_of
 row_at [] n k t h = absurd (not-suc-le-zero h)
 row_at (r ∷ rows) n zero t h = pick_true _ _ _ (eq-eqb (n + 0) r.number (omega (arith, (numbered_next n r rows t).0)))
@@ -48,7 +49,7 @@ row_at (r ∷ rows) n (suc k) t h =
     ∙ row_at rows (n + 1) k a.1 (le_of_suc-le-suc h)
 
 -- no other number has a row
-pub row-none : (rows : List Row) (n m : ℕ) → numbered n rows ≡ true → (n ≤ m → m < n + length rows → ⊥) → row_of m rows ≡ refused (reason 5)
+pub row-none : (rows : List Row) (n m : ℕ) → numbered n rows ≡ true → (n ≤ m → m < n + length rows → ⊥) → row_of m rows ≡ Err (reason 5)
 unfolding row_of
 row-none [] n m t h = refl
 row-none (r ∷ rows) n m t h =
@@ -56,7 +57,7 @@ row-none (r ∷ rows) n m t h =
     pick-false _ _ _ (ne_eqb m r.number (λ q. h (omega (arith, a.0)) (omega (arith, a.0))))
     ∙ row-none rows (n + 1) m a.1 (λ p q. h (omega arith) (omega arith))
 
-pub row_within : (rows : List Row) (n m : ℕ) (r : Row) → numbered n rows ≡ true → row_of m rows ≡ done r → (n ≤ m) × (m < n + length rows)
+pub row_within : (rows : List Row) (n m : ℕ) (r : Row) → numbered n rows ≡ true → row_of m rows ≡ Ok r → (n ≤ m) × (m < n + length rows)
 row_within rows n m r t e =
     by_order m n (λ l. not_done (reason 5) r (sym (row-none rows n m t (λ a b. omega arith)) ∙ e))
     (λ l. by_order m (n + length rows) (λ h. (l, h)) (λ h. not_done (reason 5) r (sym (row-none rows n m t (λ a b. omega arith)) ∙ e)))

@@ -1,6 +1,7 @@
 -- The sentence of a refusal, in German (0) or English (1) (document 02, A2).
+use Rattle.std.specs.Prelude.{Ok, Err}
 use Rattle.std.specs.Prelude.{List, [], ◌++◌, ◌∷◌, ℕ, eqb, ltb}
-use Rattle.laws.specs.Out.{Out, and_then, done, fitted, reason, refuse, refused}
+use Rattle.laws.specs.Out.{Out, and_then, fitted, reason, refuse}
 use Rattle.laws.specs.Pick.{pick}
 use Rattle.laws.specs.Utf8.{utf8}
 use Rattle.numbers.specs.Decimal.{decimal}
@@ -22,8 +23,8 @@ sentence language why sort index = head language why ++ (item language sort inde
 
 -- the row of a number: 5 where there is none
 unfoldable pub row_of : ℕ → List Row → Out Row
-row_of n [] = refused (reason 5)
-row_of n (r ∷ rows) = pick (eqb n r.number) (done r) (row_of n rows)
+row_of n [] = Err (reason 5)
+row_of n (r ∷ rows) = pick (eqb n r.number) (Ok r) (row_of n rows)
 
 -- the sentence of a number, a sort and an index: 5 a number, a sort or a language that is not known; 17 a buffer that is shorter
 unfoldable pub sentence_run : ℕ → ℕ → ℕ → ℕ → ℕ → Out (List ℕ)

@@ -7,8 +7,8 @@ ghost use Rattle.laws.specs.Puts.{puts};
 ghost use Rattle.sentence.specs.inner.Texts.{Known, item_at, last_sort, sentence_at};
 ghost use Rattle.sentence.specs.Sentence.{sentence_run};
 
-use crate::table::put_text;
-use laws::{Answer, Refusal};
+use crate::table::{reason_text, sort_text};
+use laws::Refusal;
 
 mod table;
 
@@ -25,8 +25,8 @@ fn put_item(out: &mut [u8], at: usize, sort: u8, index: u64, language: u8) -> us
     if sort == 0 {
         return at;
     }
-    let a = put_text(out, at, sort as usize, language);
-    let b = numbers::write_long_decimal(out, a, index);
+    let a = planes::copy_row(out, at, sort_text(sort, language));
+    let b = numbers::write_decimal(out, a, index);
     planes::copy_row(out, b, b")")
 }
 
@@ -35,36 +35,32 @@ fn put_sentence(out: &mut [u8], number: u32, sort: u8, index: u64, language: u8)
     requires { Known number sort language × (length (sentence_at number sort index language) ≤ length out.old) }
     ensures { (result ≡ length (sentence_at number sort index language)) × (out.new ≡ puts out.old 0 (sentence_at number sort index language)) }
 {
-    let a = numbers::write_decimal(out, 0, number);
+    let a = numbers::write_decimal(out, 0, number as u64);
     let b = planes::copy_row(out, a, b": ");
-    // the reasons, from 1 on, stand behind the sorts, from 0 on
-    let c = put_text(out, b, number as usize + LAST_SORT as usize, language);
+    let c = planes::copy_row(out, b, reason_text(number, language));
     let d = put_item(out, c, sort, index, language);
     planes::copy_row(out, d, b".")
 }
 
 // Writes the sentence of a refusal, in German (0) or English (1), from the start of `out` on. Refusals: 5 a number, a sort or a
 // language that is not known; 17 a buffer that is shorter than the sentence. With sort 0 the index is not looked at.
-pub fn write_sentence(number: u32, sort: u8, index: u64, language: u8, out: &mut [u8]) -> Answer
+pub fn write_sentence(
+    number: u32,
+    sort: u8,
+    index: u64,
+    language: u8,
+    out: &mut [u8],
+) -> Result<usize, Refusal>
     ensures { (result ≡ answer_of (sentence_run number sort index language (length out.old)))
         × (out.new ≡ written (sentence_run number sort index language (length out.old)) out.old) }
 {
-    if number < 1 {
-        return Answer::Refused(Refusal::MALFORMED);
-    }
-    if number > LAST_NUMBER {
-        return Answer::Refused(Refusal::MALFORMED);
-    }
-    if sort > LAST_SORT {
-        return Answer::Refused(Refusal::MALFORMED);
-    }
-    if language > 1 {
-        return Answer::Refused(Refusal::MALFORMED);
+    if number < 1 || number > LAST_NUMBER || sort > LAST_SORT || language > 1 {
+        return Err(Refusal::MALFORMED);
     }
     let mut text = [0u8; 192];
     let end = put_sentence(&mut text, number, sort, index, language);
     if out.len() < end {
-        return Answer::Refused(Refusal::ROOM);
+        return Err(Refusal::ROOM);
     }
-    Answer::Wrote(planes::copy_row(out, 0, &text[..end]))
+    Ok(planes::copy_row(out, 0, &text[..end]))
 }

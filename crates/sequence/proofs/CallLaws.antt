@@ -1,4 +1,5 @@
 -- What places and blanks in turn leave: each place of the canvas shows the last tile that was drawn in its cell and has the plane.
+use Rattle.std.specs.Prelude.{Ok}
 use mathlib.Core.Bool.{Bool, ◌&&◌, false, not, true}
 use mathlib.Core.List.{List, [], ◌++◌, ◌∷◌}
 use mathlib.Core.Path.{◌∙◌, ◌≡◌, ap, ap₂, refl, sym}
@@ -9,7 +10,6 @@ use lib.ListN.{drop, length}
 use borrow.Author.Tests.{eq-eqb, eqb-true, leb-true, ne_eqb, not-false}
 use Rattle.laws.proofs.Order.{and-true, apart, by_equal, by-test, pick-false, pick_true, true-and}
 use Rattle.laws.proofs.Out.{and_then-done, done-same, refuse-done, then-done}
-use Rattle.laws.specs.Out.{done}
 use Rattle.laws.specs.Pick.{pick}
 use Rattle.image.proofs.FormLaws.{columns-some, rows-some}
 use Rattle.records.proofs.RecordLaws.{whole-sound}
@@ -50,7 +50,7 @@ use Rattle.session.specs.declared.state.Canvas.{Canvas}
 
 -- ---- what an accepted call draws
 
-accept-alike : (s : Canvas) (m t : Form) → accept_of s m ≡ done t → Alike t m
+accept-alike : (s : Canvas) (m t : Form) → accept_of s m ≡ Ok t → Alike t m
 unfolding accept_of has_size same_layout
 accept-alike s m t e =
     by-test (has_tile s)
@@ -98,7 +98,7 @@ draws-as e k = rw e at k
 few-of : (s : Canvas) → state_ok s ≡ true → s.alpha ≤ 1
 few-of s e = by-test (has_tile s) (λ h. (state-tile s e h).alpha) (λ h. let z = (bare-state s e h).0 in omega arith)
 
-place-draws : (s : Canvas) (i : ℕ) (bytes d : List ℕ) (x : CanvasAfter) → place_of s i bytes d ≡ done x → Draws s (place i bytes) d x
+place-draws : (s : Canvas) (i : ℕ) (bytes d : List ℕ) (x : CanvasAfter) → place_of s i bytes d ≡ Ok x → Draws s (place i bytes) d x
 place-draws s i bytes d x e = draws-as k.same drawn
   where
     k : Placing s i bytes d x
@@ -160,7 +160,7 @@ blank-number : (f : PixelFormat) (a : ℕ) → f.alpha ≤ a → a ≤ 1 → a �
 unfolding has_alpha
 blank-number f a l m = by_equal f.alpha 0 (λ z. sym (pick-false _ _ _ (ap not (eq-eqb _ _ z)))) (λ d. let o : a ≡ 1 = omega arith in o ∙ sym (pick_true _ _ _ (ap not (ne_eqb _ _ d))))
 
-blank-draws : (s : Canvas) (i : ℕ) (d : List ℕ) (x : CanvasAfter) → blank_of s i d ≡ done x → Draws s (blank i) d x
+blank-draws : (s : Canvas) (i : ℕ) (d : List ℕ) (x : CanvasAfter) → blank_of s i d ≡ Ok x → Draws s (blank i) d x
 blank-draws s i d x e = draws-as k.same drawn
   where
     k : Blanking s i d x
@@ -194,7 +194,7 @@ blank-draws s i d x e = draws-as k.same drawn
           buffer = ap (drawn_on s.desc s.tile i s.tile (blank_pic s.tile)) (sym (begun-later _ _ d (ap not k.tiled)));
         }
 
-call-draws : (c : Call) (e x : CanvasAfter) → call_of c e ≡ done x → Draws e.canvas c e.buffer x
+call-draws : (c : Call) (e x : CanvasAfter) → call_of c e ≡ Ok x → Draws e.canvas c e.buffer x
 unfolding call_of
 call-draws (place i bytes) e x q = place-draws e.canvas i bytes e.buffer x q
 call-draws (blank i) e x q = blank-draws e.canvas i e.buffer x q
@@ -350,7 +350,7 @@ after_more g c c₁ cs d e x before k = record {
         ∙ before.buffer
         ∙ ap (λ (t : Form). held-as e.canvas.desc t e.canvas.alpha (c₁ ∷ cs) d) (k.held before.tiled)
 
-after-all : (c : Call) (cs : List Call) (s : Canvas) (d : List ℕ) (x : CanvasAfter) → has_tile s ≡ false → s.alpha ≡ 0 → call_all (c ∷ cs) (record { canvas = s; buffer = d }) ≡ done x → After s.desc c cs d x
+after-all : (c : Call) (cs : List Call) (s : Canvas) (d : List ℕ) (x : CanvasAfter) → has_tile s ≡ false → s.alpha ≡ 0 → call_all (c ∷ cs) (record { canvas = s; buffer = d }) ≡ Ok x → After s.desc c cs d x
 unfolding call_all
 after-all c [] s d x bare none e =
     let a = and_then-done _ _ x e in
@@ -360,7 +360,7 @@ after-all c (c₁ ∷ cs) s d x bare none e =
     let a = and_then-done _ _ x e in
     after_more s.desc c c₁ cs d a.0 x (after-all c₁ cs s d a.0 bare none a.1) (call-draws c a.0 x a.2)
 
-open-bare : (body : List ℕ) (g : GridDescriptor) (s : Canvas) → grid_of body ≡ done g → session_of body ≡ done s → (s.desc ≡ g) × (has_tile s ≡ false) × (s.alpha ≡ 0)
+open-bare : (body : List ℕ) (g : GridDescriptor) (s : Canvas) → grid_of body ≡ Ok g → session_of body ≡ Ok s → (s.desc ≡ g) × (has_tile s ≡ false) × (s.alpha ≡ 0)
 unfolding session_of
 open-bare body g s e q =
     let k : open_of g ≡ s = done-same _ s (sym (then-done _ e) ∙ q) in
@@ -370,7 +370,7 @@ open-bare body g s e q =
 -- record and the reserved alpha plane, and past them what lay there. Each place shows the last tile that was drawn in its cell and has
 -- the plane: a cell that is placed or blanked again is overwritten, and a tile without alpha, or a blank where the first tile has none,
 -- leaves the alpha there.
-pub calls-leave : (body d : List ℕ) (g : GridDescriptor) (c : Call) (cs : List Call) (x : CanvasAfter) → grid_of body ≡ done g → calls_run body (c ∷ cs) d ≡ done x
+pub calls-leave : (body d : List ℕ) (g : GridDescriptor) (c : Call) (cs : List Call) (x : CanvasAfter) → grid_of body ≡ Ok g → calls_run body (c ∷ cs) d ≡ Ok x
     → (x.buffer ≡ left_bytes g (first_tile c cs) (c ∷ cs) ++ drop (size_of (reserved_form g (first_tile c cs))) d) × (x.canvas.desc ≡ g) × (x.canvas.tile ≡ first_tile c cs) × (x.canvas.alpha ≡ alpha_number (c ∷ cs))
 unfolding calls_run
 calls-leave body d g c cs x e q =

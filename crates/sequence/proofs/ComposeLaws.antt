@@ -1,4 +1,5 @@
 -- Placing all cells of a grid, in any order, and finishing gives the record that composite_grid gives over the same tiles.
+use Rattle.std.specs.Prelude.{Ok}
 use mathlib.Core.Bool.{Bool, ◌&&◌, false, not, true}
 use mathlib.Core.List.{List, [], ◌++◌, ◌∷◌, append_assoc, append-nil}
 use mathlib.Core.Logic.{◌⊎◌, inl, inr}
@@ -12,7 +13,7 @@ use lib.Seq.{take_at}
 use borrow.Author.Tests.{eq-eqb, le-leb, le-ltb, lt-ltb, ltb-true, ne_eqb}
 use Rattle.laws.proofs.Order.{apart, by_equal, by-test, pick-both, pick-false, pick_true, positive, true-and}
 use Rattle.laws.proofs.Out.{refuse-no, then-done}
-use Rattle.laws.specs.Out.{Out, and_then, done}
+use Rattle.laws.specs.Out.{Out, and_then}
 use Rattle.laws.specs.Pick.{pick}
 use Rattle.laws.specs.Puts.{Bytes}
 use Rattle.image.proofs.FormLaws.{columns-some, rows-some}
@@ -95,11 +96,11 @@ length-drawn g t i m T d = length-store_part _ _ _ _ Alpha _ ∙ length-store_pa
 
 -- ---- a tile that is accepted
 
-pub take-first : (s : Canvas) (m : Form) → has_tile s ≡ false → spans_canvas s.desc m ≡ true → accept_of s m ≡ done m
+pub take-first : (s : Canvas) (m : Form) → has_tile s ≡ false → spans_canvas s.desc m ≡ true → accept_of s m ≡ Ok m
 unfolding accept_of
 take-first s m h c = pick-false (has_tile s) _ _ h ∙ refuse-no _ _ (ap not c)
 
-pub take-later : (s : Canvas) (t m : Form) → has_tile s ≡ true → Alike t s.tile → Alike t m → accept_of s m ≡ done s.tile
+pub take-later : (s : Canvas) (t m : Form) → has_tile s ≡ true → Alike t s.tile → Alike t m → accept_of s m ≡ Ok s.tile
 unfolding accept_of has_size same_layout
 take-later s t m h k l =
     pick_true (has_tile s) _ _ h
@@ -239,7 +240,7 @@ tile-seen f h e = no (sym h ∙ tile-opaque f e)
 -- ---- a grid's tiles, and records that show them
 
 module _ (body tray : List ℕ) (t : Tiles) (ok : TilesTaken tray t) (grid : GridSound t.desc) (source : TilesFrom body tray t) (R : ℕ → List ℕ) (F : ℕ → Frame)
-    (taken : (i : ℕ) → i < count_of t.desc → record_of (R i) ≡ done (F i)) (same : (i : ℕ) → i < count_of t.desc → Agree (decode (R i) (F i)) (picture_in tray (frames_in tray t) i)) where
+    (taken : (i : ℕ) → i < count_of t.desc → record_of (R i) ≡ Ok (F i)) (same : (i : ℕ) → i < count_of t.desc → Agree (decode (R i) (F i)) (picture_in tray (frames_in tray t) i)) where
   abbrev g : GridDescriptor
   g = t.desc
 
@@ -315,14 +316,14 @@ module _ (body tray : List ℕ) (t : Tiles) (ok : TilesTaken tray t) (grid : Gri
     a : ℕ
     ms : List ℕ
     d : List ℕ
-    done-with : o ≡ done (record { canvas = state u a ms; buffer = d })
+    done-with : o ≡ Ok (record { canvas = state u a ms; buffer = d })
     going : Going js rest u a ms d
 
   on-plain : (js : List ℕ) → (pastes T g.columns js (plain_pic C)).form ≡ C
   on-plain js = pastes-form T g.columns js (plain_pic C) ∙ plain_form C
 
   -- one cell more, beside a state that takes it
-  step : (js rest : List ℕ) (v : Form) (a : ℕ) (ms d : List ℕ) (j : ℕ) (u : Form) → j < count_of g → state_ok (state v a ms) ≡ true → length ms ≡ 1024 → ((i : ℕ) → is_marked ms i ≡ among i js) → accept_of (state v a ms) (F j).form ≡ done u
+  step : (js rest : List ℕ) (v : Form) (a : ℕ) (ms d : List ℕ) (j : ℕ) (u : Form) → j < count_of g → state_ok (state v a ms) ≡ true → length ms ≡ 1024 → ((i : ℕ) → is_marked ms i ≡ among i js) → accept_of (state v a ms) (F j).form ≡ Ok u
       → Alike t.tile u → FormSound u → a ≡ alpha_after S js 0 → begun (not (has_tile (state v a ms))) C d ≡ headed (head_bytes (with_alpha C a)) (pastes T g.columns js (plain_pic C)) ++ rest → size_of C ≤ length d
       → Gone (j ∷ js) rest (place_of (state v a ms) j (R j) d)
   step js rest v a ms d j u l sound long marked accepted alike tile alpha started room =
@@ -340,10 +341,10 @@ module _ (body tray : List ℕ) (t : Tiles) (ok : TilesTaken tray t) (grid : Gri
       size : size_of (canvas_form g u 1) ≤ length d
       size = rw (alike-canvas g t.tile u 1 alike) (unfold reserved_form in room)
 
-      accepted-place : place_of (state v a ms) j (R j) d ≡ done x
+      accepted-place : place_of (state v a ms) j (R j) d ≡ Ok x
       accepted-place = place-done (state v a ms) j (R j) d sound (unfold count_of in l) (F j) (taken j l) u accepted size
 
-      here : place_of (state v a ms) j (R j) d ≡ done (record { canvas = state u a' (mark_of ms j); buffer = x.buffer })
+      here : place_of (state v a ms) j (R j) d ≡ Ok (record { canvas = state u a' (mark_of ms j); buffer = x.buffer })
       here = accepted-place ∙ (unfold placed_as marked_on in refl)
 
       kept : (state_ok (state u a' (mark_of ms j)) ≡ true) × (length (mark_of ms j) ≡ 1024)
@@ -537,8 +538,8 @@ module _ (body tray : List ℕ) (t : Tiles) (ok : TilesTaken tray t) (grid : Gri
         go (inr k) = alpha-one S js k.0 (here k.0 k.1) (part k.0 k.1 k.2) ∙ sym (full k.0 k.1 k.2)
 
     -- finish answers composite_grid's record
-    finished : (rest : List ℕ) (u : Form) (a : ℕ) (ms d : List ℕ) → Going js rest u a ms d → and_then (finish_of (state u a ms) (length d)) (λ n. done (take n d)) ≡ done (encode (grid_on tray t))
-    finished rest u a ms d k = then-done _ ends ∙ ap done record_is
+    finished : (rest : List ℕ) (u : Form) (a : ℕ) (ms d : List ℕ) → Going js rest u a ms d → and_then (finish_of (state u a ms) (length d)) (λ n. Ok (take n d)) ≡ Ok (encode (grid_on tray t))
+    finished rest u a ms d k = then-done _ ends ∙ ap Ok record_is
       where
         tiled : has_tile (state u a ms) ≡ true
         tiled = unfold has_tile in wide-tile u k.tile
@@ -552,7 +553,7 @@ module _ (body tray : List ℕ) (t : Tiles) (ok : TilesTaken tray t) (grid : Gri
             reserved-as : reserved_form g u ≡ C
             reserved-as = unfold reserved_form in alike-canvas g t.tile u 1 k.alike
 
-        ends : finish_of (state u a ms) (length d) ≡ done (size_of (canvas_form g u a))
+        ends : finish_of (state u a ms) (length d) ≡ Ok (size_of (canvas_form g u a))
         ends = unfold finish_of in refuse-no 5 _ (ap not k.sound) ∙ refuse-no 15 _ (ap not tiled) ∙ refuse-no 15 _ (ap not all) ∙ refuse-no 17 _ (le-ltb _ _ size)
 
         small : a ≤ 1
@@ -578,7 +579,7 @@ module _ (body tray : List ℕ) (t : Tiles) (ok : TilesTaken tray t) (grid : Gri
 -- Document 01: "Canvas session", and "Grid". A session over a grid's body that places all cells, in any order and as often as one
 -- likes, each with a record that shows the tile of its index in the tray, and finishes, comes to what composite_grid comes to over
 -- body and tray, in a buffer that holds the canvas's record and its reserved alpha plane.
-pub any-order-composes : (body tray : List ℕ) (t : Tiles) → Bytes body → tiles_of body tray ≡ done t → (R : ℕ → List ℕ) (F : ℕ → Frame) → ((i : ℕ) → i < count_of t.desc → record_of (R i) ≡ done (F i))
+pub any-order-composes : (body tray : List ℕ) (t : Tiles) → Bytes body → tiles_of body tray ≡ Ok t → (R : ℕ → List ℕ) (F : ℕ → Frame) → ((i : ℕ) → i < count_of t.desc → record_of (R i) ≡ Ok (F i))
     → ((i : ℕ) → i < count_of t.desc → Agree (decode (R i) (F i)) (picture_in tray (frames_in tray t) i)) → (js : List ℕ) → ((i : ℕ) → among i js ≡ ltb i (count_of t.desc)) → (d : List ℕ) → size_of (reserved_form t.desc t.tile) ≤ length d
     → session_run body R js d ≡ grid_run body tray (length d)
 any-order-composes body tray t small e R F taken same js cells d room = go js cells ∙ sym (grid-fits body tray (length d) t e fits)
@@ -592,7 +593,7 @@ any-order-composes body tray t small e R F taken same js cells d room = go js ce
     grid : GridSound t.desc
     grid = grid-taken body t.desc (unfold Bytes in small) source.desc
 
-    started : session_of body ≡ done (record { desc = t.desc; tile = no_form; alpha = 0; marks = no_marks })
+    started : session_of body ≡ Ok (record { desc = t.desc; tile = no_form; alpha = 0; marks = no_marks })
     started = unfold session_of open_of in then-done _ source.desc
 
     some : 0 < count_of t.desc
@@ -604,7 +605,7 @@ any-order-composes body tray t small e R F taken same js cells d room = go js ce
         let k : size_of (canvas_form t.desc t.tile t.alpha) ≤ size_of (reserved_form t.desc t.tile) = unfold reserved_form canvas_form with_alpha in size-alpha (canvas_form t.desc t.tile 1) t.alpha refl most in
         omega arith
 
-    go : (js : List ℕ) → ((i : ℕ) → among i js ≡ ltb i (count_of t.desc)) → session_run body R js d ≡ done (encode (grid_on tray t))
+    go : (js : List ℕ) → ((i : ℕ) → among i js ≡ ltb i (count_of t.desc)) → session_run body R js d ≡ Ok (encode (grid_on tray t))
     go [] cells = absurd (no (sym none ∙ cells 0 ∙ lt-ltb _ _ some))
       where
         none : among 0 [] ≡ false

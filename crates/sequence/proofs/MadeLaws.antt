@@ -1,5 +1,6 @@
 -- Which states calls can have made, both ways: start and calls that are accepted make only states that pass `state_ok`, with 1024 words
 -- of 64 bits for marks (made_ok), and they make each of those (ok-made).
+use Rattle.std.specs.Prelude.{Ok}
 use mathlib.Core.Bool.{Bool, false, not, true}
 use mathlib.Core.List.{List, [], ◌∷◌}
 use mathlib.Core.Logic.{◌⊎◌, inl, inr}
@@ -15,7 +16,7 @@ use lib.Seq.{ext_get_or, get_or-set_other, get_or-set_same}
 use borrow.Author.Tests.{eq-eqb, eqb-false, eqb-true, le-ltb, lt-ltb, ne_eqb}
 use Rattle.laws.proofs.Order.{apart, by_equal, by_order, by-test, pick-both, pick-false, pick_true}
 use Rattle.laws.proofs.Out.{and_then-done, done-same, then-done}
-use Rattle.laws.specs.Out.{done, refuse}
+use Rattle.laws.specs.Out.{refuse}
 use Rattle.laws.specs.Pick.{pick}
 use Rattle.laws.specs.Puts.{Bytes}
 use Rattle.numbers.specs.Field.{big_endian, field_at, on_field}
@@ -110,7 +111,7 @@ marked-words s i ok l k =
     let w : i / 64 < length s.marks = rw k.long (omega (arith, few)) in
     record { long = length-mark s.marks i ∙ k.long; words = mark-words s.marks i w k.words }
 
-call-keeps : (c : Call) (e x : CanvasAfter) → Words e.canvas.marks → call_of c e ≡ done x → (state_ok x.canvas ≡ true) × Words x.canvas.marks
+call-keeps : (c : Call) (e x : CanvasAfter) → Words e.canvas.marks → call_of c e ≡ Ok x → (state_ok x.canvas ≡ true) × Words x.canvas.marks
 unfolding call_of
 call-keeps (place i bytes) e x w q =
     let k = place-taken e.canvas i bytes e.buffer x q in
@@ -119,7 +120,7 @@ call-keeps (blank i) e x w q =
     let k = blank-taken e.canvas i e.buffer x q in
     ((blank_ok e.canvas i e.buffer x w.long q).0, rw (← k.same) (unfold blanked_as marked_on in marked-words e.canvas i k.sound k.inside w))
 
-calls-keep : (cs : List Call) (e x : CanvasAfter) → state_ok e.canvas ≡ true → Words e.canvas.marks → call_all cs e ≡ done x → (state_ok x.canvas ≡ true) × Words x.canvas.marks
+calls-keep : (cs : List Call) (e x : CanvasAfter) → state_ok e.canvas ≡ true → Words e.canvas.marks → call_all cs e ≡ Ok x → (state_ok x.canvas ≡ true) × Words x.canvas.marks
 unfolding call_all
 calls-keep [] e x ok w q = rw (← (done-same e x q)) (ok, w)
 calls-keep (c ∷ cs) e x ok w q =
@@ -127,7 +128,7 @@ calls-keep (c ∷ cs) e x ok w q =
     let k = calls-keep cs e a.0 ok w a.1 in
     call-keeps c a.0 x k.1 a.2
 
-start-words : (body : List ℕ) (s : Canvas) → session_of body ≡ done s → Words s.marks
+start-words : (body : List ℕ) (s : Canvas) → session_of body ≡ Ok s → Words s.marks
 unfolding session_of
 start-words body s e =
     let a = and_then-done (grid_of body) _ s e in
@@ -174,27 +175,27 @@ one_byte : (s : List ℕ) (at n : ℕ) → get_or s (at + 0) 0 ≡ n - 1 → 1 �
 unfolding big_endian
 one_byte s at n e l = omega (arith, e)
 
-canvas-read : (s : List ℕ) (w h : ℕ) → length s ≡ 12 → big_endian s 4 4 ≡ w → big_endian s 8 4 ≡ h → SizeSound (sides w h) → canvas_at s 4 4 ≡ done (record { width = w; height = h; next = record { at = 12 } })
+canvas-read : (s : List ℕ) (w h : ℕ) → length s ≡ 12 → big_endian s 4 4 ≡ w → big_endian s 8 4 ≡ h → SizeSound (sides w h) → canvas_at s 4 4 ≡ Ok (record { width = w; height = h }, record { at = 12 })
 unfolding canvas_at on_field
 canvas-read s w h n ew eh k =
     rw (field-inside s 4 4 (omega (arith, n)), field-inside s 8 4 (omega (arith, n)), ew, eh)
     (then-done _ (size-taken (sides w h) k))
 
-grid-read : (s : List ℕ) (w h : ℕ) → length s ≡ 12 → start_of s ≡ done (record { bytes = 4; next = record { at = 2 } }) → canvas_at s 4 4 ≡ done (record { width = w; height = h; next = record { at = 12 } })
-    → grid_of s ≡ done (record { rows = big_endian s 2 1 + 1; columns = big_endian s 3 1 + 1; output_width = w; output_height = h })
+grid-read : (s : List ℕ) (w h : ℕ) → length s ≡ 12 → start_of s ≡ Ok (4, record { at = 2 }) → canvas_at s 4 4 ≡ Ok (record { width = w; height = h }, record { at = 12 })
+    → grid_of s ≡ Ok (record { rows = big_endian s 2 1 + 1; columns = big_endian s 3 1 + 1; output_width = w; output_height = h })
 unfolding grid_of grid_at on_field
 grid-read s w h n a c =
     then-done _ a ∙ rw (field-inside s 2 1 (omega (arith, n)), field-inside s 3 1 (omega (arith, n))) (then-done _ c)
 
-start-read : (g : GridDescriptor) → start_of (body_of g) ≡ done (record { bytes = 4; next = record { at = 2 } })
+start-read : (g : GridDescriptor) → start_of (body_of g) ≡ Ok (4, record { at = 2 })
 unfolding start_of field_at on_field big_endian field_bytes pick refuse
 start-read g = refl
 
-body_reads : (g : GridDescriptor) → GridSound g → grid_of (body_of g) ≡ done g
+body_reads : (g : GridDescriptor) → GridSound g → grid_of (body_of g) ≡ Ok g
 body_reads g k =
     grid-read (body_of g) g.output_width g.output_height refl (start-read g)
     (canvas-read (body_of g) g.output_width g.output_height refl (four (body_of g) 4 g.output_width refl refl refl refl) (four (body_of g) 8 g.output_height refl refl refl refl) k.canvas)
-    ∙ ap₂ (λ (r c : ℕ). done (record { rows = r; columns = c; output_width = g.output_width; output_height = g.output_height }))
+    ∙ ap₂ (λ (r c : ℕ). Ok (record { rows = r; columns = c; output_width = g.output_width; output_height = g.output_height }))
     (one_byte (body_of g) 2 g.rows refl k.positive_rows) (one_byte (body_of g) 3 g.columns refl k.positive_columns)
 
 small-list : (b : ℕ) (s : List ℕ) → b < 256 → Bytes s → Bytes (b ∷ s)
@@ -225,7 +226,7 @@ module _ (g : GridDescriptor) (grid : GridSound g) where
   record Made (n : ℕ) (s : Canvas) : Type 0 where
     calls : List Call
     buffer : List ℕ
-    run : call_all calls (record { canvas = open_of g; buffer = replicate n 0 }) ≡ done (record { canvas = s; buffer = buffer })
+    run : call_all calls (record { canvas = open_of g; buffer = replicate n 0 }) ≡ Ok (record { canvas = s; buffer = buffer })
     long : length buffer ≡ n
 
   made-open : (n : ℕ) → Made n (open_of g)
@@ -249,7 +250,7 @@ module _ (g : GridDescriptor) (grid : GridSound g) where
       open-words : Words (open_of g).marks
       open-words = unfold open_of in record { long = long-none; words = no_words }
 
-  made_more : {n : ℕ} {s : Canvas} (k : Made n s) (c : Call) (x : CanvasAfter) → call_of c (record { canvas = s; buffer = k.buffer }) ≡ done x → length x.buffer ≡ length k.buffer → Made n x.canvas
+  made_more : {n : ℕ} {s : Canvas} (k : Made n s) (c : Call) (x : CanvasAfter) → call_of c (record { canvas = s; buffer = k.buffer }) ≡ Ok x → length x.buffer ≡ length k.buffer → Made n x.canvas
   made_more k c x e l = record { calls = c ∷ k.calls; buffer = x.buffer; run = unfold call_all in then-done _ k.run ∙ e; long = l ∙ k.long }
 
   module _ (t : Form) (tile : FormSound t) (covers : spans_canvas g t ≡ true) where
@@ -259,7 +260,7 @@ module _ (g : GridDescriptor) (grid : GridSound g) where
     abbrev state : Form → ℕ → List ℕ → Canvas
     state u a ms = record { desc = g; tile = u; alpha = a; marks = ms }
 
-    made-place : (u : Form) (a : ℕ) (ms : List ℕ) → Made room (state u a ms) → (j : ℕ) → j < count_of g → (m : Form) → FormSound m → accept_of (state u a ms) m ≡ done t
+    made-place : (u : Form) (a : ℕ) (ms : List ℕ) → Made room (state u a ms) → (j : ℕ) → j < count_of g → (m : Form) → FormSound m → accept_of (state u a ms) m ≡ Ok t
         → Made room (state t (pick (has_alpha m.format) 1 a) (mark_of ms j))
     made-place u a ms k j l m sound accepted = unfold placed_as marked_on tight_at in made_more k (place j bytes) x here still
       where
@@ -269,10 +270,10 @@ module _ (g : GridDescriptor) (grid : GridSound g) where
         x : CanvasAfter
         x = placed_as (state u a ms) j bytes k.buffer (tight_at m 0) t
 
-        taken : record_of bytes ≡ done (tight_at m 0)
+        taken : record_of bytes ≡ Ok (tight_at m 0)
         taken = unfold blank_pic in encode-back (blank_pic m) (unfold blank_pic in sound)
 
-        here : call_of (place j bytes) (record { canvas = state u a ms; buffer = k.buffer }) ≡ done x
+        here : call_of (place j bytes) (record { canvas = state u a ms; buffer = k.buffer }) ≡ Ok x
         here =
             unfold call_of in
             place-done (state u a ms) j bytes k.buffer (made-sound k).0 (unfold count_of in l) (tight_at m 0) taken t (unfold tight_at in accepted) (rw k.long (omega arith))
@@ -289,7 +290,7 @@ module _ (g : GridDescriptor) (grid : GridSound g) where
         tiled : has_tile (state t a ms) ≡ true
         tiled = unfold has_tile in wide-tile t tile
 
-        here : call_of (blank i) (record { canvas = state t a ms; buffer = k.buffer }) ≡ done x
+        here : call_of (blank i) (record { canvas = state t a ms; buffer = k.buffer }) ≡ Ok x
         here =
             unfold call_of in
             blank-done (state t a ms) i k.buffer (made-sound k).0 tiled (unfold count_of in l) (rw k.long (omega arith))

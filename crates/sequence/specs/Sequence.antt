@@ -1,6 +1,6 @@
 -- Calls of a session in turn ("Canvas session").
-use Rattle.std.specs.Prelude.{◌&&◌, List, [], ◌∷◌, ◌≡◌, ◌%◌, ℕ, eqb, length, take}
-use Rattle.laws.specs.Out.{Out, and_then, done, refused}
+use Rattle.std.specs.Prelude.{Ok, Err, ◌&&◌, List, [], ◌∷◌, ◌≡◌, ◌%◌, ℕ, eqb, length, take}
+use Rattle.laws.specs.Out.{Out, and_then}
 use Rattle.laws.specs.Pick.{pick}
 use Rattle.laws.specs.Puts.{Bytes}
 use Rattle.planes.specs.Bytes.{decode, head_bytes}
@@ -21,7 +21,7 @@ use Rattle.session.specs.Session.{CanvasAfter, blank_of, blank_pic, finish_of, p
 
 -- cells placed in turn, each with its record; the last is the head of the list
 unfoldable pub place_all : (ℕ → List ℕ) → List ℕ → Canvas → List ℕ → Out CanvasAfter
-place_all records [] s d = done (record { canvas = s; buffer = d })
+place_all records [] s d = Ok (record { canvas = s; buffer = d })
 place_all records (j ∷ js) s d = and_then (place_all records js s d) (λ e. place_of e.canvas j (records j) e.buffer)
 
 -- start, cells placed in turn, finish: the record at the start of the buffer
@@ -29,7 +29,7 @@ unfoldable pub session_run : List ℕ → (ℕ → List ℕ) → List ℕ → Li
 session_run body records js d =
     and_then (session_of body) (λ s.
     and_then (place_all records js s d) (λ e.
-    and_then (finish_of e.canvas (length e.buffer)) (λ n. done (take n e.buffer))))
+    and_then (finish_of e.canvas (length e.buffer)) (λ n. Ok (take n e.buffer))))
 
 -- ---- calls that draw, places and blanks, in turn
 
@@ -44,7 +44,7 @@ call_of (blank i) e = blank_of e.canvas i e.buffer
 
 -- calls that are accepted in turn; the last is the head of the list
 unfoldable pub call_all : List Call → CanvasAfter → Out CanvasAfter
-call_all [] e = done e
+call_all [] e = Ok e
 call_all (c ∷ cs) e = and_then (call_all cs e) (call_of c)
 
 -- start, and such calls over one buffer
@@ -58,7 +58,7 @@ pub record MadeBy (s : Canvas) : Type 0 where
   pub calls : List Call
   pub before : List ℕ
   pub after : List ℕ
-  pub run : calls_run body calls before ≡ done (record { canvas = s; buffer = after })
+  pub run : calls_run body calls before ≡ Ok (record { canvas = s; buffer = after })
 
 -- ---- what they leave
 
@@ -68,8 +68,8 @@ cell_in (blank i) = i
 
 -- a record's picture; none where it is refused
 unfoldable pub shown_in : List ℕ → Out Frame → Pic
-shown_in bytes (refused r) = decode bytes no_frame
-shown_in bytes (done fr) = decode bytes fr
+shown_in bytes (Err r) = decode bytes no_frame
+shown_in bytes (Ok fr) = decode bytes fr
 
 -- what a call draws: its record's picture, or the blank tile of the first tile's form
 unfoldable pub picture_of : Form → Call → Pic

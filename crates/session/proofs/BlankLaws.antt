@@ -1,4 +1,5 @@
 -- Laws of a blank cell: what it asks, what it stores, and blank refusal by refusal.
+use Rattle.std.specs.Prelude.{Ok, Err}
 use mathlib.Core.Bool.{Bool, false, not, true}
 use mathlib.Core.List.{List}
 use mathlib.Core.Path.{◌∙◌, ◌≡◌, ap, ap₂, refl, sym}
@@ -9,8 +10,7 @@ use borrow.Author.Tests.{le-leb, le-ltb, lt-leb, lt-ltb}
 use Rattle.laws.proofs.Order.{pick-false, pick_true}
 use Rattle.laws.proofs.Out.{refuse-no, refuse-yes}
 use Rattle.laws.proofs.Span.{span-cong}
-use Rattle.laws.specs.Out.{done, reason, refused}
-use Rattle.laws.specs.declared.Answer.TheVariants.{Wrote}
+use Rattle.laws.specs.Out.{reason}
 use Rattle.records.proofs.RecordLaws.{whole-sound}
 use Rattle.planes.proofs.RoundTrip.{encode-back}
 use Rattle.planes.specs.Bytes.{encode, sample_bytes, samples_of, size_of, tight_at}
@@ -32,7 +32,6 @@ use Rattle.session.proofs.StateLaws.{place-suits}
 use Rattle.session.specs.Marks.{mark_of}
 use Rattle.session.specs.Session.{alpha_told, blank_at, blank_of, blank_pic, blanked_as, drawn_on, marked_on, reserved_form}
 use Rattle.session.specs.State.{has_tile, state_ok}
-use Rattle.session.specs.declared.canvas.Called.{Called}
 
 -- ---- what it asks: what a record of the blank tile asks
 
@@ -100,33 +99,33 @@ blank-lacks c t b p d column row colour h =
 -- ---- blank, refusal by refusal
 
 module _ (s : Canvas) (i : ℕ) (d : List ℕ) where
-  pub blank-unsound : state_ok s ≡ false → blank_of s i d ≡ refused (reason 5)
+  pub blank-unsound : state_ok s ≡ false → blank_of s i d ≡ Err (reason 5)
   unfolding blank_of
   blank-unsound e = refuse-yes _ _ (ap not e)
 
   module _ (ok : state_ok s ≡ true) where
-    pub blank-bare : has_tile s ≡ false → blank_of s i d ≡ refused (reason 15)
+    pub blank-bare : has_tile s ≡ false → blank_of s i d ≡ Err (reason 15)
     unfolding blank_of
     blank-bare e = refuse-no _ _ (ap not ok) ∙ refuse-yes _ _ (ap not e)
 
     module _ (tile : has_tile s ≡ true) where
-      pub blank-outside : s.desc.rows * s.desc.columns ≤ i → blank_of s i d ≡ refused (reason 11)
+      pub blank-outside : s.desc.rows * s.desc.columns ≤ i → blank_of s i d ≡ Err (reason 11)
       unfolding blank_of count_of
       blank-outside l = refuse-no _ _ (ap not ok) ∙ refuse-no _ _ (ap not tile) ∙ refuse-yes _ _ (le-leb _ _ l)
 
       module _ (inside : i < s.desc.rows * s.desc.columns) where
-        pub blank-short : length d < size_of (canvas_form s.desc s.tile 1) → blank_of s i d ≡ refused (reason 17)
+        pub blank-short : length d < size_of (canvas_form s.desc s.tile 1) → blank_of s i d ≡ Err (reason 17)
         unfolding blank_of count_of reserved_form
         blank-short l = refuse-no _ _ (ap not ok) ∙ refuse-no _ _ (ap not tile) ∙ refuse-no _ _ (lt-leb _ _ inside) ∙ refuse-yes _ _ (lt-ltb _ _ l)
 
-        pub blank-done : size_of (canvas_form s.desc s.tile 1) ≤ length d → blank_of s i d ≡ done (blanked_as s i d)
+        pub blank-done : size_of (canvas_form s.desc s.tile 1) ≤ length d → blank_of s i d ≡ Ok (blanked_as s i d)
         unfolding blank_of count_of reserved_form
         blank-done l = refuse-no _ _ (ap not ok) ∙ refuse-no _ _ (ap not tile) ∙ refuse-no _ _ (lt-leb _ _ inside) ∙ refuse-no _ _ (le-ltb _ _ l)
 
   pub blanked-canvas : (r : Canvas) → r ≡ record { desc = s.desc; tile = s.tile; alpha = s.alpha; marks = mark_of s.marks i }
-      → ◌≡◌ {A = Called} (record { canvas = r; answer = Wrote 0 }) (record { canvas = (blanked_as s i d).canvas; answer = Wrote 0 })
+      → r ≡ (blanked_as s i d).canvas
   unfolding blanked_as marked_on
-  blanked-canvas r e = ap (λ (u : Canvas). record { canvas = u; answer = Wrote 0 }) e
+  blanked-canvas r e = e
 
   pub blanked-buffer : (c : Form) (b : Bool) (d2 d3 : List ℕ) → c ≡ canvas_form s.desc s.tile 1 → b ≡ promotes_of s.desc s.tile → d2 ≡ alpha_told c s.tile d
       → d3 ≡ store_tile c (tile_pic b (blank_pic s.tile)) (i % s.desc.columns) (i / s.desc.columns) d2 → d3 ≡ (blanked_as s i d).buffer

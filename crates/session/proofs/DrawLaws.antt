@@ -1,4 +1,5 @@
 -- Laws of what a call comes to, and of what place and blank write.
+use Rattle.std.specs.Prelude.{Ok, Err}
 use mathlib.Core.Bool.{Bool, false, not, true}
 use mathlib.Core.List.{List, [], ◌∷◌}
 use mathlib.Core.Path.{◌∙◌, ◌≡◌, ap, refl, sym}
@@ -10,10 +11,9 @@ use borrow.Author.Tests.{eq-eqb, le-leb, le-ltb, lt-leb, lt-ltb, ne_eqb}
 use Rattle.laws.proofs.Order.{pick-both, pick-false, pick_true}
 use Rattle.laws.proofs.Out.{refuse-no, refuse-yes, then-done, then-refused}
 use Rattle.laws.proofs.Puts.{length-puts}
-use Rattle.laws.specs.Out.{Out, and_then, done, reason, refuse, refused}
+use Rattle.laws.specs.Out.{Out, and_then, reason, refuse}
 use Rattle.laws.specs.Pick.{pick}
 use Rattle.laws.specs.Puts.{puts}
-use Rattle.laws.specs.declared.Answer.TheVariants.{Refused, Wrote}
 use Rattle.laws.specs.declared.Refusal.{Refusal}
 use Rattle.numbers.proofs.Number.{bytes-last}
 use Rattle.numbers.specs.Number.{number_bytes}
@@ -22,26 +22,23 @@ use Rattle.image.specs.Format.{has_alpha}
 use Rattle.records.specs.Record.{record_of}
 use Rattle.image.specs.declared.format.Form.{Form}
 use Rattle.records.specs.declared.record.Frame.{Frame}
-use Rattle.derived.specs.Grid.{grid_of}
 use Rattle.session.specs.declared.state.Canvas.{Canvas}
-use Rattle.derived.specs.declared.grid.GridDescriptor.{GridDescriptor}
 use Rattle.cells.specs.Cell.{store_tile, tile_pic}
 use Rattle.grid.specs.Mosaic.{canvas_bytes}
 use Rattle.tiles.specs.Tiles.{canvas_form, count_of, promotes_of}
-use Rattle.session.specs.Marks.{all_marked, mark_of}
-use Rattle.session.specs.Session.{CanvasAfter, alpha_place, alpha_told, begun, called_of, drawn_buffer, drawn_call, drawn_on, finish_of, length_answer, marked_on, place_of, placed_as, reserved_form, session_of}
-use Rattle.session.specs.State.{accept_of, has_tile, no_canvas, open_of, state_ok}
-use Rattle.session.specs.declared.canvas.Called.{Called}
+use Rattle.session.specs.Marks.{mark_of}
+use Rattle.session.specs.Session.{CanvasAfter, alpha_place, alpha_told, begun, drawn_buffer, drawn_canvas, drawn_on, marked_on, place_of, placed_as, reserved_form}
+use Rattle.session.specs.State.{accept_of, has_tile, state_ok}
 
 -- ---- what a call comes to
 
-pub drawn-refused : (s : Canvas) (o : Out CanvasAfter) (r : Refusal) (d : List ℕ) (c : Called) → o ≡ refused r → c ≡ record { canvas = s; answer = Refused r } → (c ≡ drawn_call s o) × (d ≡ drawn_buffer d o)
-unfolding drawn_call drawn_buffer called_of and_then
-drawn-refused s o r d c e q = rw e (q, refl)
+pub drawn-refused : (o : Out CanvasAfter) (r : Refusal) (d : List ℕ) → o ≡ Err r → (◌≡◌ {A = Out Canvas} (Err r) (drawn_canvas o)) × (d ≡ drawn_buffer d o)
+unfolding drawn_canvas drawn_buffer and_then
+drawn-refused o r d e = rw e (refl, refl)
 
-pub drawn-done : (s : Canvas) (o : Out CanvasAfter) (x : CanvasAfter) (d d' : List ℕ) (c : Called) → o ≡ done x → c ≡ record { canvas = x.canvas; answer = Wrote 0 } → d' ≡ x.buffer → (c ≡ drawn_call s o) × (d' ≡ drawn_buffer d o)
-unfolding drawn_call drawn_buffer called_of and_then
-drawn-done s o x d d' c e q b = rw e (q, b)
+pub drawn-done : (o : Out CanvasAfter) (x : CanvasAfter) (d d' : List ℕ) (s : Canvas) → o ≡ Ok x → s ≡ x.canvas → d' ≡ x.buffer → (Ok s ≡ drawn_canvas o) × (d' ≡ drawn_buffer d o)
+unfolding drawn_canvas drawn_buffer and_then
+drawn-done o x d d' s e q b = rw e (ap Ok q, b)
 
 -- ---- the canvas at the first place
 
@@ -87,41 +84,41 @@ fits-as e h = rw e h
 -- ---- place, refusal by refusal
 
 module _ (s : Canvas) (i : ℕ) (bytes d : List ℕ) where
-  pub place-unsound : state_ok s ≡ false → place_of s i bytes d ≡ refused (reason 5)
+  pub place-unsound : state_ok s ≡ false → place_of s i bytes d ≡ Err (reason 5)
   unfolding place_of
   place-unsound e = refuse-yes _ _ (ap not e)
 
-  pub place-outside : state_ok s ≡ true → s.desc.rows * s.desc.columns ≤ i → place_of s i bytes d ≡ refused (reason 11)
+  pub place-outside : state_ok s ≡ true → s.desc.rows * s.desc.columns ≤ i → place_of s i bytes d ≡ Err (reason 11)
   unfolding place_of count_of
   place-outside e l = refuse-no _ _ (ap not e) ∙ refuse-yes _ _ (le-leb _ _ l)
 
   module _ (ok : state_ok s ≡ true) (inside : i < s.desc.rows * s.desc.columns) where
     place_inside : place_of s i bytes d
-        ≡ and_then (record_of bytes) (λ fr. and_then (accept_of s fr.form) (λ t. refuse (ltb (length d) (size_of (reserved_form s.desc t))) 17 (done (placed_as s i bytes d fr t))))
+        ≡ and_then (record_of bytes) (λ fr. and_then (accept_of s fr.form) (λ t. refuse (ltb (length d) (size_of (reserved_form s.desc t))) 17 (Ok (placed_as s i bytes d fr t))))
     unfolding place_of count_of
     place_inside = refuse-no _ _ (ap not ok) ∙ refuse-no _ _ (lt-leb _ _ inside)
 
-    pub place-record : (r : Refusal) → record_of bytes ≡ refused r → place_of s i bytes d ≡ refused r
+    pub place-record : (r : Refusal) → record_of bytes ≡ Err r → place_of s i bytes d ≡ Err r
     place-record r e = place_inside ∙ then-refused _ e
 
-    module _ (fr : Frame) (here : record_of bytes ≡ done fr) where
-      pub place-form : (r : Refusal) → accept_of s fr.form ≡ refused r → place_of s i bytes d ≡ refused r
+    module _ (fr : Frame) (here : record_of bytes ≡ Ok fr) where
+      pub place-form : (r : Refusal) → accept_of s fr.form ≡ Err r → place_of s i bytes d ≡ Err r
       place-form r e = place_inside ∙ then-done _ here ∙ then-refused _ e
 
-      pub place_short : (t : Form) → accept_of s fr.form ≡ done t → length d < size_of (canvas_form s.desc t 1) → place_of s i bytes d ≡ refused (reason 17)
+      pub place_short : (t : Form) → accept_of s fr.form ≡ Ok t → length d < size_of (canvas_form s.desc t 1) → place_of s i bytes d ≡ Err (reason 17)
       unfolding reserved_form
       place_short t e l = place_inside ∙ then-done _ here ∙ then-done _ e ∙ refuse-yes _ _ (lt-ltb _ _ l)
 
-      pub place-done : (t : Form) → accept_of s fr.form ≡ done t → size_of (canvas_form s.desc t 1) ≤ length d → place_of s i bytes d ≡ done (placed_as s i bytes d fr t)
+      pub place-done : (t : Form) → accept_of s fr.form ≡ Ok t → size_of (canvas_form s.desc t 1) ≤ length d → place_of s i bytes d ≡ Ok (placed_as s i bytes d fr t)
       unfolding reserved_form
       place-done t e l = place_inside ∙ then-done _ here ∙ then-done _ e ∙ refuse-no _ _ (le-ltb _ _ l)
 
 -- what the steps of a place come to
 module _ (s : Canvas) (i : ℕ) (bytes d : List ℕ) (fr : Frame) (t : Form) where
   pub placed-canvas : (r : Canvas) (a : ℕ) → r ≡ record { desc = s.desc; tile = t; alpha = a; marks = mark_of s.marks i } → a ≡ pick (has_alpha fr.form.format) 1 s.alpha
-      → ◌≡◌ {A = Called} (record { canvas = r; answer = Wrote 0 }) (record { canvas = (placed_as s i bytes d fr t).canvas; answer = Wrote 0 })
+      → r ≡ (placed_as s i bytes d fr t).canvas
   unfolding placed_as marked_on
-  placed-canvas r a e q = ap (λ (u : Canvas). record { canvas = u; answer = Wrote 0 }) (e ∙ ap (λ (b : ℕ). record { desc = s.desc; tile = t; alpha = b; marks = mark_of s.marks i }) q)
+  placed-canvas r a e q = e ∙ ap (λ (b : ℕ). record { desc = s.desc; tile = t; alpha = b; marks = mark_of s.marks i }) q
 
   pub placed-buffer : (c : Form) (b first : Bool) (d1 d2 d3 : List ℕ) → c ≡ canvas_form s.desc t 1 → b ≡ promotes_of s.desc t → first ≡ not (has_tile s) → d1 ≡ begun first c d → d2 ≡ alpha_told c fr.form d1
       → d3 ≡ store_tile c (tile_pic b (decode bytes fr)) (i % s.desc.columns) (i / s.desc.columns) d2 → d3 ≡ (placed_as s i bytes d fr t).buffer
@@ -130,39 +127,3 @@ module _ (s : Canvas) (i : ℕ) (bytes d : List ℕ) (fr : Frame) (t : Form) whe
       e3
       ∙ ap (store_tile c (tile_pic b (decode bytes fr)) (i % s.desc.columns) (i / s.desc.columns)) (e2 ∙ ap (alpha_told c fr.form) e1)
       ∙ rw (ec, eb, ef)
-
--- ---- start
-
-pub start-refused : (body : List ℕ) (r : Refusal) (x : Called) (s : Canvas) → grid_of body ≡ refused r → x ≡ record { canvas = s; answer = Refused r } → s ≡ no_canvas → x ≡ called_of no_canvas (session_of body)
-unfolding called_of session_of
-start-refused body r x s e q n = q ∙ ap (λ (u : Canvas). record { canvas = u; answer = Refused r }) n ∙ ap (called_of no_canvas) (sym (then-refused _ e))
-
-pub start-done : (body : List ℕ) (g : GridDescriptor) (s : Canvas) → grid_of body ≡ done g → s ≡ open_of g → ◌≡◌ {A = Called} (record { canvas = s; answer = Wrote 0 }) (called_of no_canvas (session_of body))
-unfolding called_of session_of
-start-done body g s e q = ap (λ (u : Canvas). record { canvas = u; answer = Wrote 0 }) q ∙ ap (called_of no_canvas) (sym (then-done _ e))
-
--- ---- finish, refusal by refusal
-
-module _ (s : Canvas) (room : ℕ) where
-  pub finish-unsound : state_ok s ≡ false → Refused (reason 5) ≡ length_answer (finish_of s room)
-  unfolding finish_of length_answer
-  finish-unsound e = ap length_answer (sym (refuse-yes _ _ (ap not e)))
-
-  module _ (ok : state_ok s ≡ true) where
-    pub finish-bare : has_tile s ≡ false → Refused (reason 15) ≡ length_answer (finish_of s room)
-    unfolding finish_of length_answer
-    finish-bare e = ap length_answer (sym (refuse-no _ _ (ap not ok) ∙ refuse-yes _ _ (ap not e)))
-
-    module _ (tile : has_tile s ≡ true) where
-      pub finish-missing : all_marked s.marks 0 (s.desc.rows * s.desc.columns) ≡ false → Refused (reason 15) ≡ length_answer (finish_of s room)
-      unfolding finish_of length_answer count_of
-      finish-missing e = ap length_answer (sym (refuse-no _ _ (ap not ok) ∙ refuse-no _ _ (ap not tile) ∙ refuse-yes _ _ (ap not e)))
-
-      module _ (all : all_marked s.marks 0 (s.desc.rows * s.desc.columns) ≡ true) where
-        pub finish-short : room < size_of (canvas_form s.desc s.tile 1) → Refused (reason 17) ≡ length_answer (finish_of s room)
-        unfolding finish_of length_answer count_of reserved_form
-        finish-short l = ap length_answer (sym (refuse-no _ _ (ap not ok) ∙ refuse-no _ _ (ap not tile) ∙ refuse-no _ _ (ap not all) ∙ refuse-yes _ _ (lt-ltb _ _ l)))
-
-        pub finish-done : (n : ℕ) → size_of (canvas_form s.desc s.tile 1) ≤ room → n ≡ size_of (canvas_form s.desc s.tile s.alpha) → Wrote n ≡ length_answer (finish_of s room)
-        unfolding finish_of length_answer count_of reserved_form
-        finish-done n l e = ap Wrote e ∙ ap length_answer (sym (refuse-no _ _ (ap not ok) ∙ refuse-no _ _ (ap not tile) ∙ refuse-no _ _ (ap not all) ∙ refuse-no _ _ (le-ltb _ _ l)))

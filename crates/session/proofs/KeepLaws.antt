@@ -1,4 +1,5 @@
 -- Each call keeps a state that calls can have made: start makes one, place and blank keep it (MadeLaws has the other way too).
+use Rattle.std.specs.Prelude.{Ok}
 use mathlib.Core.Bool.{false, not, true}
 use mathlib.Core.List.{List}
 use mathlib.Core.Path.{◌∙◌, ◌≡◌, ap, refl, sym}
@@ -11,7 +12,6 @@ use lib.Pow.{pow_pos}
 use borrow.Author.Tests.{eqb-true, le-leb, leb-false, ltb-false, ne_eqb, not-false, not-true}
 use Rattle.laws.proofs.Order.{and-true, by_equal, by-test, mul-below, pick-both, pick-false, pick-le, pick_true, true-and}
 use Rattle.laws.proofs.Out.{and_then-done, done-same, done-yes, refuse-done}
-use Rattle.laws.specs.Out.{done}
 use Rattle.laws.specs.Pick.{pick}
 use Rattle.laws.specs.Puts.{Bytes}
 use Rattle.image.proofs.JudgedLaws.{form-taken, size-taken}
@@ -54,7 +54,7 @@ pub open-ok : (g : GridDescriptor) → GridSound g → state_ok (open_of g) ≡ 
 unfolding state_ok open_of has_tile no_form bare_ok no_marks
 open-ok g k = true-and _ _ (grid-ok g k) (pick-false _ _ _ refl ∙ ap not (any_none (replicate 1024 0) 0 1024 (zero-words 1024)))
 
-pub start-ok : (body : List ℕ) (s : Canvas) → Bytes body → session_of body ≡ done s → (state_ok s ≡ true) × (length s.marks ≡ 1024)
+pub start-ok : (body : List ℕ) (s : Canvas) → Bytes body → session_of body ≡ Ok s → (state_ok s ≡ true) × (length s.marks ≡ 1024)
 unfolding session_of Bytes
 start-ok body s small e =
     let k = and_then-done (grid_of body) _ s e in
@@ -182,13 +182,13 @@ pub record Placing (s : Canvas) (i : ℕ) (bytes d : List ℕ) (x : CanvasAfter)
   pub sound : state_ok s ≡ true
   pub inside : i < count_of s.desc
   pub frame : Frame
-  pub here : record_of bytes ≡ done frame
+  pub here : record_of bytes ≡ Ok frame
   pub tile : Form
-  pub accepted : accept_of s frame.form ≡ done tile
+  pub accepted : accept_of s frame.form ≡ Ok tile
   pub room : size_of (reserved_form s.desc tile) ≤ length d
   pub same : placed_as s i bytes d frame tile ≡ x
 
-pub place-taken : (s : Canvas) (i : ℕ) (bytes d : List ℕ) (x : CanvasAfter) → place_of s i bytes d ≡ done x → Placing s i bytes d x
+pub place-taken : (s : Canvas) (i : ℕ) (bytes d : List ℕ) (x : CanvasAfter) → place_of s i bytes d ≡ Ok x → Placing s i bytes d x
 unfolding place_of
 place-taken s i bytes d x e =
     let a = refuse-done _ 5 _ x e in
@@ -198,11 +198,11 @@ place-taken s i bytes d x e =
     let h = refuse-done _ 17 _ x f.2 in
     record { sound = not-false _ a.0; inside = leb-false _ _ b.0; frame = c.0; here = c.1; tile = f.0; accepted = f.1; room = ltb-false _ _ h.0; same = done-same _ x h.1 }
 
-pub accept-later : (s : Canvas) (m t : Form) → has_tile s ≡ true → accept_of s m ≡ done t → s.tile ≡ t
+pub accept-later : (s : Canvas) (m t : Form) → has_tile s ≡ true → accept_of s m ≡ Ok t → s.tile ≡ t
 unfolding accept_of
 accept-later s m t h e = done-same _ t (refuse-done _ 14 _ t (refuse-done _ 13 _ t (sym (pick_true (has_tile s) _ _ h) ∙ e)).1).1
 
-pub accept-first : (s : Canvas) (m t : Form) → has_tile s ≡ false → accept_of s m ≡ done t → (spans_canvas s.desc m ≡ true) × (m ≡ t)
+pub accept-first : (s : Canvas) (m t : Form) → has_tile s ≡ false → accept_of s m ≡ Ok t → (spans_canvas s.desc m ≡ true) × (m ≡ t)
 unfolding accept_of
 accept-first s m t h e = let u = refuse-done _ 12 _ t (sym (pick-false (has_tile s) _ _ h) ∙ e) in (not-false _ u.0, done-same m t u.1)
 
@@ -213,7 +213,7 @@ alpha-first f a l = by_equal f.alpha 0 (λ z. omega arith) (λ d. rw (pick_true 
 alpha-keeps : (f : PixelFormat) (a n : ℕ) → n ≤ a → a ≤ 1 → n ≤ pick (has_alpha f) 1 a
 alpha-keeps f a n l m = pick-both (λ (v : ℕ). n ≤ v) (has_alpha f) 1 a (omega arith) l
 
-pub place_ok : (s : Canvas) (i : ℕ) (bytes d : List ℕ) (x : CanvasAfter) → length s.marks ≡ 1024 → place_of s i bytes d ≡ done x → (state_ok x.canvas ≡ true) × (length x.canvas.marks ≡ 1024)
+pub place_ok : (s : Canvas) (i : ℕ) (bytes d : List ℕ) (x : CanvasAfter) → length s.marks ≡ 1024 → place_of s i bytes d ≡ Ok x → (state_ok x.canvas ≡ true) × (length x.canvas.marks ≡ 1024)
 place_ok s i bytes d x n e = rw (← k.same) (unfold placed_as in by-test (has_tile s) later first)
   where
     k : Placing s i bytes d x
@@ -247,7 +247,7 @@ pub record Blanking (s : Canvas) (i : ℕ) (d : List ℕ) (x : CanvasAfter) : Ty
   pub room : size_of (reserved_form s.desc s.tile) ≤ length d
   pub same : blanked_as s i d ≡ x
 
-pub blank-taken : (s : Canvas) (i : ℕ) (d : List ℕ) (x : CanvasAfter) → blank_of s i d ≡ done x → Blanking s i d x
+pub blank-taken : (s : Canvas) (i : ℕ) (d : List ℕ) (x : CanvasAfter) → blank_of s i d ≡ Ok x → Blanking s i d x
 unfolding blank_of
 blank-taken s i d x e =
     let a = refuse-done _ 5 _ x e in
@@ -256,7 +256,7 @@ blank-taken s i d x e =
     let f = refuse-done _ 17 _ x c.1 in
     record { sound = not-false _ a.0; tiled = not-false _ b.0; inside = leb-false _ _ c.0; room = ltb-false _ _ f.0; same = done-same _ x f.1 }
 
-pub blank_ok : (s : Canvas) (i : ℕ) (d : List ℕ) (x : CanvasAfter) → length s.marks ≡ 1024 → blank_of s i d ≡ done x → (state_ok x.canvas ≡ true) × (length x.canvas.marks ≡ 1024)
+pub blank_ok : (s : Canvas) (i : ℕ) (d : List ℕ) (x : CanvasAfter) → length s.marks ≡ 1024 → blank_of s i d ≡ Ok x → (state_ok x.canvas ≡ true) × (length x.canvas.marks ≡ 1024)
 blank_ok s i d x n e =
     let k = blank-taken s i d x e in
     let t = state-tile s k.sound k.tiled in

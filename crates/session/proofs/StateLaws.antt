@@ -1,4 +1,5 @@
 -- Laws of a state that calls can have made: its grid, its tile and its canvas are sound.
+use Rattle.std.specs.Prelude.{Ok, Err, is_ok}
 use mathlib.Core.Bool.{true}
 use mathlib.Core.List.{List}
 use mathlib.Core.Path.{◌∙◌, ◌≡◌, refl, subst, sym}
@@ -8,7 +9,7 @@ use lib.Dec.{leb}
 use borrow.Author.Tests.{eqb-true, leb-true, not-false}
 use Rattle.laws.proofs.Order.{and-true, by-test, mul-below, pick-false, pick_true}
 use Rattle.laws.proofs.Out.{done-same, refuse-done, yes-done}
-use Rattle.laws.specs.Out.{done, is_done}
+use Rattle.laws.specs.Out.{Out, is_done}
 use Rattle.laws.specs.Pick.{pick}
 use Rattle.image.proofs.JudgedLaws.{form-same, form-sound, judged-same, judged-sound}
 use Rattle.image.specs.Format.{judged_size, sides}
@@ -25,6 +26,12 @@ use Rattle.tiles.specs.Tiles.{canvas_form, spans_canvas, promotes_of, same_layou
 use Rattle.cells.specs.inner.Rows.{FitsCanvas}
 use Rattle.session.specs.State.{accept_of, bare_ok, form_ok, grid_ok, has_tile, state_ok, tiled_ok}
 use Rattle.session.specs.declared.state.Canvas.{Canvas}
+
+-- whether there is an answer, as the language asks it
+pub ok-done : {A : Type 0} (o : Out A) → is_ok o ≡ is_done o
+unfolding is_done
+ok-done (Err r) = refl
+ok-done (Ok a) = refl
 
 sides-sound : (w h : ℕ) → is_done (judged_size w h) ≡ true → SizeSound (sides w h)
 sides-sound w h e =
@@ -89,7 +96,7 @@ pub record Accepted (m t : Form) : Type 0 where
   pub chroma : t.format.chroma ≡ m.format.chroma
   pub depth : t.format.depth ≡ m.format.depth
 
-pub accept-done : (s : Canvas) (m t : Form) → state_ok s ≡ true → FormSound m → accept_of s m ≡ done t → Accepted m t
+pub accept-done : (s : Canvas) (m t : Form) → state_ok s ≡ true → FormSound m → accept_of s m ≡ Ok t → Accepted m t
 unfolding accept_of same_layout
 accept-done s m t ok sound e =
     by-test (has_tile s)

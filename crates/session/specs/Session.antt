@@ -1,10 +1,8 @@
 -- The canvas session's calls: state, answer and buffer ("Canvas session"; "Refusals in order", Start, Place, Blank, Finish).
-use Rattle.std.specs.Prelude.{Bool, not, List, [], ◌∷◌, ◌%◌, ◌-◌, ◌/◌, ℕ, leb, ltb, length}
-use Rattle.laws.specs.Out.{Out, and_then, done, refuse, refused}
+use Rattle.std.specs.Prelude.{Ok, Err, Bool, not, List, [], ◌∷◌, ◌%◌, ◌-◌, ◌/◌, ℕ, leb, ltb, length}
+use Rattle.laws.specs.Out.{Out, and_then, refuse}
 use Rattle.laws.specs.Pick.{pick}
 use Rattle.laws.specs.Puts.{puts}
-use Rattle.laws.specs.declared.Answer.{Answer}
-use Rattle.laws.specs.declared.Answer.TheVariants.{Refused, Wrote}
 use Rattle.planes.specs.Bytes.{decode, head_bytes, size_of}
 use Rattle.image.specs.Format.{has_alpha, middle_of, top_of}
 use Rattle.planes.specs.Picture.{Pic}
@@ -22,7 +20,6 @@ use Rattle.grid.specs.Mosaic.{canvas_bytes}
 use Rattle.tiles.specs.Tiles.{canvas_form, count_of, promotes_of}
 use Rattle.session.specs.Marks.{all_marked, mark_of}
 use Rattle.session.specs.State.{accept_of, has_tile, open_of, state_ok}
-use Rattle.session.specs.declared.canvas.Called.{Called}
 
 -- ---- what a call comes to
 
@@ -31,26 +28,18 @@ pub record CanvasAfter : Type 0 where
   pub canvas : Canvas
   pub buffer : List ℕ
 
--- state and answer; a refused call changes neither state nor buffer, and there is no length to answer
-unfoldable pub called_of : Canvas → Out Canvas → Called
-called_of s (refused r) = record { canvas = s; answer = Refused r }
-called_of s (done t) = record { canvas = t; answer = Wrote 0 }
-
-unfoldable pub drawn_call : Canvas → Out CanvasAfter → Called
-drawn_call s o = called_of s (and_then o (λ d. done d.canvas))
+-- the state that it hands back; a refused call changes neither state nor buffer
+unfoldable pub drawn_canvas : Out CanvasAfter → Out Canvas
+drawn_canvas o = and_then o (λ d. Ok d.canvas)
 
 unfoldable pub drawn_buffer : List ℕ → Out CanvasAfter → List ℕ
-drawn_buffer d (refused r) = d
-drawn_buffer d (done e) = e.buffer
-
-unfoldable pub length_answer : Out ℕ → Answer
-length_answer (refused r) = Refused r
-length_answer (done n) = Wrote n
+drawn_buffer d (Err r) = d
+drawn_buffer d (Ok e) = e.buffer
 
 -- ---- start: 1, 2, 1, 3, 4 as grid
 
 unfoldable pub session_of : List ℕ → Out Canvas
-session_of body = and_then (grid_of body) (λ g. done (open_of g))
+session_of body = and_then (grid_of body) (λ g. Ok (open_of g))
 
 -- ---- a cell drawn
 
@@ -92,7 +81,7 @@ place_of s i bytes d =
     (refuse (leb (count_of s.desc) i) 11
     (and_then (record_of bytes) (λ fr.
     and_then (accept_of s fr.form) (λ t.
-    refuse (ltb (length d) (size_of (reserved_form s.desc t))) 17 (done (placed_as s i bytes d fr t))))))
+    refuse (ltb (length d) (size_of (reserved_form s.desc t))) 17 (Ok (placed_as s i bytes d fr t))))))
 
 -- ---- blank: 5; 15 nothing placed; 11; 17
 
@@ -117,7 +106,7 @@ blank_of s i d =
     refuse (not (state_ok s)) 5
     (refuse (not (has_tile s)) 15
     (refuse (leb (count_of s.desc) i) 11
-    (refuse (ltb (length d) (size_of (reserved_form s.desc s.tile))) 17 (done (blanked_as s i d)))))
+    (refuse (ltb (length d) (size_of (reserved_form s.desc s.tile))) 17 (Ok (blanked_as s i d)))))
 
 -- ---- finish: 5; 15 a cell missing; 17; the length, without alpha if no tile had it
 
@@ -127,4 +116,4 @@ finish_of s room =
     (refuse (not (has_tile s)) 15
     (refuse (not (all_marked s.marks 0 (count_of s.desc))) 15
     (refuse (ltb room (size_of (reserved_form s.desc s.tile))) 17
-    (done (size_of (canvas_form s.desc s.tile s.alpha))))))
+    (Ok (size_of (canvas_form s.desc s.tile s.alpha))))))

@@ -1,7 +1,7 @@
 -- A canvas's state: which states calls can have made, and how a tile's form is held to the first's ("Canvas session"; "Refusals in
 -- order", Place).
-use Rattle.std.specs.Prelude.{Bool, ◌&&◌, not, ◌-◌, ◌/◌, eqb, leb}
-use Rattle.laws.specs.Out.{Out, done, is_done, refuse, refused}
+use Rattle.std.specs.Prelude.{Ok, Bool, ◌&&◌, not, ◌-◌, ◌/◌, eqb, leb}
+use Rattle.laws.specs.Out.{Out, is_done, refuse}
 use Rattle.laws.specs.Pick.{pick}
 use Rattle.image.specs.Format.{form_of, has_size, judged_size}
 use Rattle.records.specs.Tray.{no_form}
@@ -10,16 +10,11 @@ use Rattle.derived.specs.declared.grid.GridDescriptor.{GridDescriptor}
 use Rattle.tiles.specs.Tiles.{count_of, spans_canvas, same_layout}
 use Rattle.session.specs.Marks.{any_word, clear_from, no_marks}
 use Rattle.session.specs.declared.state.Canvas.{Canvas}
-use Rattle.session.specs.declared.state.TileRead.{TileRead}
 
 -- ---- the state that start makes
 
 unfoldable pub open_of : GridDescriptor → Canvas
 open_of g = record { desc = g; tile = no_form; alpha = 0; marks = no_marks }
-
--- what a refused start leaves
-unfoldable pub no_canvas : Canvas
-no_canvas = open_of (record { rows = 0; columns = 0; output_width = 0; output_height = 0 })
 
 -- ---- the states that calls can have made
 
@@ -62,10 +57,5 @@ state_ok s = grid_ok s.desc && pick (has_tile s) (tiled_ok s) (bare_ok s)
 unfoldable pub accept_of : Canvas → Form → Out Form
 accept_of s m =
     pick (has_tile s)
-    (refuse (not (has_size m s.tile.width s.tile.height)) 13 (refuse (not (same_layout s.tile m)) 14 (done s.tile)))
-    (refuse (not (spans_canvas s.desc m)) 12 (done m))
-
--- what holding it answers
-abbrev pub tile_out : TileRead → Out Form
-tile_out (TileRead.Read t) = done t
-tile_out (TileRead.Refused e) = refused e
+    (refuse (not (has_size m s.tile.width s.tile.height)) 13 (refuse (not (same_layout s.tile m)) 14 (Ok s.tile)))
+    (refuse (not (spans_canvas s.desc m)) 12 (Ok m))

@@ -32,14 +32,13 @@ pub fn tell_alpha(out: &mut [u8], canvas: Form, tile: Form)
 }
 
 // A blank tile's sample: no colour, alpha at top.
+#[tactic(auto, unfolding(crate::specs::Session::blank_at))]
 fn blank_sample(f: PixelFormat, part: Part) -> u16
     requires { (1 ≤ f.depth) × (f.depth ≤ 16) }
     ensures { result ≡ blank_at f part }
 {
     match part {
-        Part::Luma => f.middle(),
-        Part::Cb => f.middle(),
-        Part::Cr => f.middle(),
+        Part::Luma | Part::Cb | Part::Cr => f.middle(),
         Part::Alpha => f.top(),
     }
 }

@@ -6,5 +6,4 @@ mod draw;
 mod marks;
 mod state;
 
-pub use crate::canvas::Called;
 pub use crate::state::Canvas;

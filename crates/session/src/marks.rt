@@ -6,9 +6,7 @@ pub fn marked(marks: &[u64; 1024], cell: u32) -> bool
     requires { cell < 65536 }
     ensures { result ≡ is_marked marks.now cell }
 {
-    let at = (cell / 64) as usize;
-    let word = marks[at];
-    (word >> (cell % 64)) & 1 == 1
+    (marks[(cell / 64) as usize] >> (cell % 64)) & 1 == 1
 }
 
 // Whether each of the first `count` cells is marked.
@@ -16,12 +14,10 @@ pub fn all_marked(marks: &[u64; 1024], count: u32) -> bool
     requires { count ≤ 65536 }
     ensures { result ≡ all_marked marks.now 0 count }
 {
-    let mut i: u32 = 0;
-    while i < count {
+    for i in 0..count {
         if !marked(marks, i) {
             return false;
         }
-        i += 1;
     }
     true
 }
@@ -30,13 +26,10 @@ pub fn all_marked(marks: &[u64; 1024], count: u32) -> bool
 pub fn any_marked(marks: &[u64; 1024]) -> bool
     ensures { result ≡ any_word marks.now 0 1024 }
 {
-    let mut i: usize = 0;
-    while i < 1024 {
-        let word = marks[i];
-        if word != 0 {
+    for word in marks {
+        if *word != 0 {
             return true;
         }
-        i += 1;
     }
     false
 }
@@ -46,25 +39,17 @@ fn past_count(word: u64, i: u32, count: u32) -> u64
     requires { (i < 1024) × (count < i * 64 + 64) }
     ensures { result ≡ word / 2 ^ (count - i * 64) }
 {
-    let before = i * 64;
-    if count <= before {
-        return word;
-    }
-    word >> (count - before)
+    word >> count.saturating_sub(i * 64)
 }
 
 // Whether no cell from `count` on is marked.
 pub fn none_beyond(marks: &[u64; 1024], count: u32) -> bool
     ensures { result ≡ clear_from marks.now count (count / 64) (1024 - count / 64) }
 {
-    let mut i: u32 = count / 64;
-    while i < 1024 {
-        let at = i as usize;
-        let word = marks[at];
-        if past_count(word, i, count) != 0 {
+    for i in count / 64..1024 {
+        if past_count(marks[i as usize], i, count) != 0 {
             return false;
         }
-        i += 1;
     }
     true
 }

@@ -1,4 +1,5 @@
 -- A chain on a picture and the same chain on a sight: the same refusal, or a picture that is what the sight shows.
+use Rattle.std.specs.Prelude.{Ok, Err}
 use mathlib.Core.Bool.{Bool, false, true}
 use mathlib.Core.List.{List}
 use mathlib.Core.Path.{◌∙◌, ◌≡◌, ap, ap₂, refl, sym}
@@ -6,7 +7,7 @@ use Prim.Native.Nat.{◌*◌, ◌<◌, ◌≤◌, ℕ}
 use native.Mathlib.Omega.{arith}
 use Rattle.laws.proofs.Order.{by_order}
 use Rattle.laws.proofs.Out.{Same, alike, both, then-both}
-use Rattle.laws.specs.Out.{Out, done, reason, refused}
+use Rattle.laws.specs.Out.{Out, reason}
 use Rattle.laws.specs.Pick.{pick}
 use Rattle.image.specs.Format.{columns_of, cover, half_x, half_y, rows_of, side_of, odd, Covers}
 use Rattle.planes.specs.Picture.{Pic, pixel}
@@ -191,8 +192,8 @@ seen-place P Q s v x y =
     agrees-as : {o u : Out Place} → o ≡ u → PlaceAgrees P Q x y o → PlaceAgrees P Q x y u
     agrees-as e k = rw (← e) k
 
-    found : ((back s x y).x < P.form.width) × ((back s x y).y < P.form.height) → x < Q.form.width → y < Q.form.height → source_place s x y ≡ done (back s x y) → PlaceAgrees P Q x y (source_place s x y)
+    found : ((back s x y).x < P.form.width) × ((back s x y).y < P.form.height) → x < Q.form.width → y < Q.form.height → source_place s x y ≡ Ok (back s x y) → PlaceAgrees P Q x y (source_place s x y)
     found i l m e = agrees-as (sym e) (record { across = l; down = m; column = i.0; row = i.1; samples = λ p o cx cy k. v.samples p o cx cy x y l m k })
 
-    outside : (x < Q.form.width → y < Q.form.height → ⊥) → refused (reason 18) ≡ source_place s x y → PlaceAgrees P Q x y (source_place s x y)
+    outside : (x < Q.form.width → y < Q.form.height → ⊥) → Err (reason 18) ≡ source_place s x y → PlaceAgrees P Q x y (source_place s x y)
     outside f e = agrees-as e (refl, f)

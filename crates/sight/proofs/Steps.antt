@@ -1,4 +1,5 @@
 -- What the tests and numbers of the code say of a sight and of a place.
+use Rattle.std.specs.Prelude.{Ok, Err}
 use mathlib.Core.Bool.{Bool, false, not, true}
 use mathlib.Core.List.{List}
 use mathlib.Core.Path.{◌∙◌, ◌≡◌, ap, ap₂, refl, sym}
@@ -6,7 +7,7 @@ use Prim.Native.Nat.{◌%◌, ◌+◌, ◌-◌, ◌<◌, ◌^◌, ◌≤◌, ℕ
 use native.Mathlib.Omega.{arith}
 use borrow.Author.Tests.{le-leb, lt-leb}
 use Rattle.laws.proofs.Out.{Holds, holds-done, pick-holds, refuse-no, refuse-yes, then-holds}
-use Rattle.laws.specs.Out.{Out, done, reason, refused}
+use Rattle.laws.specs.Out.{Out, reason}
 use Rattle.laws.specs.Pick.{pick}
 use Rattle.image.specs.Format.{odd}
 use Rattle.sizes.proofs.ApertureLaws.{resolve-holds, resolve-margins}
@@ -114,38 +115,38 @@ upright-is s b e = ap (then_mirror s) (sym e)
 pub clap-at : (s : Sight) (c : Clap) (w h : ℕ) (o : Out Crop) → w ≡ final_width s → h ≡ final_height s → resolve_of c w h ≡ o → resolve_of c (final_width s) (final_height s) ≡ o
 clap-at s c w h o p q e = ap₂ (resolve_of c) (sym p) (sym q) ∙ e
 
-pub clap-around : (s : Sight) (c : Clap) (w h : ℕ) (k : Crop) → w ≡ final_width s → h ≡ final_height s → resolve_of c w h ≡ done k → Around k (final_width s) (final_height s)
-clap-around s c w h k p q e = resolve-margins c _ _ k (clap-at s c w h (done k) p q e)
+pub clap-around : (s : Sight) (c : Clap) (w h : ℕ) (k : Crop) → w ≡ final_width s → h ≡ final_height s → resolve_of c w h ≡ Ok k → Around k (final_width s) (final_height s)
+clap-around s c w h k p q e = resolve-margins c _ _ k (clap-at s c w h (Ok k) p q e)
 
 -- ---- a place
 
-pub place-across : (s : Sight) (x y w : ℕ) → w ≡ final_width s → w ≤ x → refused (reason 18) ≡ source_place s x y
+pub place-across : (s : Sight) (x y w : ℕ) → w ≡ final_width s → w ≤ x → Err (reason 18) ≡ source_place s x y
 unfolding source_place
 place-across s x y w e h = sym (refuse-yes _ _ (le-leb (final_width s) x (omega arith)))
 
-pub place_down : (s : Sight) (x y w h : ℕ) → w ≡ final_width s → x < w → h ≡ final_height s → h ≤ y → refused (reason 18) ≡ source_place s x y
+pub place_down : (s : Sight) (x y w h : ℕ) → w ≡ final_width s → x < w → h ≡ final_height s → h ≤ y → Err (reason 18) ≡ source_place s x y
 unfolding source_place
 place_down s x y w h e i f j = sym (refuse-no _ _ (lt-leb (final_width s) x (omega arith)) ∙ refuse-yes _ _ (le-leb (final_height s) y (omega arith)))
 
-pub place_in : (s : Sight) (x y : ℕ) → x < final_width s → y < final_height s → source_place s x y ≡ done (back s x y)
+pub place_in : (s : Sight) (x y : ℕ) → x < final_width s → y < final_height s → source_place s x y ≡ Ok (back s x y)
 unfolding source_place
 place_in s x y i j = refuse-no _ _ (lt-leb (final_width s) x i) ∙ refuse-no _ _ (lt-leb (final_height s) y j)
 
 pub place_found : (s : Sight) (x y k : ℕ) (r : CanvasPlace) → x < final_width s → y < final_height s → Lies r (unturn (quarter_of s.turns) s.area.width s.area.height x y)
-    → k ≡ pick s.exchanged (s.area.width - 1 - r.x) r.x → ◌≡◌ {A = Out Place} (done (record { x = s.area.x + k; y = s.area.y + r.y })) (source_place s x y)
+    → k ≡ pick s.exchanged (s.area.width - 1 - r.x) r.x → ◌≡◌ {A = Out Place} (Ok (record { x = s.area.x + k; y = s.area.y + r.y })) (source_place s x y)
 unfolding back back_from
 place_found s x y k r i j l e =
     let u = unturn (quarter_of s.turns) s.area.width s.area.height x y in
     let p : k ≡ (exchange s.exchanged s.area.width u).x = e ∙ ap (λ (n : ℕ). pick s.exchanged (s.area.width - 1 - n) n) l.x ∙ exchange-column s.exchanged s.area.width u in
     let q : r.y ≡ (exchange s.exchanged s.area.width u).y = l.y ∙ sym (exchange-row s.exchanged s.area.width u) in
-    ap done (place-path (ap (λ (n : ℕ). s.area.x + n) p) (ap (λ (n : ℕ). s.area.y + n) q)) ∙ sym (place_in s x y i j)
+    ap Ok (place-path (ap (λ (n : ℕ). s.area.x + n) p) (ap (λ (n : ℕ). s.area.y + n) q)) ∙ sym (place_in s x y i j)
 
 -- 18 a far edge that is no 32-bit number
-pub far-across : (s : Sight) (x y : ℕ) → 2 ^ 32 ≤ s.area.x + s.area.width → refused (reason 18) ≡ bounded_source s x y
+pub far-across : (s : Sight) (x y : ℕ) → 2 ^ 32 ≤ s.area.x + s.area.width → Err (reason 18) ≡ bounded_source s x y
 unfolding bounded_source
 far-across s x y h = sym (refuse-yes _ _ (le-leb (2 ^ 32) _ h))
 
-pub far-down : (s : Sight) (x y : ℕ) → s.area.x + s.area.width < 2 ^ 32 → 2 ^ 32 ≤ s.area.y + s.area.height → refused (reason 18) ≡ bounded_source s x y
+pub far-down : (s : Sight) (x y : ℕ) → s.area.x + s.area.width < 2 ^ 32 → 2 ^ 32 ≤ s.area.y + s.area.height → Err (reason 18) ≡ bounded_source s x y
 unfolding bounded_source
 far-down s x y h i = sym (refuse-no _ _ (lt-leb (2 ^ 32) _ h) ∙ refuse-yes _ _ (le-leb (2 ^ 32) _ i))
 
@@ -181,9 +182,9 @@ unfolding whole
 whole-bounded w h i j = record { across = omega arith; down = omega arith }
 
 -- an entry, applied or not
-pub entry-bounded : (flag : Bool) (e : PropertyEntry) (s u : Sight) → Bounded s.area → pick (applies flag e) (sight_after e.property s) (done s) ≡ done u → Bounded u.area
+pub entry-bounded : (flag : Bool) (e : PropertyEntry) (s u : Sight) → Bounded s.area → pick (applies flag e) (sight_after e.property s) (Ok s) ≡ Ok u → Bounded u.area
 unfolding Holds
-entry-bounded flag e s u b q = holds-done (λ k. Bounded k.area) _ u (pick-holds (λ k. Bounded k.area) (applies flag e) _ (done s) (after-bounded e.property s b) b) q
+entry-bounded flag e s u b q = holds-done (λ k. Bounded k.area) _ u (pick-holds (λ k. Bounded k.area) (applies flag e) _ (Ok s) (after-bounded e.property s b) b) q
 
 -- where a chain begins
 pub sight-start : (es : List PropertyEntry) (flag : Bool) (w h : ℕ) (s : Sight) → s ≡ whole w h → sight_of es flag w h ≡ fold_chain sight_after flag es s

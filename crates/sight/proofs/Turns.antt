@@ -1,7 +1,7 @@
 -- The place maps of sights: a further turn, mirror or crop is a further step back, and no two places meet.
 use mathlib.Core.Bool.{Bool, false, not, true}
 use mathlib.Core.Path.{◌∙◌, ◌≡◌, ap, refl, sym}
-use Prim.Native.Nat.{◌+◌, ◌-◌, ◌<◌, ◌≤◌, ℕ}
+use Prim.Native.Nat.{◌+◌, ◌-◌, ◌<◌, ℕ}
 use native.Mathlib.Omega.{arith}
 use Rattle.sizes.proofs.MarginLaws.{around-inside}
 use Rattle.sizes.specs.Margins.{Around}

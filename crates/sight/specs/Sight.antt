@@ -1,7 +1,7 @@
 -- What a chain without scaling leaves of a picture: a rectangle of it, its left and right exchanged or not, then quarter turns
 -- anticlockwise (document 01, "Point call").
-use Rattle.std.specs.Prelude.{Bool, false, not, true, List, ◌%◌, ◌+◌, ◌-◌, ◌^◌, ℕ, leb}
-use Rattle.laws.specs.Out.{Out, and_then, done, reason, refuse, refused}
+use Rattle.std.specs.Prelude.{Ok, Err, Bool, false, not, true, List, ◌%◌, ◌+◌, ◌-◌, ◌^◌, ℕ, leb}
+use Rattle.laws.specs.Out.{Out, and_then, reason, refuse}
 use Rattle.image.specs.Format.{odd}
 use Rattle.sizes.specs.Aperture.{resolve_of}
 use Rattle.props.specs.Chain.{fold_chain}
@@ -11,9 +11,8 @@ use Rattle.props.specs.declared.entry.Property.{Property}
 use Rattle.props.specs.declared.entry.PropertyEntry.{PropertyEntry}
 use Rattle.motions.specs.Place.{Place, sideways, swaps, unturn}
 use Rattle.motions.specs.Turn.{Quarter, q0, q1, q2, q3, quarter_of}
-use Rattle.sight.specs.declared.PlaceRead.{PlaceRead}
+use Rattle.sight.specs.declared.CanvasPlace.{CanvasPlace}
 use Rattle.sight.specs.declared.Sight.{Sight}
-use Rattle.sight.specs.declared.SightRead.{SightRead}
 
 -- the empty chain's: a whole picture of that size as it is
 unfoldable pub whole : ℕ → ℕ → Sight
@@ -50,7 +49,7 @@ back s x y = back_from s.area s.exchanged (quarter_of s.turns) x y
 
 -- the same, refused 18 for a place outside
 unfoldable pub source_place : Sight → ℕ → ℕ → Out Place
-source_place s x y = refuse (leb (final_width s) x) 18 (refuse (leb (final_height s) y) 18 (done (back s x y)))
+source_place s x y = refuse (leb (final_width s) x) 18 (refuse (leb (final_height s) y) 18 (Ok (back s x y)))
 
 -- the same for any numbers: before it, 18 a far edge of the rectangle that is no 32-bit number, which no chain leaves
 unfoldable pub bounded_source : Sight → ℕ → ℕ → Out Place
@@ -108,11 +107,11 @@ then_mirror s b = record { area = s.area; exchanged = not s.exchanged; turns = m
 
 -- an applied entry: a clap's rectangle is that of the current final size, with its refusals; an iscl is refused 18
 unfoldable pub sight_after : Property → Sight → Out Sight
-sight_after Property.Other s = done s
-sight_after (Property.Clap c) s = and_then (resolve_of c (final_width s) (final_height s)) (λ k. done (then_crop s k))
-sight_after (Property.Irot k) s = done (then_turn s k.angle)
-sight_after (Property.Imir k) s = done (then_mirror s (odd k.axis))
-sight_after (Property.Iscl k) s = refused (reason 18)
+sight_after Property.Other s = Ok s
+sight_after (Property.Clap c) s = and_then (resolve_of c (final_width s) (final_height s)) (λ k. Ok (then_crop s k))
+sight_after (Property.Irot k) s = Ok (then_turn s k.angle)
+sight_after (Property.Imir k) s = Ok (then_mirror s (odd k.axis))
+sight_after (Property.Iscl k) s = Err (reason 18)
 
 -- a chain on a picture of that size, under the flag its essential entries alone
 unfoldable pub sight_of : List PropertyEntry → Bool → ℕ → ℕ → Out Sight
@@ -120,10 +119,6 @@ sight_of es essential_only width height = fold_chain sight_after essential_only 
 
 -- ---- what the code answers
 
-abbrev pub sight_out : SightRead → Out Sight
-sight_out (SightRead.Sight s) = done s
-sight_out (SightRead.Refused e) = refused e
-
-abbrev pub place_out : PlaceRead → Out Place
-place_out (PlaceRead.Place l) = done (record { x = l.x; y = l.y })
-place_out (PlaceRead.Refused e) = refused e
+abbrev pub place_out : Out CanvasPlace → Out Place
+place_out (Ok l) = Ok (record { x = l.x; y = l.y })
+place_out (Err e) = Err e

@@ -2,19 +2,19 @@
 #![tactic(auto)]
 
 ghost use Rattle.std.specs.Prelude.{◌≡◌, ◌+◌, ◌-◌, ◌<◌, ◌≤◌};
-ghost use Rattle.laws.specs.Out.{done, and_then};
+ghost use Rattle.laws.specs.Out.{and_then};
 ghost use Rattle.laws.specs.Pick.{pick};
 ghost use Rattle.props.specs.Chain.{applies, entries_at};
 ghost use Rattle.props.specs.inner.Judged.{Judged};
 ghost use Rattle.sizes.specs.Margins.{Around};
 ghost use Rattle.motions.specs.Place.{unturn};
 ghost use Rattle.motions.specs.Turn.{quarter_of};
-ghost use Rattle.sight.specs.Sight.{whole, final_width, final_height, quarter_back, unturn_crop, exchange_crop, then_crop, then_turn, then_mirror, sight_after, sight_of, source_place, bounded_source, sight_out, place_out};
+ghost use Rattle.sight.specs.Sight.{whole, final_width, final_height, quarter_back, unturn_crop, exchange_crop, then_crop, then_turn, then_mirror, sight_after, sight_of, source_place, bounded_source, place_out};
 ghost use Rattle.sight.specs.inner.Bounded.{Bounded, Lies};
 
-use laws::Refusal;
-use props::{Chain, EntryRead, Property, PropertyEntry};
-use sizes::{Crop, CropRect, Margins, Resolved};
+use laws::{Item, Refusal};
+use props::{Chain, Property, PropertyEntry};
+use sizes::{Crop, CropRect, Margins};
 
 // A rectangle of a picture, its left and right exchanged or not, then 0 to 3 quarter turns anticlockwise.
 #[derive(Clone, Copy)]
@@ -24,12 +24,6 @@ pub struct Sight {
     pub turns: u32,
 }
 
-#[derive(Clone, Copy)]
-pub enum SightRead {
-    Sight(Sight),
-    Refused(Refusal),
-}
-
 // A place of the picture.
 #[derive(Clone, Copy)]
 pub struct CanvasPlace {
@@ -37,13 +31,8 @@ pub struct CanvasPlace {
     pub y: u32,
 }
 
-#[derive(Clone, Copy)]
-pub enum PlaceRead {
-    Place(CanvasPlace),
-    Refused(Refusal),
-}
-
 // A crop before a quarter turn: its left margin was the bottom, its top the left, its right the top, its bottom the right.
+#[tactic(auto, unfolding(crate::specs::Sight::quarter_back))]
 fn quarter_back(k: Crop) -> Crop
     ensures { result ≡ quarter_back k }
 {
@@ -67,6 +56,7 @@ fn quarter_back(k: Crop) -> Crop
 
 impl Sight {
     // The whole of a picture of that size, as it is.
+    #[tactic(auto, unfolding(crate::specs::Sight::whole))]
     pub fn new(width: u32, height: u32) -> Sight
         ensures { result ≡ whole width height }
     {
@@ -83,68 +73,62 @@ impl Sight {
     }
 
     // The final size: the rectangle's sides, swapped at 1 or 3 turns.
+    #[tactic(auto, unfolding(crate::specs::Sight::final_width, crate::specs::Sight::wide_of, motions::specs::Place::sideways, motions::specs::Place::swaps, motions::specs::Turn::quarter_of, laws::specs::Pick::pick))]
     pub fn width(self) -> u32
         ensures { result ≡ final_width self }
     {
-        let area = self.area;
         if self.turns % 2 == 1 {
-            return area.height;
+            self.area.height
+        } else {
+            self.area.width
         }
-        area.width
     }
 
+    #[tactic(auto, unfolding(crate::specs::Sight::final_height, crate::specs::Sight::high_of, motions::specs::Place::sideways, motions::specs::Place::swaps, motions::specs::Turn::quarter_of, laws::specs::Pick::pick))]
     pub fn height(self) -> u32
         ensures { result ≡ final_height self }
     {
-        let area = self.area;
         if self.turns % 2 == 1 {
-            return area.width;
+            self.area.width
+        } else {
+            self.area.height
         }
-        area.height
     }
 
     // A crop of what is seen, before the turns.
+    #[tactic(auto, unfolding(crate::specs::Sight::unturn_crop, motions::specs::Turn::quarter_of, laws::specs::Pick::pick))]
     fn unturned(self, k: Crop) -> Crop
         ensures { result ≡ unturn_crop (quarter_of self.turns) k }
     {
-        let turns = self.turns % 4;
-        if turns == 0 {
-            return k;
+        match self.turns % 4 {
+            0 => k,
+            1 => quarter_back(k),
+            2 => quarter_back(quarter_back(k)),
+            _ => quarter_back(quarter_back(quarter_back(k))),
         }
-        let once = quarter_back(k);
-        if turns == 1 {
-            return once;
-        }
-        let twice = quarter_back(once);
-        if turns == 2 {
-            return twice;
-        }
-        quarter_back(twice)
     }
 
     // The same before the exchange.
+    #[tactic(auto, unfolding(crate::specs::Sight::exchange_crop))]
     fn unexchanged(self, k: Crop) -> Crop
         ensures { result ≡ exchange_crop self.exchanged k }
     {
-        let r = k.rect;
         let m = k.margins;
         if self.exchanged {
-            return Crop {
+            Crop {
                 rect: CropRect {
                     x: m.right,
-                    y: r.y,
-                    width: r.width,
-                    height: r.height,
+                    ..k.rect
                 },
                 margins: Margins {
                     left: m.right,
-                    top: m.top,
                     right: m.left,
-                    bottom: m.bottom,
+                    ..m
                 },
-            };
+            }
+        } else {
+            k
         }
-        k
     }
 
     // After a crop of what is seen.
@@ -153,8 +137,7 @@ impl Sight {
         ensures { result ≡ then_crop self k }
     {
         let area = self.area;
-        let d = self.unexchanged(self.unturned(k));
-        let r = d.rect;
+        let r = self.unexchanged(self.unturned(k)).rect;
         Sight {
             area: CropRect {
                 x: area.x + r.x,
@@ -162,133 +145,121 @@ impl Sight {
                 width: r.width,
                 height: r.height,
             },
-            exchanged: self.exchanged,
-            turns: self.turns,
+            ..self
         }
     }
 
     // After so many quarter turns more.
+    #[tactic(auto, unfolding(crate::specs::Sight::then_turn))]
     fn turned(self, angle: u8) -> Sight
         ensures { result ≡ then_turn self angle }
     {
-        let area = self.area;
         Sight {
-            area,
-            exchanged: self.exchanged,
             turns: (self.turns % 4 + angle as u32) % 4,
+            ..self
         }
     }
 
     // After an exchange of left and right, or of top and bottom.
+    #[tactic(auto, unfolding(crate::specs::Sight::then_mirror, crate::specs::Sight::mirror_turns))]
     fn mirrored(self, sideways: bool) -> Sight
         ensures { result ≡ then_mirror self sideways }
     {
-        let area = self.area;
         let turns = self.turns % 4;
-        if sideways {
-            return Sight {
-                area,
-                exchanged: !self.exchanged,
-                turns: (4 - turns) % 4,
-            };
-        }
         Sight {
-            area,
             exchanged: !self.exchanged,
-            turns: (6 - turns) % 4,
+            turns: if sideways {
+                (4 - turns) % 4
+            } else {
+                (6 - turns) % 4
+            },
+            ..self
         }
     }
 
     // After a property. Refusals: a clap's, 18 an iscl.
-    pub fn after(self, property: Property) -> SightRead
+    #[tactic(auto, unfolding(crate::specs::Sight::sight_after, laws::specs::Out::and_then, image::specs::Format::odd))]
+    pub fn after(self, property: Property) -> Result<Sight, Refusal>
         requires { Bounded self.area }
-        ensures { sight_out result ≡ sight_after property self }
+        ensures { result ≡ sight_after property self }
     {
         match property {
-            Property::Other => SightRead::Sight(self),
+            Property::Other => Ok(self),
             Property::Clap(c) => {
                 let found = c.resolve(self.width(), self.height());
-                let Resolved::Rect(k) = found else {
-                    return SightRead::Refused(found.refusal());
+                let Ok(k) = found else {
+                    return Err(found.unwrap_err());
                 };
-                SightRead::Sight(self.cropped(k))
+                Ok(self.cropped(k))
             }
-            Property::Irot(k) => SightRead::Sight(self.turned(k.angle)),
-            Property::Imir(k) => SightRead::Sight(self.mirrored(k.axis % 2 == 1)),
-            Property::Iscl(_) => SightRead::Refused(Refusal::POINT),
+            Property::Irot(k) => Ok(self.turned(k.angle)),
+            Property::Imir(k) => Ok(self.mirrored(k.axis % 2 == 1)),
+            Property::Iscl(_) => Err(Refusal::POINT),
         }
     }
 
     // After an entry: under the flag a property that is not essential is skipped.
-    pub fn after_entry(self, entry: PropertyEntry, essential_only: bool) -> SightRead
+    #[tactic(auto, unfolding(laws::specs::Pick::pick, props::specs::Chain::applies))]
+    pub fn after_entry(self, entry: PropertyEntry, essential_only: bool) -> Result<Sight, Refusal>
         requires { Bounded self.area }
-        ensures { sight_out result ≡ pick (applies essential_only entry) (sight_after entry.property self) (done self) }
+        ensures { result ≡ pick (applies essential_only entry) (sight_after entry.property self) (Ok self) }
     {
-        let property = entry.property;
-        if essential_only {
-            if entry.essential {
-                return self.after(property);
-            }
-            return SightRead::Sight(self);
+        if !essential_only || entry.essential {
+            self.after(entry.property)
+        } else {
+            Ok(self)
         }
-        self.after(property)
     }
 
     // Where a place of what is seen lies before the turns.
+    #[tactic(auto, unfolding(motions::specs::Place::unturn, motions::specs::Turn::quarter_of, laws::specs::Pick::pick, crate::specs::Sight::final_width, crate::specs::Sight::wide_of, crate::specs::Sight::final_height, crate::specs::Sight::high_of, motions::specs::Place::sideways, motions::specs::Place::swaps))]
     fn unturned_place(self, column: u32, row: u32) -> CanvasPlace
         requires { (column < final_width self) × (row < final_height self) }
         ensures { Lies result (unturn (quarter_of self.turns) self.area.width self.area.height column row) }
     {
         let area = self.area;
-        let turns = self.turns % 4;
-        if turns == 0 {
-            return CanvasPlace { x: column, y: row };
-        }
-        if turns == 1 {
-            return CanvasPlace {
+        match self.turns % 4 {
+            0 => CanvasPlace { x: column, y: row },
+            1 => CanvasPlace {
                 x: area.width - 1 - row,
                 y: column,
-            };
-        }
-        if turns == 2 {
-            return CanvasPlace {
+            },
+            2 => CanvasPlace {
                 x: area.width - 1 - column,
                 y: area.height - 1 - row,
-            };
-        }
-        CanvasPlace {
-            x: row,
-            y: area.height - 1 - column,
+            },
+            _ => CanvasPlace {
+                x: row,
+                y: area.height - 1 - column,
+            },
         }
     }
 
     // A column before the exchange.
+    #[tactic(auto, unfolding(laws::specs::Pick::pick))]
     fn unexchanged_column(self, column: u32) -> u32
         requires { column < self.area.width }
         ensures { result ≡ pick self.exchanged (self.area.width - 1 - column) column }
     {
-        let area = self.area;
         if self.exchanged {
-            return area.width - 1 - column;
+            self.area.width - 1 - column
+        } else {
+            column
         }
-        column
     }
 
     // A place of what is seen, in the picture, of a rectangle whose far edges are 32-bit numbers. Refusal: 18 a place outside.
-    fn bounded_place(self, column: u32, row: u32) -> PlaceRead
+    fn bounded_place(self, column: u32, row: u32) -> Result<CanvasPlace, Refusal>
         requires { Bounded self.area }
         ensures { place_out result ≡ source_place self column row }
     {
-        if self.width() <= column {
-            return PlaceRead::Refused(Refusal::POINT);
-        }
-        if self.height() <= row {
-            return PlaceRead::Refused(Refusal::POINT);
+        if self.width() <= column || self.height() <= row {
+            return Err(Refusal::POINT);
         }
         let area = self.area;
         let l = self.unturned_place(column, row);
         let x = self.unexchanged_column(l.x);
-        PlaceRead::Place(CanvasPlace {
+        Ok(CanvasPlace {
             x: area.x + x,
             y: area.y + l.y,
         })
@@ -296,15 +267,14 @@ impl Sight {
 
     // The place of the picture that a final place shows. Refusals: 18 a far edge that is no 32-bit number, which no chain leaves; 18 a
     // place outside.
-    pub fn place(self, column: u32, row: u32) -> PlaceRead
+    pub fn place(self, column: u32, row: u32) -> Result<CanvasPlace, Refusal>
         ensures { place_out result ≡ bounded_source self column row }
     {
         let area = self.area;
-        if area.x as u64 + area.width as u64 > 4294967295 {
-            return PlaceRead::Refused(Refusal::POINT);
-        }
-        if area.y as u64 + area.height as u64 > 4294967295 {
-            return PlaceRead::Refused(Refusal::POINT);
+        if area.x as u64 + area.width as u64 > 4294967295
+            || area.y as u64 + area.height as u64 > 4294967295
+        {
+            return Err(Refusal::POINT);
         }
         self.bounded_place(column, row)
     }
@@ -317,29 +287,20 @@ pub fn reduce_judged(
     essential_only: bool,
     width: u32,
     height: u32,
-) -> SightRead
+) -> Result<Sight, Refusal>
     requires { Judged s.now chain }
-    ensures { sight_out result ≡ and_then (entries_at chain.count s.now chain.first) (λ es. sight_of es essential_only width height) }
+    ensures { result ≡ and_then (entries_at chain.count s.now chain.first) (λ es. sight_of es essential_only width height) }
 {
-    let count = chain.count;
-    let mut next = chain.first;
-    let mut i: u32 = 0;
+    let Chain { count, first } = chain;
+    let mut next = first;
     let mut reached = Sight::new(width, height);
-    while i < count {
-        let EntryRead::Read(e) = props::read_entry(s, next) else {
-            return SightRead::Refused(Refusal::MALFORMED);
-        };
-        let entry = e.entry;
+    for i in 0..count {
+        let (entry, past) = props::read_entry(s, next)?;
         match reached.after_entry(entry, essential_only) {
-            SightRead::Refused(r) => {
-                return SightRead::Refused(r.about(Refusal::ENTRY, i as u64));
-            }
-            SightRead::Sight(z) => {
-                reached = z;
-            }
+            Err(e) => return Err(e.about(Item::Entry(i as u64))),
+            Ok(z) => reached = z,
         }
-        next = e.next;
-        i += 1;
+        next = past;
     }
-    SightRead::Sight(reached)
+    Ok(reached)
 }

@@ -1,4 +1,5 @@
 -- Laws of scaling: it rounds up, and keeps within a picture's limits.
+use Rattle.std.specs.Prelude.{Ok}
 use mathlib.Core.Bool.{Bool, ◌&&◌, false, true}
 use mathlib.Core.Path.{◌∙◌, ◌≡◌, refl, sym}
 use Prim.Native.Nat.{◌*◌, ◌+◌, ◌-◌, ◌<◌, ◌≤◌, suc, ℕ}
@@ -8,7 +9,6 @@ use lib.Dec.{eqb}
 use borrow.Author.Tests.{eqb-false, ltb-false}
 use Rattle.laws.proofs.Order.{by_order, mul-below, pick-false, pick_true}
 use Rattle.laws.proofs.Out.{done-same, refuse-done}
-use Rattle.laws.specs.Out.{done}
 use Rattle.laws.specs.Pick.{pick}
 use Rattle.image.specs.Sound.{SizeSound}
 use Rattle.image.specs.declared.size.Size.{Size}
@@ -17,7 +17,7 @@ use Rattle.sizes.specs.declared.iscl.Iscl.{Iscl}
 
 -- ---- rounding up
 
--- the scaled_side side is the least whole number that is not below side * num / den
+-- the scaled side is the least whole number that is not below side * num / den
 pub scaled-covers : (side num den : ℕ) → 0 < den → side * num ≤ scaled_side side num den * den
 unfolding scaled_side
 scaled-covers side num den h = omega (arith, div-add-mod' (side * num + (den - 1)) den, mod-lt (side * num + (den - 1)) h)
@@ -52,7 +52,7 @@ not-zero k e = go (eqb-false k 0 e)
     go : (k ≡ 0 → ⊥) → 1 ≤ k
     go f = omega arith
 
-within-sound : (z x y : Size) → 1 ≤ x.width → 1 ≤ x.height → within_of z x ≡ done y → SizeSound y
+within-sound : (z x y : Size) → 1 ≤ x.width → 1 ≤ x.height → within_of z x ≡ Ok y → SizeSound y
 unfolding within_of
 within-sound z x y w h e =
     let a = refuse-done _ _ _ y e in
@@ -62,15 +62,15 @@ within-sound z x y w h e =
     let f = refuse-done _ _ _ y d.1 in
     sound-as x y (done-same x y f.1) (record { wide = w; tall = h; area = ltb-false _ _ a.0 })
 
-changed-sound : (z x y : Size) → SizeSound z → 1 ≤ x.width → 1 ≤ x.height → changed z x ≡ done y → SizeSound y
+changed-sound : (z x y : Size) → SizeSound z → 1 ≤ x.width → 1 ≤ x.height → changed z x ≡ Ok y → SizeSound y
 unfolding changed
 changed-sound z x y s w h e = go (eqb x.width z.width && eqb x.height z.height) e
   where
-    go : (b : Bool) → pick b (done z) (within_of z x) ≡ done y → SizeSound y
-    go true q = sound-as z y (done-same z y (sym (pick_true true (done z) (within_of z x) refl) ∙ q)) s
-    go false q = within-sound z x y w h (sym (pick-false false (done z) (within_of z x) refl) ∙ q)
+    go : (b : Bool) → pick b (Ok z) (within_of z x) ≡ Ok y → SizeSound y
+    go true q = sound-as z y (done-same z y (sym (pick_true true (Ok z) (within_of z x) refl) ∙ q)) s
+    go false q = within-sound z x y w h (sym (pick-false false (Ok z) (within_of z x) refl) ∙ q)
 
-pub scale-sound : (k : Iscl) (z y : Size) → SizeSound z → scale_of k z.width z.height ≡ done y → SizeSound y
+pub scale-sound : (k : Iscl) (z y : Size) → SizeSound z → scale_of k z.width z.height ≡ Ok y → SizeSound y
 unfolding scale_of
 scale-sound k z y s e =
     let a = refuse-done _ _ _ y e in

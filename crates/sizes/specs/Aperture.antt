@@ -1,19 +1,17 @@
 -- The clean aperture (ISO/IEC 14496-12, 12.1.4; document 01, clap).
-use Rattle.std.specs.Prelude.{not, ◌≡◌, ◌%◌, ◌*◌, ◌+◌, ◌-◌, ◌/◌, ◌^◌, ◌≤◌, suc, ℕ, eqb, ltb, ◌*ℤ◌, ◌+ℤ◌, negsuc, pos, ℤ}
-use Rattle.laws.specs.Out.{Out, and_then, done, reason, refuse, refused}
+use Rattle.std.specs.Prelude.{Ok, Err, not, ◌≡◌, ◌%◌, ◌*◌, ◌+◌, ◌-◌, ◌/◌, ◌^◌, ◌≤◌, suc, ℕ, eqb, ltb, ◌*ℤ◌, ◌+ℤ◌, negsuc, pos, ℤ}
+use Rattle.laws.specs.Out.{Out, and_then, reason, refuse}
 use Rattle.numbers.specs.Field.{signed_of}
 use Rattle.sizes.specs.declared.clap.Clap.{Clap}
 use Rattle.sizes.specs.declared.clap.Crop.{Crop}
 use Rattle.sizes.specs.declared.clap.CropRect.{CropRect}
-use Rattle.sizes.specs.declared.clap.Resolved.{Resolved}
 use Rattle.sizes.specs.declared.clap.AxisPart.{AxisPart}
-use Rattle.sizes.specs.declared.clap.AxisPartRead.{AxisPartRead}
 
 -- the edge num / den on an axis with `gap` pixels to spare, of which the rest lies beyond: 8 where it is not whole, 9 where it is below 0 or
 -- above gap
 unfoldable pub edge_of : ℤ → ℕ → ℕ → ℕ → Out AxisPart
-edge_of (pos k) den gap size = refuse (not (eqb (k % den) 0)) 8 (refuse (ltb gap (k / den)) 9 (done (record { edge = k / den; size = size; beyond = gap - k / den })))
-edge_of (negsuc k) den gap size = refuse (not (eqb (suc k % den) 0)) 8 (refused (reason 9))
+edge_of (pos k) den gap size = refuse (not (eqb (k % den) 0)) 8 (refuse (ltb gap (k / den)) 9 (Ok (record { edge = k / den; size = size; beyond = gap - k / den })))
+edge_of (negsuc k) den gap size = refuse (not (eqb (suc k % den) 0)) 8 (Err (reason 9))
 
 -- one axis: the size is n / d, and the edge ((input - size) * offset d + 2 * offset n) / (2 * offset d), where the offset's n is the
 -- 32-bit pattern of a signed number; 7 a zero denominator, 8 a size that is not whole, 9 a size 0 or above the input, then the edge's
@@ -31,24 +29,10 @@ unfoldable pub resolve_of : Clap → ℕ → ℕ → Out Crop
 resolve_of c width height =
     and_then (axis_of c.width_n c.width_d c.horiz_off_n c.horiz_off_d width) (λ a.
     and_then (axis_of c.height_n c.height_d c.vert_off_n c.vert_off_d height) (λ b.
-    done (record {
+    Ok (record {
       rect = record { x = a.edge; y = b.edge; width = a.size; height = b.size };
       margins = record { left = a.edge; top = b.edge; right = a.beyond; bottom = b.beyond };
     })))
-
--- what resolving an axis and an aperture answers
-abbrev pub axis_part_out : AxisPartRead → Out AxisPart
-axis_part_out (AxisPartRead.Read a) = done a
-axis_part_out (AxisPartRead.Refused e) = refused e
-
-abbrev pub resolved_out : Resolved → Out Crop
-resolved_out (Resolved.Rect k) = done k
-resolved_out (Resolved.Refused e) = refused e
-
--- an answer that is no rectangle
-unfoldable pub NoRect : Resolved → Type 0
-NoRect (Resolved.Rect k) = ⊥
-NoRect (Resolved.Refused e) = Unit
 
 -- a part of an axis, by its edge and its size: the size is n / d, the part lies in the input, and the edge is the formula's number exactly
 pub record Exact (n d off_n off_d input edge size : ℕ) : Type 0 where

@@ -1,6 +1,7 @@
 -- Image scaling (ISO/IEC 23008-12, 6.5.13; document 01, iscl).
+use Rattle.std.specs.Prelude.{Ok}
 use Rattle.std.specs.Prelude.{◌&&◌, ◌*◌, ◌+◌, ◌-◌, ◌/◌, ◌^◌, ℕ, eqb, ltb}
-use Rattle.laws.specs.Out.{Out, done, refuse}
+use Rattle.laws.specs.Out.{Out, refuse}
 use Rattle.laws.specs.Pick.{pick}
 use Rattle.sizes.specs.declared.iscl.Iscl.{Iscl}
 use Rattle.image.specs.declared.size.Size.{Size}
@@ -16,12 +17,12 @@ within_of before after =
     (refuse (ltb (2 ^ 26) before.width) 4
     (refuse (ltb (2 ^ 26) before.height) 4
     (refuse (ltb (2 ^ 26) after.width) 4
-    (refuse (ltb (2 ^ 26) after.height) 4 (done after)))))
+    (refuse (ltb (2 ^ 26) after.height) 4 (Ok after)))))
 
 -- an unchanged size is handed back before the limits are looked at
 unfoldable pub changed : Size → Size → Out Size
 changed before after =
-    pick (eqb after.width before.width && eqb after.height before.height) (done before) (within_of before after)
+    pick (eqb after.width before.width && eqb after.height before.height) (Ok before) (within_of before after)
 
 -- 7 any zero; 10 a side above 2 ^ 32 - 1; 4 only if the size changes
 unfoldable pub scale_of : Iscl → ℕ → ℕ → Out Size

@@ -1,7 +1,6 @@
 -- What holds of a rectangle that was taken.
-use Rattle.std.specs.Prelude.{◌*◌, ◌+◌, ◌^◌, ◌≤◌, ℕ}
+use Rattle.std.specs.Prelude.{◌+◌, ◌≤◌, ℕ}
 use Rattle.sizes.specs.declared.clap.CropRect.{CropRect}
-use Rattle.image.specs.declared.size.Size.{Size}
 
 -- a rectangle with some pixels that lies in a picture of that size
 pub record Inside (r : CropRect) (width height : ℕ) : Type 0 where

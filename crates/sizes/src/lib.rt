@@ -4,5 +4,5 @@
 mod clap;
 mod iscl;
 
-pub use crate::clap::{Clap, Crop, CropRect, Margins, Resolved};
+pub use crate::clap::{Clap, Crop, CropRect, Margins};
 pub use crate::iscl::Iscl;

@@ -1,4 +1,5 @@
 -- What a property makes of a picture, of its record and of its form.
+use Rattle.std.specs.Prelude.{Ok}
 use mathlib.Core.Bool.{Bool, false, true}
 use mathlib.Core.List.{List, [], append-nil}
 use mathlib.Core.Path.{◌∙◌, ◌≡◌, ap, ap₂, refl, sym}
@@ -7,7 +8,7 @@ use lib.Dec.{lit≤}
 use borrow.Author.Tests.{eqb-true}
 use Rattle.laws.proofs.Order.{and-true, by-test, pick-false, pick_true}
 use Rattle.laws.proofs.Out.{Holds, Same, alike, both, done-holds, then-both, then-done, then-holds}
-use Rattle.laws.specs.Out.{Out, and_then, done}
+use Rattle.laws.specs.Out.{Out, and_then}
 use Rattle.laws.specs.Pick.{pick}
 use Rattle.image.proofs.FormLaws.{bytes-cases}
 use Rattle.planes.proofs.RoundTrip.{Small, agree-in-range, agree_trans, decode-encode, encode-agree, encode-back}
@@ -23,7 +24,6 @@ use Rattle.sizes.proofs.ApertureLaws.{resolve-inside}
 use Rattle.sizes.proofs.ScaleLaws.{scale-sound}
 use Rattle.sizes.specs.Aperture.{resolve_of}
 use Rattle.sizes.specs.Scale.{scale_of}
-use Rattle.sizes.specs.declared.clap.Clap.{Clap}
 use Rattle.props.specs.declared.entry.Property.{Property}
 use Rattle.sizes.specs.declared.iscl.Iscl.{Iscl}
 use Rattle.image.specs.declared.size.Size.{Size}
@@ -62,7 +62,7 @@ tidy-small P k =
     }
 
 -- the record of a picture is taken, and shows the picture
-pub in-range-back : (P : Pic) → InRange P → (record_of (encode P) ≡ done (tight_at P.form 0)) × Agree (decode (encode P) (tight_at P.form 0)) P
+pub in-range-back : (P : Pic) → InRange P → (record_of (encode P) ≡ Ok (tight_at P.form 0)) × Agree (decode (encode P) (tight_at P.form 0)) P
 unfolding tidy
 in-range-back P k =
     let e = encode-agree (tidy P) P (tidy-agree P) in (
@@ -78,7 +78,7 @@ area-in-range P z k s =
     agree-in-range _ _ (area-agree (tidy P) P z.width z.height k.sound (tidy-agree P))
     (record { sound = s; small = λ p h x y a b. (area_small (tidy P) z.width z.height k.sound (tidy-small P k)).small p x y a b })
 
-scale-fits : (k : Iscl) (m : Form) (z : Size) → FormSound m → scale_of k m.width m.height ≡ done z → FormSound (sized m z.width z.height)
+scale-fits : (k : Iscl) (m : Form) (z : Size) → FormSound m → scale_of k m.width m.height ≡ Ok z → FormSound (sized m z.width z.height)
 scale-fits k m z s e = sized-sound m z s (scale-sound k _ z (own-sound m s) e)
 
 scaled-in-range : (P : Pic) (b : Bool) (z : Size) → InRange P → FormSound (sized P.form z.width z.height) → InRange (pick b P (area P z.width z.height))
@@ -93,13 +93,13 @@ unfolding pic_after scaled Holds
 after-in-range Property.Other P k = k
 after-in-range (Property.Clap c) P k =
     then-holds _ InRange (resolve_of c P.form.width P.form.height) _
-    (done-holds (λ r. resolve_of c P.form.width P.form.height ≡ done r) _ (λ r e. e))
+    (done-holds (λ r. resolve_of c P.form.width P.form.height ≡ Ok r) _ (λ r e. e))
     (λ r e. draws-in-range _ _ P (crop-made P r.rect k.sound (resolve-inside c _ _ r e)) k)
 after-in-range (Property.Irot t) P k = turn-in-range P (quarter_of t.angle) k
 after-in-range (Property.Imir t) P k = draws-in-range _ _ P (mirror-made P (odd t.axis) k.sound) k
 after-in-range (Property.Iscl t) P k =
     then-holds _ InRange (scale_of t P.form.width P.form.height) _
-    (done-holds (λ z. scale_of t P.form.width P.form.height ≡ done z) _ (λ z e. e))
+    (done-holds (λ z. scale_of t P.form.width P.form.height ≡ Ok z) _ (λ z e. e))
     (λ z e. scaled-in-range P _ z k (scale-fits t P.form z k.sound e))
 
 -- ---- its form, by the form alone
@@ -123,13 +123,13 @@ unfolding pic_after scaled form_after Formed mirror_move
 after-form Property.Other P k = both refl
 after-form (Property.Clap c) P k =
     then-both _ Formed (resolve_of c P.form.width P.form.height) _ _
-    (done-holds (λ r. resolve_of c P.form.width P.form.height ≡ done r) _ (λ r e. e))
+    (done-holds (λ r. resolve_of c P.form.width P.form.height ≡ Ok r) _ (λ r e. e))
     (λ r e. both (sym (draws-form _ _ P (crop-made P r.rect k (resolve-inside c _ _ r e)))))
 after-form (Property.Irot t) P k = both (sym (turn-form P (quarter_of t.angle) k))
 after-form (Property.Imir t) P k = both (sym (draws-form _ _ P (mirror-made P (odd t.axis) k)))
 after-form (Property.Iscl t) P k =
     then-both _ Formed (scale_of t P.form.width P.form.height) _ _
-    (done-holds (λ z. scale_of t P.form.width P.form.height ≡ done z) _ (λ z e. e))
+    (done-holds (λ z. scale_of t P.form.width P.form.height ≡ Ok z) _ (λ z e. e))
     (λ z e. both (scaled-form P _ z refl))
 
 -- a form that was reached is sound
@@ -180,7 +180,7 @@ bytewise Property.Other P k = both refl
 bytewise (Property.Clap c) P k =
     taken-same P k _ _
     (then-both _ Bytewise (resolve_of c P.form.width P.form.height) _ _
-    (done-holds (λ r. resolve_of c P.form.width P.form.height ≡ done r) _ (λ r e. e))
+    (done-holds (λ r. resolve_of c P.form.width P.form.height ≡ Ok r) _ (λ r e. e))
     (λ r e.
     let i = resolve-inside c _ _ r e in
     both (encode-agree _ _ (draws-agree _ _ _ P (crop-made _ r.rect k.sound i) (crop-made P r.rect k.sound i) (in-range-back P k).1))))
@@ -191,7 +191,7 @@ bytewise (Property.Imir t) P k =
 bytewise (Property.Iscl t) P k =
     taken-same P k _ _
     (then-both _ Bytewise (scale_of t P.form.width P.form.height) _ _
-    (done-holds (λ z. scale_of t P.form.width P.form.height ≡ done z) _ (λ z e. e))
+    (done-holds (λ z. scale_of t P.form.width P.form.height ≡ Ok z) _ (λ z e. e))
     (λ z e. both (scaled-bytes P k _ z.width z.height)))
 
 -- the operation on the record of a picture is refused as the property is on the picture, or writes the record of what it makes

@@ -1,18 +1,16 @@
 -- The stages of a chain: what a sight shows of a record, held until it is drawn, is what the entries in turn would have made.
-use mathlib.Core.Bool.{Bool, ◌&&◌, false, not, true}
-use mathlib.Core.List.{List, []}
+use Rattle.std.specs.Prelude.{Ok}
+use mathlib.Core.Bool.{Bool, false, not, true}
+use mathlib.Core.List.{List}
 use mathlib.Core.Path.{◌∙◌, ◌≡◌, ap, ap₂, refl, sym}
-use Prim.Native.Nat.{◌+◌, ◌<◌, ◌^◌, ◌≤◌, ℕ}
+use Prim.Native.Nat.{ℕ}
 use native.Mathlib.Omega.{arith}
 use lib.ListN.{length}
-use borrow.Author.Tests.{not-false}
-use Rattle.laws.proofs.Order.{and-true, apart, by-test, or_left, or_right, pick-false, pick_true}
-use Rattle.laws.proofs.Out.{Same, both, done-same, same-done, same_left, and_then-done}
-use Rattle.laws.specs.Out.{Out, and_then, done, reason, refused}
-use Rattle.laws.specs.Pick.{pick}
+use Rattle.laws.proofs.Order.{and-true, apart, by-test, pick-false, pick_true}
+use Rattle.laws.proofs.Out.{done-same, same-done, same_left, and_then-done}
 use Rattle.image.proofs.FormLaws.{height-le, width-le}
 use Rattle.records.proofs.RecordLaws.{whole-sound}
-use Rattle.image.specs.Format.{halves_x, halves_y, needs444, odd}
+use Rattle.image.specs.Format.{needs444, odd}
 use Rattle.records.specs.Record.{record_of}
 use Rattle.image.specs.Sound.{FormSound}
 use Rattle.records.specs.inner.Placed.{Sound}
@@ -25,8 +23,6 @@ use Rattle.planes.specs.inner.Even.{Even}
 use Rattle.planes.specs.inner.InRange.{InRange}
 use Rattle.props.specs.declared.entry.Property.{Property}
 use Rattle.motions.specs.Chain.{NotIscl, pic_after}
-use Rattle.motions.specs.Turn.{quarter_of}
-use Rattle.motions.specs.inner.Moves.{crop_move, turn_form}
 use Rattle.sizes.specs.Aperture.{resolve_of}
 use Rattle.sight.proofs.Agreement.{after_same, view-whole}
 use Rattle.sight.specs.Sight.{final_height, final_width, sight_after, whole}
@@ -45,17 +41,17 @@ use Rattle.stages.specs.inner.Held.{form_after, is_even, is_held, scales}
 
 pub record Next (p : Property) (Q : Pic) (b : List ℕ) : Type 0 where
   pub pic : Pic
-  pub run : pic_after scaled p Q ≡ done pic
+  pub run : pic_after scaled p Q ≡ Ok pic
   pub in_range : InRange pic
   pub bytes : b ≡ encode pic
-  pub form : form_after p Q.form ≡ done pic.form
+  pub form : form_after p Q.form ≡ Ok pic.form
 
-pub next_of : (p : Property) (Q : Pic) (b : List ℕ) → InRange Q → record_after p (encode Q) ≡ done b → Next p Q b
+pub next_of : (p : Property) (Q : Pic) (b : List ℕ) → InRange Q → record_after p (encode Q) ≡ Ok b → Next p Q b
 unfolding Formed
 next_of p Q b k e =
     let a = same_left Shows _ _ (after-bytes p Q k) b e in
     let f = same-done Formed _ _ (after-form p Q k.sound) a.0 a.1 in
-    record { pic = a.0; run = a.1; in_range = a.2.in_range; bytes = a.2.bytes; form = f.1 ∙ ap done f.2 }
+    record { pic = a.0; run = a.1; in_range = a.2.in_range; bytes = a.2.bytes; form = f.1 ∙ ap Ok f.2 }
 
 -- ---- a stage at a record
 
@@ -104,7 +100,7 @@ stage-reaches t bs k =
 -- the frame that is read to draw what is shown
 pub stage-frame : (t : Stage) (bs : List ℕ) → StageSound t bs → Sound bs (tight_at t.from 0)
 stage-frame t bs k =
-    (whole-sound bs _ (ap record_of k.bytes ∙ (in-range-back (stage_pic t bs) k.in_range).0 ∙ ap (λ (m : Form). done (tight_at m 0)) (pic-form bs t.from))).0
+    (whole-sound bs _ (ap record_of k.bytes ∙ (in-range-back (stage_pic t bs) k.in_range).0 ∙ ap (λ (m : Form). Ok (tight_at m 0)) (pic-form bs t.from))).0
 
 pub stage-form : (t : Stage) (bs : List ℕ) → StageSound t bs → FormSound t.from
 stage-form t bs k = rw (← pic-form bs t.from) k.in_range.sound
@@ -146,7 +142,7 @@ held-even p m e = (and-true (not (scales p)) (is_even m) e).1
 
 -- the format that is reached
 reached-after : (p : Property) (m n n' : Form) (s u : Sight) → NotIscl p → n.width ≡ final_width s → n.height ≡ final_height s
-    → form_after p n ≡ done n' → sight_after p s ≡ done u → Reached m n s → Reached m n' u
+    → form_after p n ≡ Ok n' → sight_after p s ≡ Ok u → Reached m n s → Reached m n' u
 unfolding form_after sight_after NotIscl
 reached-after Property.Other m n n' s u i w h a b k = rw (← done-same n n' a, ← done-same s u b) k
 reached-after (Property.Clap c) m n n' s u i w h a b k =
@@ -206,13 +202,13 @@ stage-bounded t bs k e =
 pub record Held (p : Property) (t : Stage) (bs b : List ℕ) : Type 0 where
   pub form : Form
   pub sight : Sight
-  pub formed : form_after p t.form ≡ done form
-  pub sighted : sight_after p (sight_here t) ≡ done sight
+  pub formed : form_after p t.form ≡ Ok form
+  pub sighted : sight_after p (sight_here t) ≡ Ok sight
   pub sound : StageSound (stage_held t form sight) bs
   pub bytes : stage_bytes (stage_held t form sight) bs ≡ b
   pub size : size_of form ≡ length b
 
-pub stage-held : (p : Property) (t : Stage) (bs b : List ℕ) → StageSound t bs → is_held p t.form ≡ true → record_after p (stage_bytes t bs) ≡ done b → Held p t bs b
+pub stage-held : (p : Property) (t : Stage) (bs b : List ℕ) → StageSound t bs → is_held p t.form ≡ true → record_after p (stage_bytes t bs) ≡ Ok b → Held p t bs b
 unfolding is_held stage_held
 stage-held p t bs b k e q =
     let ok = and-true _ _ e in
@@ -225,7 +221,7 @@ stage-held p t bs b k e q =
     let u = same_left (View P) _ _ (after_same P scaled p Q s n v.view) x.pic x.run in
     let w = v.view.shows in
     let z = u.2.shows in
-    let formed : form_after p t.form ≡ done x.pic.form = ap (form_after p) (sym v.form) ∙ x.form in
+    let formed : form_after p t.form ≡ Ok x.pic.form = ap (form_after p) (sym v.form) ∙ x.form in
     let known : Shown P.form x.pic.form u.0 = record {
       from = k.in_range.sound;
       sound = x.in_range.sound;

@@ -1,6 +1,7 @@
 -- A chain on a composed picture, iscl included, and the longest record on the way (document 01, "The scene call"; `apply_transforms`).
+use Rattle.std.specs.Prelude.{Ok}
 use Rattle.std.specs.Prelude.{Bool, List, max, ℕ, length}
-use Rattle.laws.specs.Out.{Out, and_then, done}
+use Rattle.laws.specs.Out.{Out, and_then}
 use Rattle.laws.specs.Pick.{pick}
 use Rattle.planes.specs.Bytes.{encode}
 use Rattle.planes.specs.Picture.{Pic}
@@ -17,7 +18,7 @@ use Rattle.image.specs.Format.{has_size}
 unfoldable pub scaled : Iscl → Pic → Out Pic
 scaled k P =
     and_then (scale_of k P.form.width P.form.height) (λ z.
-    done (pick (has_size P.form z.width z.height) P (area P z.width z.height)))
+    Ok (pick (has_size P.form z.width z.height) P (area P z.width z.height)))
 
 -- a picture, and how long the longest of the composed record and the step records up to it is
 pub record Drawn : Type 0 where
@@ -30,7 +31,7 @@ first_drawn P = record { pic = P; longest = length (encode P) }
 
 -- an applied entry
 unfoldable pub drawn_after : Property → Drawn → Out Drawn
-drawn_after p d = and_then (pic_after scaled p d.pic) (λ Q. done (record { pic = Q; longest = max d.longest (length (encode Q)) }))
+drawn_after p d = and_then (pic_after scaled p d.pic) (λ Q. Ok (record { pic = Q; longest = max d.longest (length (encode Q)) }))
 
 -- a chain, under the flag its essential entries alone
 unfoldable pub chain_drawn : List PropertyEntry → Bool → Pic → Out Drawn

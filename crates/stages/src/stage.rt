@@ -7,9 +7,9 @@ ghost use Rattle.stages.specs.inner.Held.{form_after};
 ghost use Rattle.stages.specs.inner.Stage.{sight_here, stage_start, stage_drawn, Gives, HeldAfter};
 
 use crate::held::form_after;
-use image::{Form, FormRead};
+use image::Form;
 use props::Property;
-use sight::{Sight, SightRead};
+use sight::Sight;
 
 // A record at the start of output (`inside`) or of the spare, and how long it is.
 #[derive(Clone, Copy)]
@@ -29,6 +29,7 @@ pub struct Stage {
 }
 
 // The composed record, as it lies.
+#[tactic(auto, unfolding(crate::specs::inner::Stage::stage_start))]
 pub fn stage_start(m: Form, first: Current) -> Stage
     ensures { result ≡ stage_start m first }
 {
@@ -42,20 +43,18 @@ pub fn stage_start(m: Form, first: Current) -> Stage
 }
 
 // A record that was drawn.
+#[tactic(auto, unfolding(crate::specs::inner::Stage::stage_drawn))]
 pub fn stage_drawn(t: Stage, size: usize, form: Form) -> Stage
     ensures { result ≡ stage_drawn t size form }
 {
-    let old = t.current;
-    let current = Current {
-        size,
-        inside: !old.inside,
-    };
-    let sight = t.sight;
     Stage {
-        current,
+        current: Current {
+            size,
+            inside: !t.current.inside,
+        },
         from: form,
         form,
-        sight,
+        sight: t.sight,
         shown: false,
     }
 }
@@ -65,10 +64,7 @@ pub fn next_form(m: Form, property: Property) -> Form
     requires { FormSound m }
     ensures { Gives (form_after property m) result }
 {
-    match form_after(m, property) {
-        FormRead::Form(n) => n,
-        FormRead::Refused(_) => m,
-    }
+    form_after(m, property).unwrap_or(m)
 }
 
 // The sight after a property that is not refused.
@@ -76,21 +72,19 @@ fn next_sight(s: Sight, property: Property) -> Sight
     requires { Bounded s.area }
     ensures { Gives (sight_after property s) result }
 {
-    match s.after(property) {
-        SightRead::Sight(u) => u,
-        SightRead::Refused(_) => s,
-    }
+    s.after(property).unwrap_or(s)
 }
 
 // The sight from which a stage goes on.
+#[tactic(auto, unfolding(crate::specs::inner::Stage::sight_here, laws::specs::Pick::pick))]
 fn sight_here(t: Stage) -> Sight
     ensures { result ≡ sight_here t }
 {
     if t.shown {
-        return t.sight;
+        t.sight
+    } else {
+        Sight::new(t.form.width, t.form.height)
     }
-    let m = t.form;
-    Sight::new(m.width, m.height)
 }
 
 // A property that a sight can hold.
@@ -98,13 +92,10 @@ pub fn hold(t: Stage, property: Property) -> Stage
     requires { FormSound t.form × Bounded (sight_here t).area }
     ensures { HeldAfter property t result }
 {
-    let current = t.current;
-    let from = t.from;
     Stage {
-        current,
-        from,
         form: next_form(t.form, property),
         sight: next_sight(sight_here(t), property),
         shown: true,
+        ..t
     }
 }

@@ -4,7 +4,6 @@
 
 ghost use Rattle.std.specs.Prelude.{◌≤◌, IfOk, length};
 
-use laws::Answer;
 use std::io;
 use std::io::Read;
 
@@ -27,8 +26,6 @@ fn main(rt: HostRuntime) -> io::Result<()> {
     let mut input = [0u8; 16384];
     let mut text = [0u8; 16384];
     let n = read_full(&mut rt.stdin(), &mut input)?;
-    match steps_text::steps_text(&input[..n], &mut text) {
-        Answer::Wrote(length) => rt.write_all(&text[..length]),
-        Answer::Refused(_) => Ok(()),
-    }
+    let length = steps_text::steps_text(&input[..n], &mut text).unwrap();
+    rt.write_all(&text[..length])
 }

@@ -1,16 +1,15 @@
 -- A loop over the entries of an input: what is left of the text at each turn.
+use Rattle.std.specs.Prelude.{Ok, Err}
 use mathlib.Core.List.{List, [], ◌++◌}
 use mathlib.Core.Path.{◌∙◌, ◌≡◌, ap, sym}
 use Prim.Native.Nat.{◌+◌, ◌-◌, ◌<◌, ◌≤◌, ℕ}
 use native.Mathlib.Omega.{arith}
 use lib.ListN.{length, length-append}
 use Rattle.laws.proofs.Puts.{puts-append}
-use Rattle.laws.specs.Out.{done, refused}
 use Rattle.laws.specs.Pick.{pick}
 use Rattle.laws.specs.Puts.{puts}
 use Rattle.laws.specs.Utf8.{character_bytes, utf8}
 use Rattle.laws.specs.declared.Refusal.{Refusal}
-use Rattle.image.specs.Format.{size_out}
 use Rattle.image.specs.declared.size.Size.{Size}
 use Rattle.props.specs.Chain.{entries_at}
 use Rattle.props.specs.declared.entry.PropertyEntry.{PropertyEntry}
@@ -25,7 +24,7 @@ pub record Going (s : List ℕ) (count at index : ℕ) : Type 0 where
   pub bounded : count ≤ 256
   pub within : index ≤ count
   pub rest : List PropertyEntry
-  pub left : entries_at (count - index) s at ≡ done rest
+  pub left : entries_at (count - index) s at ≡ Ok rest
 
 -- the start: the text is the heading and every line
 pub going_start : (s : List ℕ) (i : Input) → Taken s i → (g : Going s i.chain.count i.chain.first 0) × (text_of s ≡ heading ++ lines_from 0 g.rest i.size)
@@ -44,7 +43,7 @@ going-stands s count at index g h = entry-stands (count - index) s at g.rest (om
 
 module _ (s : List ℕ) (count at index : ℕ) (z : Size) (g : Going s count at index) where
   -- a turn: a line, and the lines after it
-  pub going_next : (r : EntryStep) (y : Size) → index < count → StepAt s at z r → size_out r.after ≡ done y
+  pub going_next : (r : EntryStep) (y : Size) → index < count → StepAt s at z r → r.after ≡ Ok y
       → (t : Going s count r.next (index + 1)) × (lines_from index g.rest z ≡ line_text index r.kind y ++ lines_from (index + 1) t.rest y)
   going_next r y h t q =
       let k = lines_next (count - index) s at g.rest index z r y (omega arith) g.left t q in
@@ -52,7 +51,7 @@ module _ (s : List ℕ) (count at index : ℕ) (z : Size) (g : Going s count at 
       (record { bounded = g.bounded; within = omega arith; rest = k.0; left = ap (λ m. entries_at m s r.next) n ∙ k.1 }, k.2)
 
   -- the last turn: an entry that is refused
-  pub going-refused : (r : EntryStep) (x : Refusal) → index < count → StepAt s at z r → size_out r.after ≡ refused x → lines_from index g.rest z ≡ refused_line index r.kind x
+  pub going-refused : (r : EntryStep) (x : Refusal) → index < count → StepAt s at z r → r.after ≡ Err x → lines_from index g.rest z ≡ refused_line index r.kind x
   going-refused r x h t q = lines-refused (count - index) s at g.rest index z r x (omega arith) g.left t q
 
   -- no entry is left

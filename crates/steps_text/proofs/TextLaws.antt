@@ -1,4 +1,5 @@
 -- Laws of the text: how its parts are stored, how long they are, and how it goes on entry by entry.
+use Rattle.std.specs.Prelude.{Ok, Err}
 use mathlib.Core.List.{List, [], ◌++◌, ◌∷◌}
 use mathlib.Core.Path.{◌∙◌, ◌≡◌, ap, refl, sym}
 use Prim.Native.Nat.{◌*◌, ◌+◌, ◌-◌, ◌<◌, ◌^◌, ◌≤◌, ℕ}
@@ -9,18 +10,16 @@ use lib.Dec.{lit<}
 use Rattle.laws.proofs.Order.{apart, by_order, mul-below}
 use Rattle.laws.proofs.Out.{and_then-done, done-answers, done-same, fitted-room, fitted_short, not_done}
 use Rattle.laws.proofs.Puts.{puts-append}
-use Rattle.laws.specs.Out.{Out, and_then, answer_of, done, fitted, reason, refused, written}
+use Rattle.laws.specs.Out.{Out, and_then, answer_of, fitted, written}
 use Rattle.laws.specs.Pick.{pick}
+use Rattle.laws.specs.Reason.{number_of}
 use Rattle.laws.specs.Puts.{puts}
 use Rattle.laws.specs.Utf8.{character_bytes, utf8}
-use Rattle.laws.specs.declared.Answer.TheVariants.{Wrote}
 use Rattle.laws.specs.declared.Refusal.{Refusal}
 use Rattle.numbers.proofs.Decimal.{decimal-few, decimal-short}
 use Rattle.numbers.specs.Decimal.{decimal}
 use Rattle.numbers.specs.Number.{on_number, read_number}
-use Rattle.numbers.specs.declared.NumberRead.{NumberRead}
-use Rattle.numbers.specs.declared.NumberRead.TheVariants.{Number}
-use Rattle.image.specs.Format.{judged_size, size_out}
+use Rattle.image.specs.Format.{judged_size}
 use Rattle.image.specs.declared.size.Size.{Size}
 use Rattle.image.proofs.JudgedLaws.{judged-sound}
 use Rattle.image.specs.Sound.{SizeSound}
@@ -47,17 +46,17 @@ field_stored d d' at n after end e q =
 
 -- a text that was stored from the start, where it fits
 pub text-answers : (d d' text bs : List ℕ) (n : ℕ) → text ≡ bs → length bs ≤ length d → n ≡ length bs → d' ≡ puts d 0 bs
-    → (Wrote n ≡ answer_of (fitted (length d) text)) × (d' ≡ written (fitted (length d) text) d)
+    → (Ok n ≡ answer_of (fitted (length d) text)) × (d' ≡ written (fitted (length d) text) d)
 text-answers d d' text bs n e h l p = done-answers _ bs d d' n (ap (fitted (length d)) e ∙ fitted-room (length d) bs h) h l p
 
 -- what was written lies in the buffer
-pub text-count : (room : ℕ) (text : List ℕ) (n : ℕ) → Wrote n ≡ answer_of (fitted room text) → n ≤ room
+pub text-count : (room : ℕ) (text : List ℕ) (n : ℕ) → Ok n ≡ answer_of (fitted room text) → n ≤ room
 unfolding answer_of
 text-count room text n e =
     by_order room (length text)
     (λ h. let q = fitted_short room text h in apart (cc))
     (λ h.
-    let q : Wrote n ≡ Wrote (length text) = e ∙ ap answer_of (fitted-room room text h) in
+    let q : Ok n ≡ Ok (length text) = e ∙ ap answer_of (fitted-room room text h) in
     let m : n ≡ length text = cc in
     omega arith)
 
@@ -75,9 +74,9 @@ length-line i kind z =
     let c = length-append (field_text z.width 32) (field_text z.height 10) in
     omega (arith, length-field i 32, length-field kind 32, length-field z.width 32, length-field z.height 10)
 
-pub length-refusal : (e : Refusal) → length (refusal_text e) ≡ length (decimal e.number) + 9
+pub length-refusal : (e : Refusal) → length (refusal_text e) ≡ length (decimal (number_of e.reason)) + 9
 unfolding refusal_text refused_word utf8 character_bytes pick
-length-refusal e = omega (arith, length-append refused_word (field_text e.number 10), length-field e.number 10)
+length-refusal e = omega (arith, length-append refused_word (field_text (number_of e.reason) 10), length-field (number_of e.reason) 10)
 
 pub length-refused : (i kind : ℕ) (e : Refusal) → length (refused_line i kind e) ≡ length (decimal i) + length (decimal kind) + 2 + length (refusal_text e)
 unfolding refused_line
@@ -89,51 +88,51 @@ length-refused i kind e =
 -- ---- the lines, entry by entry
 
 -- the next entry has a size after it, or is refused; or there is none
-pub lines_next : (n : ℕ) (s : List ℕ) (at : ℕ) (es : List PropertyEntry) (i : ℕ) (z : Size) (r : EntryStep) (y : Size) → 0 < n → entries_at n s at ≡ done es → StepAt s at z r → size_out r.after ≡ done y
-    → (rest : List PropertyEntry) × (entries_at (n - 1) s r.next ≡ done rest) × (lines_from i es z ≡ line_text i r.kind y ++ lines_from (i + 1) rest y)
+pub lines_next : (n : ℕ) (s : List ℕ) (at : ℕ) (es : List PropertyEntry) (i : ℕ) (z : Size) (r : EntryStep) (y : Size) → 0 < n → entries_at n s at ≡ Ok es → StepAt s at z r → r.after ≡ Ok y
+    → (rest : List PropertyEntry) × (entries_at (n - 1) s r.next ≡ Ok rest) × (lines_from i es z ≡ line_text i r.kind y ++ lines_from (i + 1) rest y)
 unfolding lines_from line_then
 lines_next n s at es i z r y h e t q =
     let k = entries-step n s at es t.entry h e t.read in
-    let a : size_after t.entry.entry.property z ≡ done y = sym t.after ∙ q in (
+    let a : size_after t.entry.0.property z ≡ Ok y = sym t.after ∙ q in (
       k.0,
       ap (entries_at (n - 1) s) t.next ∙ k.1,
       ap (λ l. lines_from i l z) k.2
-          ∙ ap (λ o. line_then i (kind_of t.entry.entry.property) o (λ w. lines_from (i + 1) k.0 w)) a
+          ∙ ap (λ o. line_then i (kind_of t.entry.0.property) o (λ w. lines_from (i + 1) k.0 w)) a
           ∙ ap (λ m. line_text i m y ++ lines_from (i + 1) k.0 y) (sym t.kind),
     )
 
-pub lines-refused : (n : ℕ) (s : List ℕ) (at : ℕ) (es : List PropertyEntry) (i : ℕ) (z : Size) (r : EntryStep) (x : Refusal) → 0 < n → entries_at n s at ≡ done es → StepAt s at z r → size_out r.after ≡ refused x
+pub lines-refused : (n : ℕ) (s : List ℕ) (at : ℕ) (es : List PropertyEntry) (i : ℕ) (z : Size) (r : EntryStep) (x : Refusal) → 0 < n → entries_at n s at ≡ Ok es → StepAt s at z r → r.after ≡ Err x
     → lines_from i es z ≡ refused_line i r.kind x
 unfolding lines_from line_then
 lines-refused n s at es i z r x h e t q =
     let k = entries-step n s at es t.entry h e t.read in
-    let a : size_after t.entry.entry.property z ≡ refused x = sym t.after ∙ q in
+    let a : size_after t.entry.0.property z ≡ Err x = sym t.after ∙ q in
     ap (λ l. lines_from i l z) k.2
-    ∙ ap (λ o. line_then i (kind_of t.entry.entry.property) o (λ w. lines_from (i + 1) k.0 w)) a
+    ∙ ap (λ o. line_then i (kind_of t.entry.0.property) o (λ w. lines_from (i + 1) k.0 w)) a
     ∙ ap (λ m. refused_line i m x) (sym t.kind)
 
-pub lines_end : (n : ℕ) (s : List ℕ) (at : ℕ) (es : List PropertyEntry) (i : ℕ) (z : Size) → n ≤ 0 → entries_at n s at ≡ done es → lines_from i es z ≡ []
+pub lines_end : (n : ℕ) (s : List ℕ) (at : ℕ) (es : List PropertyEntry) (i : ℕ) (z : Size) → n ≤ 0 → entries_at n s at ≡ Ok es → lines_from i es z ≡ []
 unfolding lines_from
 lines_end n s at es i z h e = ap (λ l. lines_from i l z) (entries_none n s at es h e)
 
 -- an entry that is left stands there
-pub entry-stands : (n : ℕ) (s : List ℕ) (at : ℕ) (es : List PropertyEntry) → 0 < n → entries_at n s at ≡ done es → Readable s at
+pub entry-stands : (n : ℕ) (s : List ℕ) (at : ℕ) (es : List PropertyEntry) → 0 < n → entries_at n s at ≡ Ok es → Readable s at
 entry-stands n s at es h e = let k = entries-first n s at es h e in record { entry = k.0; read = k.2 }
 
 -- ---- the whole text
 
-on-number : {A : Type 0} (o : NumberRead) (k : ℕ → ℕ → Out A) (v n : ℕ) → o ≡ Number v n → on_number o k ≡ k v n
+on-number : {A : Type 0} (o : Out (ℕ × ℕ)) (k : ℕ → ℕ → Out A) (v n : ℕ) → o ≡ Ok (v, n) → on_number o k ≡ k v n
 unfolding on_number
 on-number o k v n e = rw e
 
-on-number-done : {A : Type 0} (o : NumberRead) (k : ℕ → ℕ → Out A) (a : A) → on_number o k ≡ done a → (v : ℕ) × (n : ℕ) × (o ≡ Number v n) × (k v n ≡ done a)
+on-number-done : {A : Type 0} (o : Out (ℕ × ℕ)) (k : ℕ → ℕ → Out A) (a : A) → on_number o k ≡ Ok a → (v : ℕ) × (n : ℕ) × (o ≡ Ok (v, n)) × (k v n ≡ Ok a)
 unfolding on_number
-on-number-done (Number v n) k a e = (v, n, refl, e)
-on-number-done NumberRead.Malformed k a e = not_done (reason 5) a e
+on-number-done (Ok (v, n)) k a e = (v, n, refl, e)
+on-number-done (Err r) k a e = not_done r a e
 
 -- the two sides are read, and the chain decides
-pub steps-sides : (s : List ℕ) (w a h b : ℕ) → read_number s 0 ≡ Number w a → read_number s a ≡ Number h b
-    → steps_of s ≡ and_then (chain_at s b) (λ es. and_then (judged_size w h) (λ z. done (record { size = z; entries = es })))
+pub steps-sides : (s : List ℕ) (w a h b : ℕ) → read_number s 0 ≡ Ok (w, a) → read_number s a ≡ Ok (h, b)
+    → steps_of s ≡ and_then (chain_at s b) (λ es. and_then (judged_size w h) (λ z. Ok (record { size = z; entries = es })))
 unfolding steps_of on_number
 steps-sides s w a h b p q = rw (p, q) refl
 
@@ -142,7 +141,7 @@ pub text-read : (s : List ℕ) (i : Input) (k : Taken s i) → text_of s ≡ hea
 unfolding text_of out_text
 text-read s i k = ap out_text k.steps
 
-pub text-refused : (s : List ℕ) (r : Refusal) → steps_of s ≡ refused r → text_of s ≡ refusal_text r
+pub text-refused : (s : List ℕ) (r : Refusal) → steps_of s ≡ Err r → text_of s ≡ refusal_text r
 unfolding text_of out_text
 text-refused s r e = ap out_text e
 
@@ -167,7 +166,7 @@ line-short i p z h s =
     omega (arith, length-line i (kind_of p) z, decimal-few 2 i (omega arith), kind-few p)
 
 refused-short : (i : ℕ) (p : Property) (e : Refusal) → i < 256 → length (refused_line i (kind_of p) e) ≤ 44
-refused-short i p e h = omega (arith, length-refused i (kind_of p) e, length-refusal e, decimal-few 2 i (omega arith), kind-few p, decimal-short e.number)
+refused-short i p e h = omega (arith, length-refused i (kind_of p) e, length-refusal e, decimal-few 2 i (omega arith), kind-few p, decimal-short (number_of e.reason))
 
 lines-short : (i : ℕ) (es : List PropertyEntry) (z : Size) → i + length es ≤ 256 → SizeSound z → length (lines_from i es z) ≤ 44 * length es
 unfolding lines_from line_then
@@ -176,12 +175,12 @@ lines-short i (e ∷ es) z h s = go (λ y t. lines-short (i + 1) es y (omega ari
   where
     go : ((y : Size) → SizeSound y → length (lines_from (i + 1) es y) ≤ 44 * length es) → (o : Out Size) → size_after e.property z ≡ o
         → length (line_then i (kind_of e.property) o (λ y. lines_from (i + 1) es y)) ≤ 44 * length (e ∷ es)
-    go k (refused r) q = omega (arith, refused-short i e.property r (omega arith))
-    go k (done y) q =
+    go k (Err r) q = omega (arith, refused-short i e.property r (omega arith))
+    go k (Ok y) q =
         let t = size-sound e.property z y s q in
         omega (arith, length-append (line_text i (kind_of e.property) y) (lines_from (i + 1) es y), line-short i e.property y (omega arith) t, k y t)
 
-steps-read : (s : List ℕ) (t : Steps) → steps_of s ≡ done t → (length t.entries ≤ 256) × SizeSound t.size
+steps-read : (s : List ℕ) (t : Steps) → steps_of s ≡ Ok t → (length t.entries ≤ 256) × SizeSound t.size
 unfolding steps_of
 steps-read s t e =
     let a = on-number-done _ _ t e in
@@ -196,8 +195,8 @@ unfolding text_of out_text heading utf8 character_bytes pick
 text-short s = go (steps_of s) refl
   where
     go : (o : Out Steps) → steps_of s ≡ o → length (out_text o) ≤ 11287
-    go (refused r) e = omega (arith, length-refusal r, decimal-short r.number)
-    go (done t) e =
+    go (Err r) e = omega (arith, length-refusal r, decimal-short (number_of r.reason))
+    go (Ok t) e =
         let k = steps-read s t e in
         omega (arith, length-append heading (lines_from 0 t.entries t.size), lines-short 0 t.entries t.size (omega arith) k.1, k.0)
 
@@ -206,8 +205,8 @@ pub text-prefix : (n : ℕ) (s : List ℕ) → 12816 ≤ n → text_of (take n s
 unfolding text_of steps_of
 text-prefix n s h =
     ap out_text (number-prefix n s 0 _ _ (omega arith) (λ w a k. number-prefix n s a _ _ (omega arith) (λ v b l.
-    ap (λ o. and_then o (λ es. and_then (judged_size w v) (λ z. done (record { size = z; entries = es })))) (chain-prefix n s b (omega arith)))))
+    ap (λ o. and_then o (λ es. and_then (judged_size w v) (λ z. Ok (record { size = z; entries = es })))) (chain-prefix n s b (omega arith)))))
 
 -- a buffer of 16,384 bytes has room
-pub text-fits : (s : List ℕ) → fitted 16384 (text_of s) ≡ done (text_of s)
+pub text-fits : (s : List ℕ) → fitted 16384 (text_of s) ≡ Ok (text_of s)
 text-fits s = fitted-room 16384 (text_of s) (omega (arith, text-short s))

@@ -1,6 +1,7 @@
 -- What is handed to `steps` (document 01, "Steps program").
+use Rattle.std.specs.Prelude.{Ok}
 use Rattle.std.specs.Prelude.{List, ℕ}
-use Rattle.laws.specs.Out.{Out, and_then, done}
+use Rattle.laws.specs.Out.{Out, and_then}
 use Rattle.numbers.specs.Number.{on_number, read_number}
 use Rattle.image.specs.Format.{judged_size}
 use Rattle.image.specs.declared.size.Size.{Size}
@@ -19,4 +20,4 @@ steps_of s =
     on_number (read_number s a) (λ height b.
     and_then (chain_at s b) (λ es.
     and_then (judged_size width height) (λ z.
-    done (record { size = z; entries = es })))))
+    Ok (record { size = z; entries = es })))))

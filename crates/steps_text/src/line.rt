@@ -11,7 +11,7 @@ fn put_field(out: &mut [u8], at: usize, n: u32, after: u8) -> usize
     requires { at + length (field_text n after) ≤ length out.old }
     ensures { (result ≡ at + length (field_text n after)) × (out.new ≡ puts out.old at (field_text n after)) }
 {
-    let end = numbers::write_decimal(out, at, n);
+    let end = numbers::write_decimal(out, at, n as u64);
     out[end] = after;
     end + 1
 }
@@ -33,7 +33,7 @@ pub(crate) fn put_refusal(out: &mut [u8], at: usize, e: Refusal) -> usize
     ensures { (result ≡ at + length (refusal_text e)) × (out.new ≡ puts out.old at (refusal_text e)) }
 {
     let a = planes::copy_row(out, at, b"refused ");
-    put_field(out, a, e.number as u32, 10)
+    put_field(out, a, e.reason.number() as u32, 10)
 }
 
 // A refused entry's index and kind and why it is refused.
@@ -55,18 +55,22 @@ pub(crate) fn put_refused_line(
 pub(crate) fn line_length(index: u32, kind: u32, size: Size) -> usize
     ensures { result ≡ length (line_text index kind size) }
 {
-    let sides = numbers::decimal_length(size.width) + numbers::decimal_length(size.height);
-    numbers::decimal_length(index) + numbers::decimal_length(kind) + sides + 4
+    let sides = numbers::decimal_length(size.width as u64)
+        + numbers::decimal_length(size.height as u64);
+    numbers::decimal_length(index as u64) + numbers::decimal_length(kind as u64) + sides + 4
 }
 
 pub(crate) fn refusal_length(e: Refusal) -> usize
     ensures { result ≡ length (refusal_text e) }
 {
-    numbers::decimal_length(e.number as u32) + 9
+    numbers::decimal_length(e.reason.number() as u64) + 9
 }
 
 pub(crate) fn refused_line_length(index: u32, kind: u32, e: Refusal) -> usize
     ensures { result ≡ length (refused_line index kind e) }
 {
-    numbers::decimal_length(index) + numbers::decimal_length(kind) + 2 + refusal_length(e)
+    numbers::decimal_length(index as u64)
+        + numbers::decimal_length(kind as u64)
+        + 2
+        + refusal_length(e)
 }

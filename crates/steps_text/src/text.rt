@@ -5,19 +5,18 @@ ghost use Rattle.laws.specs.Puts.{puts};
 ghost use Rattle.steps_text.specs.inner.Step.{Readable, StepAt, Taken};
 ghost use Rattle.steps_text.specs.Text.{text_of};
 
-use crate::input::{Input, InputRead, read_input};
+use crate::input::{Input, read_input};
 use crate::line::{
     line_length, put_line, put_refusal, put_refused_line, refusal_length, refused_line_length,
 };
-use image::{Size, SizeAnswer};
-use laws::{Answer, Refusal};
-use props::EntryRead;
+use image::Size;
+use laws::Refusal;
 
 // An entry that was applied: its kind, the size after it, and the place past it.
 #[derive(Clone, Copy)]
 struct EntryStep {
     kind: u32,
-    after: SizeAnswer,
+    after: Result<Size, Refusal>,
     next: usize,
 }
 
@@ -26,19 +25,11 @@ fn step(s: &[u8], at: usize, size: Size) -> EntryStep
     requires { Readable s.now at }
     ensures { StepAt s.now at size result }
 {
-    let EntryRead::Read(x) = props::read_entry(s, at) else {
-        return EntryStep {
-            kind: 0,
-            after: SizeAnswer::Size(size),
-            next: at,
-        };
-    };
-    let entry = x.entry;
-    let property = entry.property;
+    let (entry, next) = props::read_entry(s, at).unwrap();
     EntryStep {
-        kind: property.kind(),
-        after: property.size_after(size),
-        next: x.next,
+        kind: entry.property.kind(),
+        after: entry.property.size_after(size),
+        next,
     }
 }
 
@@ -47,26 +38,19 @@ fn text_length(s: &[u8], input: Input) -> usize
     requires { Taken s.now input }
     ensures { result ≡ length (text_of s.now) }
 {
-    let chain = input.chain;
-    let count = chain.count;
-    let mut at = chain.first;
+    let mut at = input.chain.first;
     let mut size = input.size;
     let mut total: usize = 23;
-    let mut index: u32 = 0;
-    while index < count {
+    for index in 0..input.chain.count {
         let made = step(s, at, size);
-        let after = made.after;
-        match after {
-            SizeAnswer::Refused(e) => {
-                return total + refused_line_length(index, made.kind, e);
-            }
-            SizeAnswer::Size(z) => {
+        match made.after {
+            Err(e) => return total + refused_line_length(index, made.kind, e),
+            Ok(z) => {
                 total += line_length(index, made.kind, z);
                 size = z;
             }
         }
         at = made.next;
-        index += 1;
     }
     total
 }
@@ -76,47 +60,40 @@ fn write_text(s: &[u8], input: Input, out: &mut [u8]) -> usize
     requires { Taken s.now input × (length (text_of s.now) ≤ length out.old) }
     ensures { (result ≡ length (text_of s.now)) × (out.new ≡ puts out.old 0 (text_of s.now)) }
 {
-    let chain = input.chain;
-    let count = chain.count;
-    let mut at = chain.first;
+    let mut at = input.chain.first;
     let mut size = input.size;
     let mut end = planes::copy_row(out, 0, b"step kind width height\n");
-    let mut index: u32 = 0;
-    while index < count {
+    for index in 0..input.chain.count {
         let made = step(s, at, size);
-        let after = made.after;
-        match after {
-            SizeAnswer::Refused(e) => {
-                return put_refused_line(out, end, index, made.kind, e);
-            }
-            SizeAnswer::Size(z) => {
+        match made.after {
+            Err(e) => return put_refused_line(out, end, index, made.kind, e),
+            Ok(z) => {
                 end = put_line(out, end, index, made.kind, z);
                 size = z;
             }
         }
         at = made.next;
-        index += 1;
     }
     end
 }
 
 // Writes the text of an input from the start of `out` on. Refusal: 17 a buffer that is shorter than the text.
-pub fn steps_text(input: &[u8], out: &mut [u8]) -> Answer
+pub fn steps_text(input: &[u8], out: &mut [u8]) -> Result<usize, Refusal>
     ensures { (result ≡ answer_of (fitted (length out.old) (text_of input.now)))
         × (out.new ≡ written (fitted (length out.old) (text_of input.now)) out.old) }
 {
     match read_input(input) {
-        InputRead::Refused(e) => {
+        Err(e) => {
             if out.len() < refusal_length(e) {
-                return Answer::Refused(Refusal::ROOM);
+                return Err(Refusal::ROOM);
             }
-            Answer::Wrote(put_refusal(out, 0, e))
+            Ok(put_refusal(out, 0, e))
         }
-        InputRead::Read(i) => {
+        Ok(i) => {
             if out.len() < text_length(input, i) {
-                return Answer::Refused(Refusal::ROOM);
+                return Err(Refusal::ROOM);
             }
-            Answer::Wrote(write_text(input, i, out))
+            Ok(write_text(input, i, out))
         }
     }
 }

@@ -15,7 +15,6 @@ use Rattle.sampling.specs.Depth.{level_of}
 use Rattle.sampling.specs.Nearest.{near_place}
 use Rattle.sampling.specs.declared.raster.Axis.{Axis}
 use Rattle.sampling.specs.declared.raster.Rule.{Rule}
-use Rattle.sampling.specs.inner.Depths.{DepthsFit}
 use Rattle.sampling.specs.inner.Redraw.{row_of}
 use Rattle.ten_to_eight.specs.inner.Table.{Table, eight_row, ten_to_eight_of}
 
@@ -37,14 +36,11 @@ table_at t n h = record {
   rule = λ v l. ruled-from (level_of 10 8) t 0 h v (omega (arith, n, l)) ∙ ap (level_of 10 8) (zero-add v);
 }
 
-fits : DepthsFit ten_to_eight_of
-fits = record { old_low = omega arith; old_high = omega arith; new_low = omega arith; new_high = omega arith }
-
 -- a sample above 1,023 becomes what 1,023 does
 above : (v : ℕ) → 1023 ≤ v → level_of 10 8 1023 ≡ level_of 10 8 v
 above v l =
     let apart : ten_to_eight_of.old ≡ ten_to_eight_of.new → ⊥ = λ e. omega (arith, e) in
-    sym (level-above ten_to_eight_of fits apart 1023 (omega arith)) ∙ level-above ten_to_eight_of fits apart v l
+    sym (level-above ten_to_eight_of apart 1023 (omega arith)) ∙ level-above ten_to_eight_of apart v l
 
 pub looked-up : (t : List ℕ) → Table t → (v : ℕ) → get_or t (min v 1023) 0 ≡ level_of 10 8 v
 looked-up t k v =

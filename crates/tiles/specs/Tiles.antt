@@ -1,6 +1,7 @@
 -- The tiles of a grid: their refusals, and what they fix ("Grid" and "Refusals in order", Grid).
-use Rattle.std.specs.Prelude.{Bool, ◌&&◌, ◌||◌, not, List, [], ◌∷◌, ◌*◌, ℕ, eqb, leb}
-use Rattle.laws.specs.Out.{Out, about, after, and_then, done, reason, refuse, refused}
+use Rattle.std.specs.Prelude.{Ok, Err, Bool, ◌&&◌, ◌||◌, not, List, [], ◌∷◌, ◌*◌, ℕ, eqb, leb}
+use Rattle.laws.specs.declared.Item.TheVariants.{Record}
+use Rattle.laws.specs.Out.{Out, about, after, and_then, reason, refuse}
 use Rattle.laws.specs.Pick.{pick}
 use Rattle.numbers.specs.Number.{on_number, read_number}
 use Rattle.image.specs.Format.{has_alpha, has_size, needs444, odd, sized, with_alpha}
@@ -11,7 +12,6 @@ use Rattle.derived.specs.Grid.{grid_of}
 use Rattle.derived.specs.declared.grid.GridDescriptor.{GridDescriptor}
 use Rattle.cells.specs.Cell.{tile_form}
 use Rattle.tiles.specs.declared.judge.Tiles.{Tiles}
-use Rattle.tiles.specs.declared.judge.TilesRead.{TilesRead}
 
 -- ---- what the first tile fixes
 
@@ -37,17 +37,17 @@ same_layout t m = eqb m.format.chroma t.format.chroma && eqb m.format.depth t.fo
 unfoldable pub held_to : Form → ℕ → Form → Out ℕ
 held_to t a m =
     refuse (not (has_size m t.width t.height)) 13
-    (refuse (not (same_layout t m)) 14 (done (pick (has_alpha m.format) 1 a)))
+    (refuse (not (same_layout t m)) 14 (Ok (pick (has_alpha m.format) 1 a)))
 
 unfoldable pub alike_from : Form → ℕ → List Frame → Out ℕ
-alike_from t a [] = done a
-alike_from t a (fr ∷ frs) = and_then (about 1 0 (held_to t a fr.form)) (λ b. after 1 (alike_from t b frs))
+alike_from t a [] = Ok a
+alike_from t a (fr ∷ frs) = and_then (about Record 0 (held_to t a fr.form)) (λ b. after 1 (alike_from t b frs))
 
 unfoldable pub judge_of : GridDescriptor → ℕ → List Frame → Out Tiles
-judge_of g at [] = refused (reason 11)
+judge_of g at [] = Err (reason 11)
 judge_of g at (fr ∷ frs) =
     refuse (not (spans_canvas g fr.form)) 12
-    (and_then (alike_from fr.form 0 (fr ∷ frs)) (λ a. done (record { desc = g; tile = fr.form; alpha = a; first = at })))
+    (and_then (alike_from fr.form 0 (fr ∷ frs)) (λ a. Ok (record { desc = g; tile = fr.form; alpha = a; first = at })))
 
 -- ---- the whole
 
@@ -63,8 +63,3 @@ tiles_at body tray n at =
 
 unfoldable pub tiles_of : List ℕ → List ℕ → Out Tiles
 tiles_of body tray = on_number (read_number tray 0) (tiles_at body tray)
-
--- what reading them answers
-abbrev pub tiles_out : TilesRead → Out Tiles
-tiles_out (TilesRead.Read t) = done t
-tiles_out (TilesRead.Refused e) = refused e

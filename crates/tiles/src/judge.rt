@@ -1,18 +1,16 @@
 // The tiles of a grid's tray: read in turn, held to the first, with every refusal in document 01's order.
-ghost use Rattle.std.specs.Prelude.{◌≡◌, ◌<◌, eqb};
-ghost use Rattle.laws.specs.Out.{and_then, own_reason};
+ghost use Rattle.std.specs.Prelude.{◌≡◌, ◌<◌, Ok, not};
+ghost use Rattle.laws.specs.Out.{about, and_then, refuse};
+ghost use Rattle.laws.specs.declared.Item.TheVariants.{Record};
 ghost use Rattle.laws.specs.Pick.{pick};
 ghost use Rattle.image.specs.Format.{has_alpha};
 ghost use Rattle.records.specs.Tray.{frames_at};
-ghost use Rattle.tiles.specs.Tiles.{promotes_of, canvas_form, spans_canvas, same_layout, judge_of, tiles_of, tiles_out};
-ghost use Rattle.tiles.specs.inner.Taken.{unlike_of};
+ghost use Rattle.tiles.specs.Tiles.{promotes_of, canvas_form, spans_canvas, same_layout, held_to, judge_of, tiles_of};
 
 use cells::tile_form;
-use derived::{GridDescriptor, GridRead};
+use derived::GridDescriptor;
 use image::Form;
-use laws::Refusal;
-use numbers::NumberRead;
-use records::FrameRead;
+use laws::{Item, Refusal};
 
 // A grid that was taken: its descriptor, the first tile's form, 1 if a tile has alpha, and where the first record begins.
 #[derive(Clone, Copy)]
@@ -23,27 +21,21 @@ pub struct Tiles {
     pub first: usize,
 }
 
-#[derive(Clone, Copy)]
-pub enum TilesRead {
-    Read(Tiles),
-    Refused(Refusal),
-}
-
 // Whether everything is promoted to 4:4:4.
+#[tactic(auto, unfolding(crate::specs::Tiles::promotes_of))]
 pub fn promotes(g: GridDescriptor, t: Form) -> bool
     ensures { result ≡ promotes_of g t }
 {
     let f = t.format;
-    image::either(
-        f.needs_444(image::is_odd(t.width), image::is_odd(t.height)),
-        f.needs_444(
+    f.needs_444(image::is_odd(t.width), image::is_odd(t.height))
+        || f.needs_444(
             image::is_odd(g.output_width),
             image::is_odd(g.output_height),
-        ),
-    )
+        )
 }
 
 // The canvas's form, with that alpha number.
+#[tactic(auto, unfolding(crate::specs::Tiles::canvas_form))]
 pub fn canvas_form(g: GridDescriptor, t: Form, alpha: u32) -> Form
     ensures { result ≡ canvas_form g t alpha }
 {
@@ -52,137 +44,105 @@ pub fn canvas_form(g: GridDescriptor, t: Form, alpha: u32) -> Form
 }
 
 // Whether tiles of that size cover the canvas.
+#[tactic(auto, unfolding(crate::specs::Tiles::spans_canvas))]
 pub fn spans_canvas(g: GridDescriptor, t: Form) -> bool
     ensures { result ≡ spans_canvas g t }
 {
-    image::both(
-        g.output_width as u64 <= t.width as u64 * g.columns as u64,
-        g.output_height as u64 <= t.height as u64 * g.rows as u64,
-    )
+    g.output_width as u64 <= t.width as u64 * g.columns as u64
+        && g.output_height as u64 <= t.height as u64 * g.rows as u64
 }
 
+#[tactic(auto, unfolding(crate::specs::Tiles::same_layout))]
 pub fn same_layout(t: Form, m: Form) -> bool
     ensures { result ≡ same_layout t m }
 {
-    let f = m.format;
-    let k = t.format;
-    image::both(f.chroma == k.chroma, f.depth == k.depth)
+    m.format.chroma == t.format.chroma && m.format.depth == t.format.depth
 }
 
 // Whether a tile has alpha, or one before it.
+#[tactic(auto, unfolding(image::specs::Format::has_alpha, laws::specs::Pick::pick))]
 pub fn with_tile(alpha: u32, m: Form) -> u32
     ensures { result ≡ pick (has_alpha m.format) 1 alpha }
 {
-    let f = m.format;
-    if f.alpha == 0 {
-        return alpha;
-    }
-    1
+    if m.format.alpha == 0 { alpha } else { 1 }
 }
 
-// 12 where tiles of that size do not cover the canvas, else 0.
-fn uncovered(g: GridDescriptor, t: Form) -> u8
-    ensures { result ≡ pick (spans_canvas g t) 0 12 }
+// The alpha number before any tile. Refusal: 12 tiles of that size do not cover the canvas.
+#[tactic(auto, unfolding(laws::specs::Out::refuse))]
+fn begin(g: GridDescriptor, t: Form) -> Result<u32, Refusal>
+    ensures { result ≡ refuse (not (spans_canvas g t)) 12 (Ok 0) }
 {
     if spans_canvas(g, t) {
-        return 0;
+        Ok(0)
+    } else {
+        Err(Refusal::COVER)
     }
-    12
 }
 
-// The first fault: one that was found before, or what is wrong with tile i. A number of 0 is none.
-fn first_fault(before: Refusal, here: u8, i: u32) -> Refusal
-    ensures { result ≡ pick (eqb before.number 0) (own_reason here 1 i) before }
-{
-    if before.number == 0 {
-        return Refusal {
-            number: here,
-            sort: Refusal::RECORD,
-            index: i as u64,
-        };
-    }
-    before
-}
-
-// What is wrong with a tile beside the first, 0 for nothing.
-fn unlike(t: Form, m: Form) -> u8
-    ensures { result ≡ unlike_of t m }
+// A tile held to the first, and the alpha number with it. Refusals: 13 another size, 14 another chroma or depth.
+#[tactic(auto, unfolding(crate::specs::Tiles::held_to, laws::specs::Out::refuse))]
+fn held_to(t: Form, alpha: u32, m: Form) -> Result<u32, Refusal>
+    ensures { result ≡ held_to t alpha m }
 {
     if !m.has_size(t.width, t.height) {
-        return 13;
+        return Err(Refusal::TILE);
     }
     if !same_layout(t, m) {
-        return 14;
+        return Err(Refusal::LAYOUT);
     }
-    0
+    Ok(with_tile(alpha, m))
+}
+
+// The same of tile i, unless there was a refusal before.
+#[tactic(auto, unfolding(laws::specs::Out::and_then, laws::specs::Out::about))]
+fn hold(before: Result<u32, Refusal>, t: Form, m: Form, i: u32) -> Result<u32, Refusal>
+    ensures { result ≡ and_then before (λ a. about Record i (held_to t a m)) }
+{
+    held_to(t, before?, m).map_err(|e| e.about(Item::Record(i as u64)))
 }
 
 // So many tiles from a place on, each held to the first of them. What is wrong with one is told after all records were read.
-fn judge_tiles(tray: &[u8], g: GridDescriptor, at: usize, count: u32) -> TilesRead
+fn judge_tiles(tray: &[u8], g: GridDescriptor, at: usize, count: u32) -> Result<Tiles, Refusal>
     requires { 0 < count }
-    ensures { tiles_out result ≡ and_then (frames_at count tray.now at) (judge_of g at) }
+    ensures { result ≡ and_then (frames_at count tray.now at) (judge_of g at) }
 {
-    match records::read_record(tray, at) {
-        FrameRead::Refused(e) => TilesRead::Refused(e.about(Refusal::RECORD, 0)),
-        FrameRead::Read(first) => {
-            let tile = first.form;
-            let mut fault = Refusal {
-                number: uncovered(g, tile),
-                sort: 0,
-                index: 0,
-            };
-            let mut alpha: u32 = 0;
-            let mut next = at;
-            let mut i: u32 = 0;
-            while i < count {
-                match records::read_record(tray, next) {
-                    FrameRead::Refused(e) => {
-                        return TilesRead::Refused(e.about(Refusal::RECORD, i as u64));
-                    }
-                    FrameRead::Read(f) => {
-                        let m = f.form;
-                        fault = first_fault(fault, unlike(tile, m), i);
-                        alpha = with_tile(alpha, m);
-                        next = f.end;
-                    }
-                }
-                i += 1;
+    let tile = match records::read_record(tray, at) {
+        Err(e) => return Err(e.about(Item::Record(0))),
+        Ok(first) => first.form,
+    };
+    let mut held = begin(g, tile);
+    let mut next = at;
+    for i in 0..count {
+        match records::read_record(tray, next) {
+            Err(e) => return Err(e.about(Item::Record(i as u64))),
+            Ok(f) => {
+                held = hold(held, tile, f.form, i);
+                next = f.end;
             }
-            if next < tray.len() {
-                return TilesRead::Refused(Refusal::MALFORMED);
-            }
-            if fault.number == 0 {
-                return TilesRead::Read(Tiles {
-                    desc: g,
-                    tile,
-                    alpha,
-                    first: at,
-                });
-            }
-            TilesRead::Refused(fault)
         }
     }
+    if next < tray.len() {
+        return Err(Refusal::MALFORMED);
+    }
+    let alpha = held?;
+    Ok(Tiles {
+        desc: g,
+        tile,
+        alpha,
+        first: at,
+    })
 }
 
 // The tiles of a body and a tray. Refusals: 5 tray count unreadable; the body's; 11; the records'; 12; 13 and 14. A record's own refusal
 // has its index, and so have 13 and 14.
-pub fn read_tiles(body: &[u8], tray: &[u8]) -> TilesRead
-    ensures { tiles_out result ≡ tiles_of body.now tray.now }
+#[tactic(auto, unfolding(crate::specs::Tiles::tiles_of, crate::specs::Tiles::tiles_at, crate::specs::Tiles::count_of, numbers::specs::Number::on_number, laws::specs::Out::and_then, laws::specs::Out::refuse))]
+pub fn read_tiles(body: &[u8], tray: &[u8]) -> Result<Tiles, Refusal>
+    ensures { result ≡ tiles_of body.now tray.now }
 {
-    let NumberRead::Number {
-        value: count,
-        next: at,
-    } = numbers::read_number(tray, 0)
-    else {
-        return TilesRead::Refused(Refusal::MALFORMED);
-    };
-    match GridDescriptor::parse(body) {
-        GridRead::Refused(e) => TilesRead::Refused(e),
-        GridRead::Read(g) => {
-            if count as u64 != g.rows as u64 * g.columns as u64 {
-                return TilesRead::Refused(Refusal::COUNT);
-            }
-            judge_tiles(tray, g, at, count)
-        }
+    let (count, at) = numbers::read_number(tray, 0)?;
+    let g = GridDescriptor::parse(body)?;
+    if count as u64 != g.rows as u64 * g.columns as u64 {
+        return Err(Refusal::COUNT);
     }
+    judge_tiles(tray, g, at, count)
 }

@@ -4,5 +4,5 @@
 mod judge;
 
 pub use crate::judge::{
-    Tiles, TilesRead, canvas_form, promotes, read_tiles, same_layout, spans_canvas, with_tile,
+    Tiles, canvas_form, promotes, read_tiles, same_layout, spans_canvas, with_tile,
 };

@@ -1,11 +1,12 @@
 -- The runs in terms of the moves that draw them.
+use Rattle.std.specs.Prelude.{Ok, Err}
 use mathlib.Core.Bool.{false, not, true}
 use mathlib.Core.List.{List}
 use mathlib.Core.Path.{◌∙◌, ◌≡◌, ap, refl, sym}
 use Prim.Native.Nat.{◌%◌, ℕ}
 use Rattle.laws.proofs.Order.{by-test}
 use Rattle.laws.proofs.Out.{refuse-no, refuse-yes, then-done, then-refused}
-use Rattle.laws.specs.Out.{Out, and_then, done, fitted, reason, refused}
+use Rattle.laws.specs.Out.{Out, and_then, fitted, reason}
 use Rattle.laws.specs.declared.Refusal.{Refusal}
 use Rattle.image.specs.Format.{odd}
 use Rattle.image.specs.Sound.{FormSound}
@@ -32,8 +33,8 @@ use Rattle.transform.specs.Run.{clap_run, crop_of, crop_run, imir_run, irot_run,
 
 -- ---- crop
 
-module _ (s : List ℕ) (fr : Frame) (taken : record_of s ≡ done fr) (k : Crop) (room : ℕ) where
-  pub crop-outside : fits_in k fr.form.width fr.form.height ≡ false → crop_run s k room ≡ refused (reason 9)
+module _ (s : List ℕ) (fr : Frame) (taken : record_of s ≡ Ok fr) (k : Crop) (room : ℕ) where
+  pub crop-outside : fits_in k fr.form.width fr.form.height ≡ false → crop_run s k room ≡ Err (reason 9)
   unfolding crop_run crop_of
   crop-outside e = then-done _ taken ∙ refuse-yes _ _ (ap not e)
 
@@ -51,35 +52,35 @@ module _ (s : List ℕ) (fr : Frame) (taken : record_of s ≡ done fr) (k : Crop
 
 -- ---- clap
 
-module _ (s : List ℕ) (fr : Frame) (taken : record_of s ≡ done fr) (c : Clap) (room : ℕ) where
-  pub clap-refused : (e : Refusal) → resolve_of c fr.form.width fr.form.height ≡ refused e → clap_run s c room ≡ refused e
+module _ (s : List ℕ) (fr : Frame) (taken : record_of s ≡ Ok fr) (c : Clap) (room : ℕ) where
+  pub clap-refused : (e : Refusal) → resolve_of c fr.form.width fr.form.height ≡ Err e → clap_run s c room ≡ Err e
   unfolding clap_run
   clap-refused e h = then-done _ taken ∙ then-refused _ h
 
-  pub clap-fits : (k : Crop) → resolve_of c fr.form.width fr.form.height ≡ done k → MoveFits fr.form (crop_move fr.form k.rect)
+  pub clap-fits : (k : Crop) → resolve_of c fr.form.width fr.form.height ≡ Ok k → MoveFits fr.form (crop_move fr.form k.rect)
   clap-fits k h = crop-fits fr.form k.rect (whole-sound s fr taken).0.form (resolve-inside c _ _ k h)
 
-  pub clap-drawn : (k : Crop) → resolve_of c fr.form.width fr.form.height ≡ done k → clap_run s c room ≡ fitted room (encode (moved (crop_move fr.form k.rect) (decode s fr)))
+  pub clap-drawn : (k : Crop) → resolve_of c fr.form.width fr.form.height ≡ Ok k → clap_run s c room ≡ fitted room (encode (moved (crop_move fr.form k.rect) (decode s fr)))
   unfolding clap_run decode
   clap-drawn k h = then-done _ taken ∙ then-done _ h ∙ drawn-as room _ _ (crop-draws (decode s fr) k.rect)
 
 -- ---- crop and clap as document 02 has them (A1): a crop is refused 9 just where its margins are not those about its rectangle, and what it
 -- writes goes by the rectangle alone; a clap is the crop to the rectangle and margins that it resolves to
 
-pub crop-around : (s : List ℕ) (fr : Frame) (k : Crop) (room : ℕ) → record_of s ≡ done fr → Around k fr.form.width fr.form.height
+pub crop-around : (s : List ℕ) (fr : Frame) (k : Crop) (room : ℕ) → record_of s ≡ Ok fr → Around k fr.form.width fr.form.height
     → crop_run s k room ≡ fitted room (encode (crop (decode s fr) k.rect))
 crop-around s fr k room e a = crop-taken s fr e k room (around-fits k _ _ a)
 
-pub crop-refused : (s : List ℕ) (fr : Frame) (k : Crop) (room : ℕ) → record_of s ≡ done fr → (Around k fr.form.width fr.form.height → ⊥) → crop_run s k room ≡ refused (reason 9)
+pub crop-refused : (s : List ℕ) (fr : Frame) (k : Crop) (room : ℕ) → record_of s ≡ Ok fr → (Around k fr.form.width fr.form.height → ⊥) → crop_run s k room ≡ Err (reason 9)
 crop-refused s fr k room e n = crop-outside s fr e k room (by-test (fits_in k _ _) (λ t. absurd (n (fits-around k _ _ t))) (λ t. t))
 
-pub clap-crops : (s : List ℕ) (fr : Frame) (c : Clap) (room : ℕ) → record_of s ≡ done fr → clap_run s c room ≡ and_then (resolve_of c fr.form.width fr.form.height) (λ k. crop_run s k room)
+pub clap-crops : (s : List ℕ) (fr : Frame) (c : Clap) (room : ℕ) → record_of s ≡ Ok fr → clap_run s c room ≡ and_then (resolve_of c fr.form.width fr.form.height) (λ k. crop_run s k room)
 unfolding clap_run and_then
 clap-crops s fr c room e = then-done _ e ∙ go (resolve_of c fr.form.width fr.form.height) refl
   where
     go : (o : Out Crop) → resolve_of c fr.form.width fr.form.height ≡ o → and_then o (λ k. fitted room (encode (crop (decode s fr) k.rect))) ≡ and_then o (λ k. crop_run s k room)
-    go (refused r) h = refl
-    go (done k) h = sym (crop-around s fr k room e (resolve-margins c _ _ k h))
+    go (Err r) h = refl
+    go (Ok k) h = sym (crop-around s fr k room e (resolve-margins c _ _ k h))
 
 -- ---- as it is
 
@@ -89,7 +90,7 @@ still-bytes s fr ok = encode-agree _ _ (still-draws (decode s fr) ok.wide ok.tal
 
 -- ---- turns and mirrors
 
-module _ (s : List ℕ) (fr : Frame) (taken : record_of s ≡ done fr) (room : ℕ) where
+module _ (s : List ℕ) (fr : Frame) (taken : record_of s ≡ Ok fr) (room : ℕ) where
   ok : FormSound fr.form
   ok = (whole-sound s fr taken).0.form
 

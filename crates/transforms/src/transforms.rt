@@ -5,10 +5,9 @@ ghost use Rattle.scene_room.specs.Scene.{output_of, spare_of};
 ghost use Rattle.scene_room.specs.Transforms.{transforms_run};
 
 use chains::finish_scene;
-use laws::Answer;
-use plans::{CurrentRead, plan_scene};
-use props::ChainRead;
-use records::FrameRead;
+use laws::Refusal;
+use plans::plan_scene;
+use records::Picture;
 
 // Refusals: the record's; the chain's form; the entries' in turn; 17 output or spare shorter than the longest of the tight and step
 // records.
@@ -18,37 +17,20 @@ pub fn apply_transforms(
     essential_only: bool,
     output: &mut [u8],
     spare: &mut [u8],
-) -> Answer
+) -> Result<usize, Refusal>
     ensures { (result ≡ answer_of (transforms_run «record».now chain.now essential_only (length output.old) (length spare.old)))
         × (output.new ≡ output_of (transforms_run «record».now chain.now essential_only (length output.old) (length spare.old)) output.old)
         × (spare.new ≡ spare_of (transforms_run «record».now chain.now essential_only (length output.old) (length spare.old)) spare.old) }
 {
-    match records::parse_record(record) {
-        FrameRead::Refused(e) => Answer::Refused(e),
-        FrameRead::Read(fr) => match props::check_chain(chain, 0) {
-            ChainRead::Refused(e) => Answer::Refused(e),
-            ChainRead::Read(c) => {
-                let form = fr.form;
-                match plan_scene(chain, c, essential_only, form, output.len(), spare.len()) {
-                    CurrentRead::Refused(e) => Answer::Refused(e),
-                    CurrentRead::Current(held) => {
-                        if held.inside {
-                            transform::tighten(record, fr, output);
-                            return finish_scene(
-                                chain,
-                                c,
-                                essential_only,
-                                form,
-                                output,
-                                spare,
-                                held,
-                            );
-                        }
-                        transform::tighten(record, fr, spare);
-                        finish_scene(chain, c, essential_only, form, output, spare, held)
-                    }
-                }
-            }
-        },
+    let frame = records::parse_record(record)?;
+    let picture = Picture { record, frame };
+    let c = props::check_chain(chain, 0)?;
+    let form = frame.form;
+    let held = plan_scene(chain, c, essential_only, form, output.len(), spare.len())?;
+    if held.inside {
+        transform::tighten(picture, output);
+    } else {
+        transform::tighten(picture, spare);
     }
+    finish_scene(chain, c, essential_only, form, output, spare, held)
 }

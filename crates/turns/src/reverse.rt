@@ -13,10 +13,8 @@ fn bytes_forth(out: &mut [u8], at: usize, plane: &[u8], from: usize, n: usize) -
 {
     let first = from + 1 - n;
     let end = at + n;
-    let mut k: usize = 0;
-    while k < n {
+    for k in 0..n {
         out[end - 1 - k] = plane[first + k];
-        k += 1;
     }
     end
 }
@@ -44,40 +42,16 @@ fn reverse_four(out: &mut [u8], i: usize, plane: &[u8], j: usize)
     out[i + 7] = b;
 }
 
-// Writes m times four samples of two bytes at `at`, that at `from` first and those before it after it. Reads from the end back.
-fn fours_back(out: &mut [u8], at: usize, plane: &[u8], from: usize, m: usize)
+// Writes m times four samples of two bytes at `at`, that at `from` first and those before it after it. `BACK`: reads from the end back,
+// else from the start on.
+fn reverse_fours<const BACK: bool>(out: &mut [u8], at: usize, plane: &[u8], from: usize, m: usize)
     requires { (from + 2 ≤ length plane.now) × (8 * m ≤ from + 2) × (at + 8 * m ≤ length out.old) }
     ensures { out.new ≡ puts out.old at (stepped plane.now 2 from 0 2 (4 * m)) }
 {
-    let mut k: usize = 0;
-    while k < m {
-        reverse_four(out, at + 8 * k, plane, from - 8 * k - 6);
-        k += 1;
+    for k in 0..m {
+        let q = if BACK { k } else { m - 1 - k };
+        reverse_four(out, at + 8 * q, plane, from - 8 * q - 6);
     }
-}
-
-// The same. Reads from the start on.
-fn fours_forth(out: &mut [u8], at: usize, plane: &[u8], from: usize, m: usize)
-    requires { (from + 2 ≤ length plane.now) × (8 * m ≤ from + 2) × (at + 8 * m ≤ length out.old) }
-    ensures { out.new ≡ puts out.old at (stepped plane.now 2 from 0 2 (4 * m)) }
-{
-    let mut k = m;
-    while k > 0 {
-        k -= 1;
-        reverse_four(out, at + 8 * k, plane, from - 8 * k - 6);
-    }
-}
-
-// The same. `back`: reads from the end back.
-fn reverse_fours(out: &mut [u8], at: usize, plane: &[u8], from: usize, m: usize, back: bool)
-    requires { (from + 2 ≤ length plane.now) × (8 * m ≤ from + 2) × (at + 8 * m ≤ length out.old) }
-    ensures { out.new ≡ puts out.old at (stepped plane.now 2 from 0 2 (4 * m)) }
-{
-    if back {
-        fours_back(out, at, plane, from, m);
-        return;
-    }
-    fours_forth(out, at, plane, from, m);
 }
 
 // Writes n samples of two bytes, and returns the place past them.
@@ -94,11 +68,15 @@ fn reverse_pairs(
 {
     let m = n / 4;
     let rest = n - 4 * m;
-    reverse_fours(out, at, plane, from, m, back);
+    if back {
+        reverse_fours::<true>(out, at, plane, from, m);
+    } else {
+        reverse_fours::<false>(out, at, plane, from, m);
+    }
     if rest == 0 {
         return at + n * 2;
     }
-    write_steps(out, at + 8 * m, plane, 2, from - 8 * m, 0, 2, rest)
+    write_steps::<2>(out, at + 8 * m, plane, from - 8 * m, 0, 2, rest)
 }
 
 // Writes n samples at `at`, that at `from` first and those before it after it, and returns the place past them. `back`: the plane is
@@ -118,11 +96,11 @@ pub fn reverse_row(
     if n == 0 {
         return at;
     }
-    if bytes == 1 {
-        if back {
-            return write_steps(out, at, plane, 1, from, 0, 1, n);
-        }
-        return bytes_forth(out, at, plane, from, n);
+    if bytes == 2 {
+        reverse_pairs(out, at, plane, from, n, back)
+    } else if back {
+        write_steps::<1>(out, at, plane, from, 0, 1, n)
+    } else {
+        bytes_forth(out, at, plane, from, n)
     }
-    reverse_pairs(out, at, plane, from, n, back)
 }

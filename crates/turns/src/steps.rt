@@ -5,31 +5,28 @@ ghost use Rattle.turns.specs.inner.Stepped.{SteppedFits, stepped};
 
 // Writes n samples at `at`, from the one at `from` on, each so many bytes ahead of the last or behind it, and returns the place past
 // them. A sample's first and last byte are one byte where it has only one.
-pub(crate) fn write_steps(
+pub(crate) fn write_steps<const BYTES: usize>(
     out: &mut [u8],
     at: usize,
     plane: &[u8],
-    bytes: usize,
     from: usize,
     forth: usize,
     back: usize,
     n: usize,
 ) -> usize
-    requires { SteppedFits plane.now bytes from forth back n × (at + n * bytes ≤ length out.old) }
-    ensures { (result ≡ at + n * bytes) × (out.new ≡ puts out.old at (stepped plane.now bytes from forth back n)) }
+    requires { SteppedFits plane.now BYTES from forth back n × (at + n * BYTES ≤ length out.old) }
+    ensures { (result ≡ at + n * BYTES) × (out.new ≡ puts out.old at (stepped plane.now BYTES from forth back n)) }
 {
-    let last = bytes - 1;
-    let mut k: usize = 0;
-    while k < n {
+    let last = BYTES - 1;
+    for k in 0..n {
         let j = from + k * forth - k * back;
-        let i = at + k * bytes;
+        let i = at + k * BYTES;
         let a = plane[j];
         let b = plane[j + last];
         out[i] = a;
         out[i + last] = b;
-        k += 1;
     }
-    at + n * bytes
+    at + n * BYTES
 }
 
 // Writes n samples at `at`, from the one at `from` on, each so many bytes ahead of the last, and returns the place past
@@ -47,7 +44,8 @@ pub fn write_apart(
     ensures { (result ≡ at + n * bytes) × (out.new ≡ puts out.old at (stepped plane.now bytes from step 0 n)) }
 {
     if bytes == 1 {
-        return write_steps(out, at, plane, 1, from, step, 0, n);
+        write_steps::<1>(out, at, plane, from, step, 0, n)
+    } else {
+        write_steps::<2>(out, at, plane, from, step, 0, n)
     }
-    write_steps(out, at, plane, 2, from, step, 0, n)
 }

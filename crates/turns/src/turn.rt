@@ -20,84 +20,78 @@ pub struct Course {
 }
 
 // Writes n samples of so many rows, `pitch` bytes from row to row.
-fn turn_block(
+fn turn_block<const BYTES: usize>(
     out: &mut [u8],
     at: usize,
     pitch: usize,
     plane: &[u8],
-    bytes: usize,
     c: Course,
     rows: usize,
     n: usize,
 )
-    requires { CourseFits plane.now bytes c n rows × BlockFits (length out.old) at pitch rows (n * bytes) }
-    ensures { out.new ≡ store_rows out.old at pitch (course_row plane.now bytes c n) rows }
+    requires { CourseFits plane.now BYTES c n rows × BlockFits (length out.old) at pitch rows (n * BYTES) }
+    ensures { out.new ≡ store_rows out.old at pitch (course_row plane.now BYTES c n) rows }
 {
-    let from = c.from;
-    let right = c.right;
-    let left = c.left;
-    let down = c.down;
-    let up = c.up;
-    let mut y: usize = 0;
-    while y < rows {
-        let j = from + y * right - y * left;
-        write_steps(out, at + y * pitch, plane, bytes, j, down, up, n);
-        y += 1;
+    for y in 0..rows {
+        let j = c.from + y * c.right - y * c.left;
+        write_steps::<BYTES>(out, at + y * pitch, plane, j, c.down, c.up, n);
     }
-}
-
-// The same, with loops of their own for samples of one byte and of two.
-fn turn_sized(
-    out: &mut [u8],
-    at: usize,
-    pitch: usize,
-    plane: &[u8],
-    bytes: usize,
-    c: Course,
-    rows: usize,
-    n: usize,
-)
-    requires { CourseFits plane.now bytes c n rows × BlockFits (length out.old) at pitch rows (n * bytes) }
-    ensures { out.new ≡ store_rows out.old at pitch (course_row plane.now bytes c n) rows }
-{
-    if bytes == 1 {
-        turn_block(out, at, pitch, plane, 1, c, rows, n);
-        return;
-    }
-    turn_block(out, at, pitch, plane, 2, c, rows, n);
 }
 
 // Writes so many whole rows at `at`, 16 columns at a time, and returns the place past them.
-fn turn_band(
+fn turn_band<const BYTES: usize>(
     out: &mut [u8],
     at: usize,
     plane: &[u8],
-    bytes: usize,
     c: Course,
     columns: usize,
     rows: usize,
 ) -> usize
-    requires { CourseFits plane.now bytes c columns rows × (at + rows * (columns * bytes) ≤ length out.old) × (1 ≤ rows) }
-    ensures { (result ≡ at + rows * (columns * bytes)) × (out.new ≡ puts out.old at (span (course_row plane.now bytes c columns) 0 rows)) }
+    requires { CourseFits plane.now BYTES c columns rows × (at + rows * (columns * BYTES) ≤ length out.old) × (1 ≤ rows) }
+    ensures { (result ≡ at + rows * (columns * BYTES)) × (out.new ≡ puts out.old at (span (course_row plane.now BYTES c columns) 0 rows)) }
 {
-    let pitch = columns * bytes;
+    let pitch = columns * BYTES;
     let mut k: usize = 0;
     while k < columns {
-        let n = numbers::min(columns - k, 16);
+        let n = (columns - k).min(16);
         let block = Course {
             from: c.from + k * c.down - k * c.up,
-            right: c.right,
-            left: c.left,
-            down: c.down,
-            up: c.up,
+            ..c
         };
-        turn_sized(out, at + k * bytes, pitch, plane, bytes, block, rows, n);
+        turn_block::<BYTES>(out, at + k * BYTES, pitch, plane, block, rows, n);
         k += n;
     }
     at + rows * pitch
 }
 
 // Writes the rows of a turned plane at `at`, 64 at a time, and returns the place past them.
+fn turn_bands<const BYTES: usize>(
+    out: &mut [u8],
+    at: usize,
+    plane: &[u8],
+    c: Course,
+    columns: usize,
+    rows: usize,
+) -> usize
+    requires { CourseFits plane.now BYTES c columns rows × (at + rows * (columns * BYTES) ≤ length out.old) }
+    ensures { (result ≡ at + rows * (columns * BYTES)) × (out.new ≡ puts out.old at (span (course_row plane.now BYTES c columns) 0 rows)) }
+{
+    let mut i = at;
+    let mut y: usize = 0;
+    while y < rows {
+        let n = (rows - y).min(64);
+        let band = Course {
+            from: c.from + y * c.right - y * c.left,
+            ..c
+        };
+        i = turn_band::<BYTES>(out, i, plane, band, columns, n);
+        y += n;
+    }
+    i
+}
+
+// Writes the rows of a turned plane at `at`, and returns the place past them. Chosen once a plane: the loops are compiled for one
+// byte and for two.
 pub fn turn_rows(
     out: &mut [u8],
     at: usize,
@@ -110,19 +104,9 @@ pub fn turn_rows(
     requires { CourseFits plane.now bytes c columns rows × (at + rows * (columns * bytes) ≤ length out.old) }
     ensures { (result ≡ at + rows * (columns * bytes)) × (out.new ≡ puts out.old at (span (course_row plane.now bytes c columns) 0 rows)) }
 {
-    let mut i = at;
-    let mut y: usize = 0;
-    while y < rows {
-        let n = numbers::min(rows - y, 64);
-        let band = Course {
-            from: c.from + y * c.right - y * c.left,
-            right: c.right,
-            left: c.left,
-            down: c.down,
-            up: c.up,
-        };
-        i = turn_band(out, i, plane, bytes, band, columns, n);
-        y += n;
+    if bytes == 1 {
+        turn_bands::<1>(out, at, plane, c, columns, rows)
+    } else {
+        turn_bands::<2>(out, at, plane, c, columns, rows)
     }
-    i
 }

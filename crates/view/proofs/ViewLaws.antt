@@ -1,5 +1,5 @@
 -- What a sight shows of a picture is one move of it, and is what a chain's entries in turn make of it.
-use mathlib.Core.Bool.{Bool, ◌&&◌, ◌||◌, false, not, true}
+use mathlib.Core.Bool.{Bool, ◌||◌, false, not, true}
 use mathlib.Core.List.{List}
 use mathlib.Core.Path.{◌∙◌, ◌≡◌, ap, ap₂, refl, sym}
 use Prim.Native.Nat.{◌*◌, ◌+◌, ◌-◌, ◌%◌, ◌<◌, ◌^◌, ◌≤◌, ℕ}
@@ -11,7 +11,6 @@ use Rattle.laws.proofs.Order.{apart, by-test, pick-both, pick-false, pick_true}
 use Rattle.laws.specs.Pick.{pick}
 use Rattle.image.proofs.FormLaws.{height-le, width-le}
 use Rattle.image.specs.Format.{as444, bytes_of, columns_of, cover, half_x, half_y, halved, halves_x, halves_y, has_part, odd, rows_of, side_of, sized}
-use Rattle.image.specs.Sound.{FormSound}
 use Rattle.image.specs.declared.format.Form.{Form}
 use Rattle.image.specs.declared.format.Part.{Part}
 use Rattle.image.specs.declared.format.Part.TheVariants.{Alpha, Cb, Cr, Luma}
@@ -20,8 +19,8 @@ use Rattle.planes.specs.Picture.{Agree, Pic, full, pixel, promote}
 use Rattle.moves.proofs.Drawn.{full-sides}
 use Rattle.moves.specs.declared.walk.Axis.{Axis}
 use Rattle.moves.specs.declared.walk.Move.{Move}
-use Rattle.moves.specs.inner.Move.{MoveFits, StepsFit, along_from, moved, plane_axis}
-use Rattle.motions.proofs.Fits.{AxesMove, AxisMoves, balanced, moves-fit}
+use Rattle.moves.specs.inner.Move.{MoveFits, along_from, moved, plane_axis}
+use Rattle.motions.proofs.Fits.{AxisMoves, balanced, moves-fit}
 use Rattle.motions.specs.inner.Moves.{crop_move, crop_with, form_with, half_move, half_with, quarter_move, quarter_with, turn_form}
 use Rattle.motions.specs.Place.{sideways, swaps, unturn}
 use Rattle.motions.specs.Turn.{Quarter, q0, q1, q2, q3, quarter_of}
@@ -32,7 +31,6 @@ use Rattle.planes.specs.Bytes.{decode, encode, size_of}
 use Rattle.records.specs.declared.record.Frame.{Frame}
 use Rattle.sight.specs.Sight.{back, back_from, exchange, final_height, final_width, high_of, then_crop, then_mirror, then_turn, whole, wide_of}
 use Rattle.sight.specs.declared.Sight.{Sight}
-use Rattle.sizes.specs.Sound.{Inside}
 use Rattle.sizes.specs.declared.clap.Crop.{Crop}
 use Rattle.sizes.specs.declared.clap.CropRect.{CropRect}
 use Rattle.view.specs.inner.View.{Reached, Shown, kept, promoted, runs_left, runs_up, shown, sight_axis, sight_move, turns_left, turns_up}

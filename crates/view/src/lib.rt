@@ -3,44 +3,42 @@
 
 ghost use Rattle.std.specs.Prelude.{◌≡◌, ◌+◌, ◌<◌, ◌^◌, ◌≤◌, length};
 ghost use Rattle.laws.specs.Puts.{puts};
-ghost use Rattle.records.specs.inner.Placed.{Sound};
 ghost use Rattle.planes.specs.Bytes.{decode, encode, size_of};
 ghost use Rattle.view.specs.inner.View.{Shown, runs_left, runs_up, shown, sight_axis, sight_move};
 
 use image::Form;
 use moves::{Axis, Move};
-use records::Frame;
+use records::Picture;
 use sight::Sight;
 
 // So many places from one on, or from the last of them back.
+#[tactic(auto, unfolding(crate::specs::inner::View::sight_axis, laws::specs::Pick::pick))]
 fn sight_axis(back: bool, from: u32, size: u32) -> Axis
     requires { (1 ≤ size) × (from + size < 2 ^ 32) }
     ensures { result ≡ sight_axis back from size }
 {
-    if back {
-        return Axis {
-            from: from as usize + size as usize - 1,
-            back: true,
-        };
-    }
+    let from = from as usize;
     Axis {
-        from: from as usize,
-        back: false,
+        from: if back { from + size as usize - 1 } else { from },
+        back,
     }
 }
 
 // Whether the columns of a sight's rectangle are walked from the right.
+#[tactic(auto, unfolding(crate::specs::inner::View::runs_left, crate::specs::inner::View::turns_left, motions::specs::Turn::quarter_of, laws::specs::Pick::pick))]
 fn runs_left(s: Sight) -> bool
     ensures { result ≡ runs_left s }
 {
     let turns = s.turns % 4;
-    if image::either(turns == 1, turns == 2) {
-        return !s.exchanged;
+    if turns == 1 || turns == 2 {
+        !s.exchanged
+    } else {
+        s.exchanged
     }
-    s.exchanged
 }
 
 // Whether its rows are walked from the bottom.
+#[tactic(auto, unfolding(crate::specs::inner::View::runs_up, crate::specs::inner::View::turns_up, motions::specs::Turn::quarter_of, laws::specs::Pick::pick))]
 fn runs_up(s: Sight) -> bool
     ensures { result ≡ runs_up s }
 {
@@ -48,16 +46,15 @@ fn runs_up(s: Sight) -> bool
 }
 
 // The move of a picture of one form to what a sight shows of it, in another.
+#[tactic(auto, unfolding(crate::specs::inner::View::sight_move, motions::specs::Place::swaps, motions::specs::Turn::quarter_of, laws::specs::Pick::pick))]
 fn sight_move(m: Form, n: Form, s: Sight) -> Move
     requires { Shown m n s }
     ensures { result ≡ sight_move m n s }
 {
-    let f = m.format;
-    let g = n.format;
     let area = s.area;
     Move {
         form: n,
-        promoted: f.chroma != g.chroma,
+        promoted: m.format.chroma != n.format.chroma,
         swapped: s.turns % 2 == 1,
         across: sight_axis(runs_left(s), area.x, area.width),
         down: sight_axis(runs_up(s), area.y, area.height),
@@ -65,9 +62,9 @@ fn sight_move(m: Form, n: Form, s: Sight) -> Move
 }
 
 // What a sight shows of a record's picture, in a tight record of that form at the start. Answers its length.
-pub fn draw_sight(out: &mut [u8], record: &[u8], fr: Frame, n: Form, s: Sight) -> usize
-    requires { Sound «record».now fr × Shown fr.form n s × (size_of n ≤ length out.old) }
-    ensures { (result ≡ size_of n) × (out.new ≡ puts out.old 0 (encode (shown n s (decode «record».now fr)))) }
+pub fn draw_sight(out: &mut [u8], picture: Picture<'_>, n: Form, s: Sight) -> usize
+    requires { Shown picture.frame.form n s × (size_of n ≤ length out.old) }
+    ensures { (result ≡ size_of n) × (out.new ≡ puts out.old 0 (encode (shown n s (decode picture.entry.«record».now picture.entry.frame)))) }
 {
-    moves::write_moved(out, record, fr, sight_move(fr.form, n, s))
+    moves::write_moved(out, picture, sight_move(picture.frame.form, n, s))
 }

@@ -1,4 +1,5 @@
 -- Laws of the words that say where an overlay's inputs go.
+use Rattle.std.specs.Prelude.{Ok, Err}
 use mathlib.Core.List.{List, [], ◌++◌, ◌∷◌}
 use mathlib.Core.Path.{◌∙◌, ◌≡◌, ap, refl, sym}
 use Prim.Native.Nat.{◌%◌, ◌*◌, ◌+◌, ◌<◌, ◌≤◌, ℕ}
@@ -6,11 +7,13 @@ use native.Mathlib.Omega.{arith}
 use lib.ListN.{get_or, length}
 use Rattle.laws.proofs.Out.{and_then-done, done-same, fitted-room, fitted_short, refuse-done, then-done}
 use Rattle.laws.proofs.Span.{length-span-all, span-step}
-use Rattle.laws.specs.Out.{done, reason, refused}
+use Rattle.laws.specs.Out.{reason}
 use Rattle.laws.specs.Span.{span}
 use Rattle.numbers.proofs.Field.{big_endian-more, big_endian-none}
 use Rattle.numbers.specs.Field.{big_endian, offset_of, signed_of}
+use Rattle.numbers.specs.declared.Cursor.{Cursor}
 use Rattle.numbers.specs.declared.Offset.{Offset}
+use Rattle.image.specs.declared.size.Size.{Size}
 use Rattle.derived.proofs.OffsetLaws.{place_inside}
 use Rattle.derived.proofs.Taken.{on_field-done}
 use Rattle.derived.specs.Canvas.{field_bytes, start_of}
@@ -83,35 +86,35 @@ input-inside s d i k h = (place_inside s d i k h).1
 
 -- ---- the call
 
-start-even : (s : List ℕ) (h : _) → start_of s ≡ done h → h.bytes % 2 ≡ 0
+start-even : (s : List ℕ) (h : _) → start_of s ≡ Ok h → h.0 % 2 ≡ 0
 unfolding start_of field_bytes
 start-even s h e =
     let a = on_field-done _ _ h e in
     let b = refuse-done _ _ _ h a.3 in
     let d = on_field-done _ _ h b.1 in
-    let q = ap (λ x. x.bytes) (done-same _ h d.3) in
+    let q = ap (λ (x : ℕ × Cursor). x.0) (done-same _ h d.3) in
     omega arith
 
-bytes-kept : (s : List ℕ) (k : Fill) (c : _) (bytes n : ℕ) (d : OverlayDescriptor) → inputs_of s k c bytes n ≡ done d → bytes ≡ d.bytes
+bytes-kept : (s : List ℕ) (k : Fill) (z : Size) (offsets bytes n : ℕ) (d : OverlayDescriptor) → inputs_of s k z offsets bytes n ≡ Ok d → bytes ≡ d.bytes
 unfolding inputs_of
-bytes-kept s k c bytes n d e =
+bytes-kept s k z offsets bytes n d e =
     let i = refuse-done _ _ _ d e in
     let j = refuse-done _ _ _ d i.1 in
     ap (λ (o : OverlayDescriptor). o.bytes) (done-same _ d j.1)
 
 -- an offset has two bytes or four
-pub offset-even : (s : List ℕ) (n : ℕ) (d : OverlayDescriptor) → overlay_of s n ≡ done d → d.bytes % 2 ≡ 0
+pub offset-even : (s : List ℕ) (n : ℕ) (d : OverlayDescriptor) → overlay_of s n ≡ Ok d → d.bytes % 2 ≡ 0
 unfolding overlay_of
 offset-even s n d e =
     let h = and_then-done _ _ d e in
     let f = and_then-done _ _ d h.2 in
     let c = and_then-done _ _ d f.2 in
-    rw (← bytes-kept s f.0.fill c.0 h.0.bytes n d c.2) (start-even s h.0 h.1)
+    rw (← bytes-kept s f.0.0 c.0.0 c.0.1.at h.0.0 n d c.2) (start-even s h.0 h.1)
 
-pub offsets-short : (s : List ℕ) (n room : ℕ) (d : OverlayDescriptor) → overlay_of s n ≡ done d → room < n * 4 → offsets_words s n room ≡ refused (reason 17)
+pub offsets-short : (s : List ℕ) (n room : ℕ) (d : OverlayDescriptor) → overlay_of s n ≡ Ok d → room < n * 4 → offsets_words s n room ≡ Err (reason 17)
 unfolding offsets_words
 offsets-short s n room d e h = then-done _ e ∙ fitted_short room (offsets_fields s d n) (omega (arith, fields-long s d n))
 
-pub offsets-done : (s : List ℕ) (n room : ℕ) (d : OverlayDescriptor) → overlay_of s n ≡ done d → n * 4 ≤ room → (offsets_words s n room ≡ done (offsets_fields s d n)) × (length (offsets_fields s d n) ≤ room)
+pub offsets-done : (s : List ℕ) (n room : ℕ) (d : OverlayDescriptor) → overlay_of s n ≡ Ok d → n * 4 ≤ room → (offsets_words s n room ≡ Ok (offsets_fields s d n)) × (length (offsets_fields s d n) ≤ room)
 unfolding offsets_words
 offsets-done s n room d e h = let l : length (offsets_fields s d n) ≤ room = omega (arith, fields-long s d n) in (then-done _ e ∙ fitted-room room (offsets_fields s d n) l, l)

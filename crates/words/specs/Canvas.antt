@@ -1,11 +1,9 @@
 -- The canvas session's state as words, and what the calls on them come to.
+use Rattle.std.specs.Prelude.{Ok}
 use Rattle.std.specs.Prelude.{List, ◌++◌, ◌∷◌, ◌-◌, ◌^◌, ℕ, ltb, drop, get_or, length, take}
-use Rattle.laws.specs.Out.{Out, and_then, done, fitted, refuse, refused, written}
+use Rattle.laws.specs.Out.{Out, and_then, fitted, refuse, written}
 use Rattle.laws.specs.Pick.{pick}
-use Rattle.laws.specs.declared.Answer.{Answer}
-use Rattle.laws.specs.declared.Answer.TheVariants.{Refused, Wrote}
 use Rattle.session.specs.Session.{CanvasAfter, blank_of, finish_of, place_of, session_of}
-use Rattle.session.specs.declared.canvas.Called.{Called}
 use Rattle.session.specs.declared.state.Canvas.{Canvas}
 use Rattle.words.specs.Descriptors.{grid_fields}
 use Rattle.words.specs.Read.{form_fields}
@@ -55,15 +53,7 @@ finish_run ws room = on_state ws (λ s. finish_of s room)
 
 -- the words after a call: the new state at the start; a refused call leaves them
 unfoldable pub kept_words : Out Canvas → List ℕ → List ℕ
-kept_words o ws = written (and_then o (λ s. done (words_of s))) ws
+kept_words o ws = written (and_then o (λ s. Ok (words_of s))) ws
 
 unfoldable pub state_after : Out CanvasAfter → List ℕ → List ℕ
-state_after o ws = kept_words (and_then o (λ e. done e.canvas)) ws
-
--- a session's answer, and the state it leaves
-unfoldable pub answered_out : Answer → Canvas → Out Canvas
-answered_out (Refused e) s = refused e
-answered_out (Wrote n) s = done s
-
-unfoldable pub called_out : Called → Out Canvas
-called_out c = answered_out c.answer c.canvas
+state_after o ws = kept_words (and_then o (λ e. Ok e.canvas)) ws

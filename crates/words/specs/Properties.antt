@@ -1,6 +1,7 @@
 -- What the calls on chains and properties answer and write.
+use Rattle.std.specs.Prelude.{Ok}
 use Rattle.std.specs.Prelude.{List, [], ◌∷◌, ℕ, length}
-use Rattle.laws.specs.Out.{Out, and_then, done, fitted}
+use Rattle.laws.specs.Out.{Out, and_then, fitted}
 use Rattle.sizes.specs.Aperture.{resolve_of}
 use Rattle.props.specs.Chain.{chain_at}
 use Rattle.sizes.specs.Scale.{scale_of}
@@ -11,7 +12,7 @@ use Rattle.image.specs.declared.size.Size.{Size}
 
 -- how many entries a chain has
 unfoldable pub chain_count : List ℕ → Out ℕ
-chain_count s = and_then (chain_at s 0) (λ es. done (length es))
+chain_count s = and_then (chain_at s 0) (λ es. Ok (length es))
 
 -- an aperture by its eight fields, in document 01's order
 unfoldable pub clap_of : ℕ → ℕ → ℕ → ℕ → ℕ → ℕ → ℕ → ℕ → Clap

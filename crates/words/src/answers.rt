@@ -1,12 +1,11 @@
 // What a call answers in lent words, field by field.
-ghost use Rattle.std.specs.Prelude.{[], ◌∷◌, ◌≡◌, ◌+◌, ◌≤◌, length};
+ghost use Rattle.std.specs.Prelude.{◌≡◌, ◌+◌, ◌≤◌, length, set};
 ghost use Rattle.laws.specs.Out.{written};
 ghost use Rattle.laws.specs.Pick.{pick};
 ghost use Rattle.laws.specs.Puts.{puts};
 ghost use Rattle.words.specs.Code.{code_of, none_of};
 ghost use Rattle.words.specs.Properties.{crop_fields};
 ghost use Rattle.words.specs.Read.{form_fields, plane_fields};
-ghost use Rattle.point.specs.Point.{point_out};
 ghost use Rattle.words.specs.Spots.{sight_fields, point_words, named_fields};
 ghost use Rattle.words.specs.Fill.{fill_fields};
 
@@ -14,12 +13,13 @@ use crate::code::refusal_code;
 use fill::Ycbcr;
 use image::Form;
 use laws::Refusal;
-use point::{Named, PointRead};
+use point::{Named, Point};
 use records::Plane;
 use sight::Sight;
 use sizes::Crop;
 
 // A form's five numbers at the start.
+#[tactic(auto, unfolding(laws::specs::Puts::puts, crate::specs::Read::form_fields))]
 pub fn put_form(answer: &mut [u64], m: Form) -> usize
     requires { 5 ≤ length answer.old }
     ensures { (result ≡ 5) × (answer.new ≡ puts answer.old 0 (form_fields m)) }
@@ -34,41 +34,29 @@ pub fn put_form(answer: &mut [u64], m: Form) -> usize
 }
 
 // A plane's three numbers at `at`, and the place past them.
+#[tactic(auto, unfolding(laws::specs::Puts::puts, crate::specs::Read::plane_fields))]
 pub fn put_plane(answer: &mut [u64], at: usize, q: Plane) -> usize
     requires { at + 3 ≤ length answer.old }
     ensures { (result ≡ at + 3) × (answer.new ≡ puts answer.old at (plane_fields q)) }
 {
-    let b = at + 1;
-    let c = b + 1;
     answer[at] = q.start as u64;
-    answer[b] = q.len as u64;
-    answer[c] = q.stride as u64;
-    c + 1
+    answer[at + 1] = q.len as u64;
+    answer[at + 2] = q.stride as u64;
+    at + 3
 }
 
 // Two words at `at`, and the place past them.
-pub fn put_words(answer: &mut [u64], at: usize, a: u64, b: u64) -> usize
+pub fn put_words<T: Copy>(answer: &mut [T], at: usize, a: T, b: T) -> usize
     requires { at + 2 ≤ length answer.old }
-    ensures { (result ≡ at + 2) × (answer.new ≡ puts answer.old at (a ∷ b ∷ [])) }
+    ensures { (result ≡ at + 2) × (answer.new ≡ set (set answer.old at a) (at + 1) b) }
 {
-    let next = at + 1;
     answer[at] = a;
-    answer[next] = b;
-    next + 1
-}
-
-// Two words at `at`, and the place past them.
-pub fn put_sides(answer: &mut [u32], at: usize, a: u32, b: u32) -> usize
-    requires { at + 2 ≤ length answer.old }
-    ensures { (result ≡ at + 2) × (answer.new ≡ puts answer.old at (a ∷ b ∷ [])) }
-{
-    let next = at + 1;
-    answer[at] = a;
-    answer[next] = b;
-    next + 1
+    answer[at + 1] = b;
+    at + 2
 }
 
 // The three samples at the start.
+#[tactic(auto, unfolding(laws::specs::Puts::puts, crate::specs::Fill::fill_fields))]
 pub fn put_fill(answer: &mut [u16], s: Ycbcr)
     requires { 3 ≤ length answer.old }
     ensures { answer.new ≡ puts answer.old 0 (fill_fields s) }
@@ -78,13 +66,11 @@ pub fn put_fill(answer: &mut [u16], s: Ycbcr)
     answer[2] = s.cr;
 }
 
+#[tactic(auto, unfolding(laws::specs::Pick::pick))]
 pub fn bit_of(b: bool) -> u32
     ensures { result ≡ pick b 1 0 }
 {
-    if b {
-        return 1;
-    }
-    0
+    if b { 1 } else { 0 }
 }
 
 // What a place names at the start, and the place past it.
@@ -94,12 +80,12 @@ pub fn put_named(answer: &mut [u32], named: Named) -> usize
 {
     match named {
         Named::Fill => {
-            let a = put_sides(answer, 0, 0, 0);
-            put_sides(answer, a, 0, 0)
+            let a = put_words(answer, 0, 0, 0);
+            put_words(answer, a, 0, 0)
         }
         Named::Spot(k) => {
-            let a = put_sides(answer, 0, 1, k.input);
-            put_sides(answer, a, k.x, k.y)
+            let a = put_words(answer, 0, 1, k.input);
+            put_words(answer, a, k.x, k.y)
         }
     }
 }
@@ -110,9 +96,9 @@ pub fn put_sight(answer: &mut [u32], at: usize, s: Sight)
     ensures { answer.new ≡ puts answer.old at (sight_fields s) }
 {
     let area = s.area;
-    let a = put_sides(answer, at, area.x, area.y);
-    let b = put_sides(answer, a, area.width, area.height);
-    put_sides(answer, b, bit_of(s.exchanged), s.turns);
+    let a = put_words(answer, at, area.x, area.y);
+    let b = put_words(answer, a, area.width, area.height);
+    put_words(answer, b, bit_of(s.exchanged), s.turns);
 }
 
 // A rectangle and its margins at the start.
@@ -122,27 +108,25 @@ pub fn put_crop(answer: &mut [u32], k: Crop)
 {
     let r = k.rect;
     let m = k.margins;
-    let a = put_sides(answer, 0, r.x, r.y);
-    let b = put_sides(answer, a, r.width, r.height);
-    let c = put_sides(answer, b, m.left, m.top);
-    put_sides(answer, c, m.right, m.bottom);
+    let a = put_words(answer, 0, r.x, r.y);
+    let b = put_words(answer, a, r.width, r.height);
+    let c = put_words(answer, b, m.left, m.top);
+    put_words(answer, c, m.right, m.bottom);
 }
 
 // What was found, in 10 words. Refusals: what it was refused for; 17 an answer below 10 words.
-pub fn put_point(answer: &mut [u32], found: PointRead) -> u64
-    ensures { (result ≡ code_of (none_of (point_words (point_out found) (length answer.old))))
-        × (answer.new ≡ written (point_words (point_out found) (length answer.old)) answer.old) }
+pub fn put_point(answer: &mut [u32], found: Result<Point, Refusal>) -> u64
+    ensures { (result ≡ code_of (none_of (point_words found (length answer.old))))
+        × (answer.new ≡ written (point_words found (length answer.old)) answer.old) }
 {
     match found {
-        PointRead::Refused(e) => refusal_code(e),
-        PointRead::Point(p) => {
+        Err(e) => refusal_code(e),
+        Ok(p) => {
             if answer.len() < 10 {
                 return refusal_code(Refusal::ROOM);
             }
-            let named = p.named;
-            let sight = p.sight;
-            let a = put_named(answer, named);
-            put_sight(answer, a, sight);
+            let a = put_named(answer, p.named);
+            put_sight(answer, a, p.sight);
             0
         }
     }

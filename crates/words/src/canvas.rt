@@ -1,23 +1,21 @@
 // The canvas session's state in plain words that the caller keeps.
 ghost use Rattle.std.specs.Prelude.{◌≡◌, ◌≤◌, length};
 ghost use Rattle.laws.specs.Puts.{puts};
-ghost use Rattle.words.specs.Canvas.{marks_of, field_of, called_out, canvas_of, words_of, kept_words};
+ghost use Rattle.words.specs.Canvas.{marks_of, field_of, canvas_of, words_of, kept_words};
 ghost use Rattle.words.specs.Code.{code_of, none_of};
 
 use crate::code::refusal_code;
 use derived::GridDescriptor;
 use image::{Form, PixelFormat};
-use laws::Answer;
-use session::{Called, Canvas};
+use laws::Refusal;
+use session::Canvas;
 
 // A word as a number of 32 bits; a greater word as the greatest.
+#[tactic(auto, unfolding(crate::specs::Canvas::field_of, laws::specs::Pick::pick))]
 pub fn field_of(word: u64) -> u32
     ensures { result ≡ field_of word }
 {
-    if word < 0x1_0000_0000 {
-        return word as u32;
-    }
-    0xffff_ffff
+    word.min(0xffff_ffff) as u32
 }
 
 // The marks behind the state's ten numbers.
@@ -26,11 +24,7 @@ pub fn marks_of(state: &[u64]) -> [u64; 1024]
     ensures { result ≡ marks_of state.now }
 {
     let mut marks = [0u64; 1024];
-    let mut i: usize = 0;
-    while i < 1024 {
-        marks[i] = state[10 + i];
-        i += 1;
-    }
+    marks.copy_from_slice(&state[10..1034]);
     marks
 }
 
@@ -39,29 +33,24 @@ pub fn canvas_of(state: &[u64]) -> Canvas
     requires { 1034 ≤ length state.now }
     ensures { result ≡ canvas_of state.now }
 {
-    let desc = GridDescriptor {
-        rows: field_of(state[0]),
-        columns: field_of(state[1]),
-        output_width: field_of(state[2]),
-        output_height: field_of(state[3]),
-    };
-    let format = PixelFormat {
-        chroma: field_of(state[6]),
-        depth: field_of(state[7]),
-        alpha: field_of(state[8]),
-    };
-    let tile = Form {
-        width: field_of(state[4]),
-        height: field_of(state[5]),
-        format,
-    };
-    let alpha = field_of(state[9]);
-    let marks = marks_of(state);
     Canvas {
-        desc,
-        tile,
-        alpha,
-        marks,
+        desc: GridDescriptor {
+            rows: field_of(state[0]),
+            columns: field_of(state[1]),
+            output_width: field_of(state[2]),
+            output_height: field_of(state[3]),
+        },
+        tile: Form {
+            width: field_of(state[4]),
+            height: field_of(state[5]),
+            format: PixelFormat {
+                chroma: field_of(state[6]),
+                depth: field_of(state[7]),
+                alpha: field_of(state[8]),
+            },
+        },
+        alpha: field_of(state[9]),
+        marks: marks_of(state),
     }
 }
 
@@ -70,11 +59,7 @@ pub fn put_marks(state: &mut [u64], marks: [u64; 1024])
     requires { 1034 ≤ length state.old }
     ensures { (length marks ≡ 1024) × (state.new ≡ puts state.old 10 marks) }
 {
-    let mut i: usize = 0;
-    while i < 1024 {
-        state[10 + i] = marks[i];
-        i += 1;
-    }
+    state[10..1034].copy_from_slice(&marks);
 }
 
 // A canvas's words at the start.
@@ -95,21 +80,19 @@ pub fn put_canvas(state: &mut [u64], canvas: Canvas)
     state[7] = f.depth as u64;
     state[8] = f.alpha as u64;
     state[9] = canvas.alpha as u64;
-    let marks = canvas.marks;
-    put_marks(state, marks);
+    put_marks(state, canvas.marks);
 }
 
 // The new state of a call that was accepted, and its number.
-pub fn keep(state: &mut [u64], called: Called) -> u64
+pub fn keep(state: &mut [u64], called: Result<Canvas, Refusal>) -> u64
     requires { 1034 ≤ length state.old }
-    ensures { (result ≡ code_of (none_of (called_out called)))
-        × (state.new ≡ kept_words (called_out called) state.old) }
+    ensures { (result ≡ code_of (none_of called))
+        × (state.new ≡ kept_words called state.old) }
 {
-    let answer = called.answer;
-    match answer {
-        Answer::Refused(e) => refusal_code(e),
-        Answer::Wrote(_) => {
-            put_canvas(state, called.canvas);
+    match called {
+        Err(e) => refusal_code(e),
+        Ok(canvas) => {
+            put_canvas(state, canvas);
             0
         }
     }

@@ -2,17 +2,19 @@
 ghost use Rattle.std.specs.Prelude.{◌≡◌};
 ghost use Rattle.words.specs.Fill.{colour_of};
 
-use fill::{Colour, Nclx};
+use fill::Nclx;
 
 // Colour 0 is none; a full range of 0 is the studio range.
-pub fn colour_of(colour: u8, matrix: u16, full_range: u8) -> Colour
+#[tactic(auto, unfolding(crate::specs::Fill::colour_of, laws::specs::Pick::pick))]
+pub fn colour_of(colour: u8, matrix: u16, full_range: u8) -> Option<Nclx>
     ensures { result ≡ colour_of colour matrix full_range }
 {
     if colour == 0 {
-        return Colour::None;
+        None
+    } else {
+        Some(Nclx {
+            matrix,
+            full_range: full_range != 0,
+        })
     }
-    Colour::Nclx(Nclx {
-        matrix,
-        full_range: full_range != 0,
-    })
 }

@@ -8,8 +8,7 @@ mod colour;
 mod offsets;
 
 pub use crate::answers::{
-    bit_of, put_crop, put_fill, put_form, put_named, put_plane, put_point, put_sides, put_sight,
-    put_words,
+    bit_of, put_crop, put_fill, put_form, put_named, put_plane, put_point, put_sight, put_words,
 };
 pub use crate::canvas::{canvas_of, field_of, keep, marks_of, put_canvas, put_marks};
 pub use crate::code::{answer_code, refusal_code};

@@ -29,16 +29,12 @@ pub fn put_offsets(answer: &mut [u64], body: &[u8], d: OverlayDescriptor)
     ensures { answer.new ≡ puts answer.old 0 (offsets_fields body.now d d.count) }
 {
     let bytes = d.bytes;
-    let count = d.count;
-    let mut from = d.offsets;
-    let mut at: usize = 0;
-    let mut i: u32 = 0;
-    while i < count {
+    let mut at = 0;
+    for i in 0..d.count {
+        let from = d.offsets + i as usize * (2 * bytes);
         let h = offset_at(body, from, bytes);
         let v = offset_at(body, from + bytes, bytes);
         let middle = put_words(answer, at, h.ahead as u64, h.behind as u64);
         at = put_words(answer, middle, v.ahead as u64, v.behind as u64);
-        from = from + 2 * bytes;
-        i += 1;
     }
 }

@@ -259,12 +259,29 @@ mod tests {
     use crate::sys;
     use std::fs;
 
-    /// The source of the crate `laws`, with one blank where it has several.
+    /// The source of the crate `laws`, with one blank where it has several, and without comments.
     fn laws() -> String {
         let laws = in_repository("crates/laws/src/lib.rt");
         let laws = fs::read_to_string(laws).expect("the crate laws is there");
-        let words: Vec<&str> = laws.split_whitespace().collect();
+        let lines = laws.lines().filter_map(|line| line.split("//").next());
+        let words: Vec<&str> = lines.flat_map(str::split_whitespace).collect();
         words.join(" ")
+    }
+
+    /// The variants of an enum of the crate `laws`.
+    fn variants(name: &str) -> Vec<String> {
+        let laws = laws();
+        let (_, rest) = laws
+            .split_once(&format!("pub enum {name} {{ "))
+            .expect("the enum is there");
+        let (list, _) = rest.split_once(", }").expect("an enum that ends");
+        list.split(", ").map(String::from).collect()
+    }
+
+    /// A word with a capital letter.
+    fn capital(word: &str) -> String {
+        let (first, rest) = word.split_at(1);
+        first.to_uppercase() + rest
     }
 
     #[test]
@@ -274,21 +291,21 @@ mod tests {
         let theirs: Vec<&str> = declared
             .map(|rest| &rest[..=rest.find(';').expect("a constant that ends")])
             .collect();
-        let sort = |about: About| {
-            let name = format!("{about:?}").to_uppercase();
-            format!("{name}: u8 = {};", about.sort())
-        };
         let constant = |refusal: &Refusal| {
-            let (name, number) = (refusal.name().to_uppercase(), refusal.number());
-            format!("{name}: Refusal = Refusal {{ number: {number}, sort: 0, index: 0, }};")
+            let name = refusal.name();
+            let (constant, reason) = (name.to_uppercase(), capital(name));
+            format!("{constant}: Refusal = Refusal {{ reason: Reason::{reason}, item: None, }};")
         };
-        let ours: Vec<String> = About::ALL
-            .map(sort)
-            .into_iter()
-            .chain(Refusal::ALL.iter().map(constant))
-            .collect();
+        let ours: Vec<String> = Refusal::ALL.iter().map(constant).collect();
         assert_eq!(ours, theirs);
-        assert!(laws.contains("pub fn about(self, sort: u8, index: u64) -> Refusal"));
+        let reason =
+            |refusal: &Refusal| format!("{} = {}", capital(refusal.name()), refusal.number());
+        let reasons: Vec<String> = Refusal::ALL.iter().map(reason).collect();
+        assert_eq!(reasons, variants("Reason"));
+        assert_eq!(About::ALL.map(|about| about.sort()), [1, 2]);
+        let items = About::ALL.map(|about| format!("{about:?}(u64)"));
+        assert_eq!(items.as_slice(), variants("Item"));
+        assert!(laws.contains("pub fn about(self, item: Item) -> Refusal"));
     }
 
     #[test]

@@ -1,7 +1,6 @@
 -- What a plane that is kept asks of its bytes.
 use Rattle.std.specs.Prelude.{List, ◌+◌, ◌<◌, ◌^◌, ◌≤◌, ℕ, length}
 use Rattle.records.specs.Record.{plane_of}
-use Rattle.records.specs.inner.Placed.{Sound}
 use Rattle.image.specs.declared.format.Part.{Part}
 use Rattle.records.specs.declared.record.Frame.{Frame}
 use Rattle.records.specs.declared.record.Plane.{Plane}
@@ -12,7 +11,6 @@ pub record KeptFits (s : List ℕ) (q : Plane) : Type 0 where
   pub stride : q.stride < 2 ^ 32
   pub len : q.len < 2 ^ 32
 
--- the same of every plane of a frame
-pub record Whole (s : List ℕ) (fr : Frame) : Type 0 where
-  pub sound : Sound s fr
+-- every plane's length is small enough
+pub record Short (fr : Frame) : Type 0 where
   pub lens : (p : Part) → (plane_of fr p).len < 2 ^ 32

@@ -1,9 +1,8 @@
 -- The chain from record to record, as the two lent buffers hold them.
+use Rattle.std.specs.Prelude.{Ok, Err}
 use Rattle.std.specs.Prelude.{Bool, ◌&&◌, false, not, true, List, [], ◌++◌, ◌∷◌, ◌≡◌, ◌-◌, ◌≤◌, ℕ, length, replicate, take}
-use Rattle.laws.specs.Out.{Out, and_then, done, fitted, refused}
+use Rattle.laws.specs.Out.{Out, and_then, fitted}
 use Rattle.laws.specs.Pick.{pick}
-use Rattle.laws.specs.declared.Answer.{Answer}
-use Rattle.laws.specs.declared.Answer.TheVariants.{Refused, Wrote}
 use Rattle.planes.specs.Bytes.{size_of}
 use Rattle.props.specs.Chain.{applies, entries_at, fold_chain}
 use Rattle.props.specs.declared.entry.Property.{Property}
@@ -31,7 +30,7 @@ draws essential_only e = applies essential_only e && moves e.property
 unfoldable pub Roomy : ℕ → ℕ → Bool → List PropertyEntry → List ℕ → Type 0
 Roomy output spare essential_only [] bs = Unit {0}
 Roomy output spare essential_only (e ∷ es) bs =
-    (b : List ℕ) × (pick (applies essential_only e) (record_after e.property bs) (done bs) ≡ done b)
+    (b : List ℕ) × (pick (applies essential_only e) (record_after e.property bs) (Ok bs) ≡ Ok b)
     × (length b ≤ output) × (length b ≤ spare) × Roomy output spare essential_only es b
 
 -- ---- what a chain has reached: a record in a buffer, or what a sight shows of it
@@ -54,13 +53,13 @@ pub record Staged (t : Stage) (output spare : List ℕ) : Type 0 where
 
 -- an entry on the record that is reached
 abbrev pub entry_bytes : Bool → PropertyEntry → List ℕ → Out (List ℕ)
-entry_bytes essential_only e bs = pick (applies essential_only e) (record_after e.property bs) (done bs)
+entry_bytes essential_only e bs = pick (applies essential_only e) (record_after e.property bs) (Ok bs)
 
 -- it is not refused, and there is room for what it makes
 pub record Able (essential_only : Bool) (e : PropertyEntry) (t : Stage) (output spare : List ℕ) : Type 0 where
   pub staged : Staged t output spare
   pub next : List ℕ
-  pub made : entry_bytes essential_only e (stage_bytes t (record_in t output spare)) ≡ done next
+  pub made : entry_bytes essential_only e (stage_bytes t (record_in t output spare)) ≡ Ok next
   pub long : length next ≤ length output
   pub broad : length next ≤ length spare
 
@@ -69,13 +68,13 @@ pub record Drawable (p : Property) (t : Stage) (output spare : List ℕ) : Type 
   pub staged : Staged t output spare
   pub drawn : t.shown ≡ false
   pub next : List ℕ
-  pub made : record_after p (record_in t output spare) ≡ done next
+  pub made : record_after p (record_in t output spare) ≡ Ok next
   pub long : length next ≤ length output
   pub broad : length next ≤ length spare
 
 -- the form, side and kind of the next stage are the plan's
 pub record Planned (essential_only : Bool) (e : PropertyEntry) (t u : Stage) : Type 0 where
-  pub form : Gives (pick (applies essential_only e) (form_after e.property t.form) (done t.form)) u.form
+  pub form : Gives (pick (applies essential_only e) (form_after e.property t.form) (Ok t.form)) u.form
   pub side : settled_in u ≡ pick (applies essential_only e && begins e.property t.form t.shown) (not (settled_in t)) (settled_in t)
   pub kind : u.shown ≡ pick (applies essential_only e) (shown_after e.property t.form t.shown) t.shown
 
@@ -90,29 +89,29 @@ pub record Arrived (bs d f : List ℕ) (t : Stage) (output spare : List ℕ) : T
 pub record Lands (essential_only : Bool) (es : List PropertyEntry) (t : Stage) : Type 0 where
   pub longest : ℕ
   pub plan : ChainPlan
-  pub run : fold_chain chain_plan_after essential_only es (record { form = t.form; longest = longest; even = settled_in t; shown = t.shown }) ≡ done plan
+  pub run : fold_chain chain_plan_after essential_only es (record { form = t.form; longest = longest; even = settled_in t; shown = t.shown }) ≡ Ok plan
   pub even : plan.even ≡ true
 
 -- a chain of so many entries from a place on can be drawn
 pub record Ready (s : List ℕ) (count next : ℕ) (essential_only : Bool) (t : Stage) (output spare : List ℕ) : Type 0 where
   pub entries : List PropertyEntry
-  pub read : entries_at count s next ≡ done entries
+  pub read : entries_at count s next ≡ Ok entries
   pub staged : Staged t output spare
   pub lands : Lands essential_only entries t
   pub room : Roomy (length output) (length spare) essential_only entries (stage_bytes t (record_in t output spare))
 
 -- the bytes that a chain of so many entries ends with; none where it is refused
 unfoldable pub bytes_in : Out (List ℕ) → List ℕ
-bytes_in (refused r) = []
-bytes_in (done bs) = bs
+bytes_in (Err r) = []
+bytes_in (Ok bs) = bs
 
 unfoldable pub chain_bytes : List ℕ → ℕ → ℕ → Bool → List ℕ → List ℕ
 chain_bytes s count next essential_only bs = bytes_in (and_then (entries_at count s next) (λ es. fold_chain record_after essential_only es bs))
 
 -- how many bytes were written
-unfoldable pub wrote_of : Answer → ℕ
-wrote_of (Wrote n) = n
-wrote_of (Refused r) = 0
+unfoldable pub wrote_of : Out ℕ → ℕ
+wrote_of (Ok n) = n
+wrote_of (Err r) = 0
 
 -- a chain was drawn: output, which was d and is e, begins with the bytes; both buffers are as long as they were
 pub record Ended (n : ℕ) (bs d e f g : List ℕ) : Type 0 where
@@ -123,7 +122,7 @@ pub record Ended (n : ℕ) (bs d e f g : List ℕ) : Type 0 where
   pub spare : length g ≡ length f
 
 -- and all else is zero
-pub record Finished (a : Answer) (bs d e f g : List ℕ) : Type 0 where
-  pub answer : a ≡ Wrote (length bs)
+pub record Finished (a : Out ℕ) (bs d e f g : List ℕ) : Type 0 where
+  pub answer : a ≡ Ok (length bs)
   pub output : e ≡ bs ++ replicate (length d - length bs) 0
   pub spare : g ≡ replicate (length f) 0

@@ -1,4 +1,4 @@
-use Rattle.std.proofs.Common.{refl, rules}
+use Rattle.std.proofs.Common.{refl}
 use lib.Ieee.{of_bits, round}
 use Rattle.fill.specs.Fill.{part_of}
 use Rattle.fill.proofs.part.Goals as goal

@@ -1,6 +1,6 @@
 -- What holds of a grid's tiles that were taken.
+use Rattle.std.specs.Prelude.{Ok}
 use Rattle.std.specs.Prelude.{List, ◌≡◌, ◌*◌, ◌<◌, ◌≤◌, ℕ, get_or}
-use Rattle.laws.specs.Out.{done}
 use Rattle.image.specs.Sound.{FormSound}
 use Rattle.records.specs.inner.Placed.{Sound}
 use Rattle.records.specs.Tray.{frames_at, no_frame}
@@ -17,7 +17,7 @@ pub record Alike (t m : Form) : Type 0 where
   pub depth : m.format.depth ≡ t.format.depth
 
 pub record TilesTaken (tray : List ℕ) (t : Tiles) : Type 0 where
-  pub taken : frames_at (count_of t.desc) tray t.first ≡ done (frames_in tray t)
+  pub taken : frames_at (count_of t.desc) tray t.first ≡ Ok (frames_in tray t)
   pub rows : (1 ≤ t.desc.rows) × (t.desc.rows ≤ 256)
   pub columns : (1 ≤ t.desc.columns) × (t.desc.columns ≤ 256)
   pub canvas : FormSound (canvas_form t.desc t.tile t.alpha)

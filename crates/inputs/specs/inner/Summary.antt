@@ -1,6 +1,8 @@
 -- What the functions of this crate hand to each other: what the inputs come to, and the alpha plane of a record.
+use Rattle.laws.specs.declared.Item.TheVariants.{Record}
+use Rattle.std.specs.Prelude.{Ok, Err}
 use Rattle.std.specs.Prelude.{◌&&◌, ◌||◌, false, not, List, [], ◌∷◌, ◌+◌, ℕ, eqb, leb, ltb}
-use Rattle.laws.specs.Out.{Out, and_then, done, refuse_item, refused}
+use Rattle.laws.specs.Out.{Out, and_then, refuse_item}
 use Rattle.laws.specs.Pick.{pick}
 use Rattle.image.specs.Format.{bytes_of, has_alpha, is_mono, needs444, odd, top_of}
 use Rattle.records.specs.Tray.{frames_at}
@@ -15,9 +17,7 @@ use Rattle.inputs.specs.Layers.{odd_offset}
 use Rattle.inputs.specs.declared.alpha_check.AlphaPlane.{AlphaPlane}
 use Rattle.inputs.specs.declared.read.InputSummary.{InputSummary}
 use Rattle.inputs.specs.declared.read.Plan.{Plan}
-use Rattle.inputs.specs.declared.read.PlanRead.{PlanRead}
 use Rattle.inputs.specs.Inputs.{other_depth_of}
-use Rattle.inputs.specs.declared.alpha_check.AlphaRead.{AlphaRead}
 
 unfoldable pub summarised : InputSummary → PixelFormat → Form → Placement → InputSummary
 summarised n f m o = record {
@@ -47,21 +47,12 @@ summary_form d f n = record {
   };
 }
 
-abbrev pub plan_out : PlanRead → Out Plan
-plan_out (PlanRead.Read q) = done q
-plan_out (PlanRead.Refused e) = refused e
-
 unfoldable pub summary_plan : OverlayDescriptor → ℕ → PixelFormat → List Frame → InputSummary → Out Plan
-summary_plan d first f frs n = refuse_item 1 (other_depth_of f) 14 frs (done (record { descriptor = d; first = first; form = summary_form d f n; alpha = n.alpha }))
+summary_plan d first f frs n = refuse_item Record (other_depth_of f) 14 frs (Ok (record { descriptor = d; first = first; form = summary_form d f n; alpha = n.alpha }))
 
 -- the records of a body that was taken
 unfoldable pub frames_plan : List ℕ → List ℕ → OverlayDescriptor → ℕ → PixelFormat → Out Plan
 frames_plan body tray d first f = and_then (frames_at d.count tray first) (λ frs. summary_plan d first f frs (summary_of body d f (empty_summary d) 0 frs))
-
--- what holding alpha samples to top answers
-abbrev pub alpha_out : AlphaRead → Out Unit
-alpha_out AlphaRead.Within = done tt
-alpha_out (AlphaRead.Refused e) = refused e
 
 -- a record's alpha plane: no rows where it has none, or cannot be read
 unfoldable pub no_alpha : ℕ → AlphaPlane
@@ -73,8 +64,8 @@ alpha_plane fr =
     (no_alpha fr.end)
 
 unfoldable pub alpha_plane_at : ℕ → Out Frame → AlphaPlane
-alpha_plane_at at (refused e) = no_alpha at
-alpha_plane_at at (done fr) = alpha_plane fr
+alpha_plane_at at (Err e) = no_alpha at
+alpha_plane_at at (Ok fr) = alpha_plane fr
 
 -- how many of a plane's rows are searched: none where samples of so many bytes cannot exceed top
 unfoldable pub searched_rows : ℕ → ℕ → ℕ → ℕ

@@ -9,8 +9,8 @@ use Rattle.means.specs.declared.sums.Pace.{Pace}
 use Rattle.means.specs.declared.sums.Stand.{Stand}
 use Rattle.sampling.specs.declared.raster.Axis.{Axis}
 use Rattle.sampling.specs.declared.raster.Raster.{Raster}
-use Rattle.sampling.specs.declared.raster.RowRule.{RowRule}
-use Rattle.sampling.specs.inner.Redraw.{RasterFits, RuleRowFits}
+use Rattle.sampling.specs.inner.Redraw.{AreaAxis}
+use Rattle.sampling.specs.inner.Sums.{FootIn}
 
 -- ---- quotients
 
@@ -45,9 +45,10 @@ pub record SumsHeld (sums d : List ℕ) (r : Raster) (down : Foot) (h : Held) : 
   pub held : (x : ℕ) → h.first ≤ x → x < h.past → get_or sums (x - h.first) 0 ≡ column_of d r down x
 
 -- a row of means whose column sums fit 32 bits
-pub record MeansFits (d : List ℕ) (r : Raster) (down : Foot) : Type 0 where
-  pub raster : RasterFits d r
-  pub row : RuleRowFits (RowRule.Area down) r.across r.down.from
+pub record MeansFits (r : Raster) (down : Foot) : Type 0 where
+  pub across : AreaAxis r.across
+  pub tall : FootIn down r.down.from
+  pub size : r.across.from * r.down.from ≤ 2 ^ 30
   pub short : down.end - down.start ≤ 65536
 
 -- columns of a row, whose samples times a weight are added to sums

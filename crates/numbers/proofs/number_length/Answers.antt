@@ -2,7 +2,6 @@ use mathlib.Core.Path.{ap}
 use lib.ListN.{length}
 use Rattle.numbers.proofs.Number.{bytes-last, bytes-more, bytes-short}
 use native.Mathlib.Omega.{arith}
-use borrow.Author.Rules.{rules}
 use Rattle.numbers.proofs.number_length.Goals as goal
 
 pub overflow_add-count : goal.overflow_add-count

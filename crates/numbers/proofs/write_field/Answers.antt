@@ -3,7 +3,6 @@ use mathlib.Core.Path.{◌≡◌}
 use Prim.Native.Nat.{◌%◌, ◌+◌, ◌/◌, ℕ}
 use native.Mathlib.Omega.{arith}
 use lib.ListN.{length-set}
-use borrow.Author.Rules.{rules}
 use Rattle.laws.proofs.Writing.{Writing, writing-begin, writing-done, writing-put, writing-to}
 use Rattle.numbers.proofs.Field.{big_endian_bytes-four, big_endian_bytes-two}
 use Rattle.numbers.specs.Field.{big_endian_bytes}

@@ -4,7 +4,6 @@ use lib.ListN.{length}
 use Rattle.laws.proofs.Writing.{writing-put, writing-done}
 use Rattle.numbers.proofs.Number.{bytes-last, bytes-more}
 use native.Mathlib.Omega.{arith}
-use borrow.Author.Rules.{rules}
 use Rattle.numbers.proofs.write_number.Goals as goal
 
 pub bounds-out-i : goal.bounds-out-i

@@ -1,5 +1,5 @@
 -- A canvas that is not halved, as its stripes are written.
-use Rattle.std.specs.Prelude.{false, List, ◌≡◌, ◌*◌, ◌+◌, ◌≤◌, ℕ, ltb}
+use Rattle.std.specs.Prelude.{Option, Some, false, List, ◌≡◌, ◌*◌, ◌+◌, ◌≤◌, ℕ, ltb}
 use Rattle.laws.specs.Pick.{pick}
 use Rattle.laws.specs.Puts.{puts}
 use Rattle.image.specs.Format.{bytes_of, half_x, half_y, has_part, top_of}
@@ -14,6 +14,7 @@ use Rattle.inputs.specs.declared.read.Plan.{Plan}
 use Rattle.blend.specs.Overlay.{backdrop, over_all, place_at, unpremultiply}
 use Rattle.blend.specs.declared.over.Stripe.{Stripe}
 use Rattle.blend.specs.inner.Stripe.{across_at, down_at}
+use Rattle.blocks.specs.declared.list.Entry.{Entry}
 use Rattle.blocks.specs.inner.Listed.{Listed, Whole}
 use Rattle.overlay.specs.declared.draw.Backdrop.{Backdrop}
 use Rattle.overlay.specs.inner.Block.{PlanSound, backdrop_fill}
@@ -59,12 +60,12 @@ pub record RunReady (q : Plan) (r : Stripe) : Type 0 where
   pub whole : Whole r
 
 -- a stripe, whose inputs are listed
-pub record StripeReady (body tray list : List ℕ) (q : Plan) (g : Backdrop) (r : Stripe) (e : List ℕ) (n : ℕ) : Type 0 where
+pub record StripeReady (body tray list : List ℕ) (q : Plan) (g : Backdrop) (r : Stripe) (e : List Entry) (inputs : Option ℕ) : Type 0 where
   pub canvas : CanvasReady body tray list q g
   pub run : RunReady q r
-  pub listed : n ≤ 1024 → Listed body tray q.descriptor q.first r.columns r.start r.count e n
+  pub listed : (n : ℕ) → inputs ≡ Some n → Listed body tray q.descriptor q.first r.columns r.start r.count e n
 
 -- a block, whose inputs are listed
-pub record BlockReady (body tray : List ℕ) (q : Plan) (start count : ℕ) (e : List ℕ) (n : ℕ) : Type 0 where
+pub record BlockReady (body tray : List ℕ) (q : Plan) (start count : ℕ) (e : List Entry) (inputs : Option ℕ) : Type 0 where
   pub ends : start + count ≤ q.form.height * q.form.width
-  pub listed : n ≤ 1024 → Listed body tray q.descriptor q.first q.form.width start count e n
+  pub listed : (n : ℕ) → inputs ≡ Some n → Listed body tray q.descriptor q.first q.form.width start count e n

@@ -1,6 +1,7 @@
 -- A chain whose form was judged.
+use Rattle.std.specs.Prelude.{Ok}
 use Rattle.std.specs.Prelude.{List, ◌≡◌, ◌≤◌, ℕ}
-use Rattle.laws.specs.Out.{Out, and_then, done}
+use Rattle.laws.specs.Out.{Out, and_then}
 use Rattle.props.specs.Chain.{chain_at, count_at, entries_at}
 use Rattle.props.specs.declared.chain.Chain.{Chain}
 use Rattle.props.specs.declared.entry.PropertyEntry.{PropertyEntry}
@@ -13,4 +14,4 @@ judged_at s at = and_then (chain_at s at) (λ es. count_at s at)
 pub record Judged (s : List ℕ) (c : Chain) : Type 0 where
   pub bounded : c.count ≤ 256
   pub entries : List PropertyEntry
-  pub read : entries_at c.count s c.first ≡ done entries
+  pub read : entries_at c.count s c.first ≡ Ok entries

@@ -1,5 +1,5 @@
 -- What the writer draws: a picture of another form whose samples a rule works out from another's, plane by plane.
-use Rattle.std.specs.Prelude.{Bool, ◌&&◌, false, true, List, ◌≡◌, ◌%◌, ◌*◌, ◌+◌, ◌<◌, ◌^◌, ◌≤◌, ℕ, eqb, length}
+use Rattle.std.specs.Prelude.{Bool, ◌&&◌, false, true, List, ◌≡◌, ◌%◌, ◌*◌, ◌+◌, ◌<◌, ◌^◌, ◌≤◌, ℕ, eqb, length, ⊤}
 use Rattle.laws.specs.Span.{span}
 use Rattle.planes.specs.Bytes.{sample_in, samples_of}
 use Rattle.image.specs.Format.{bytes_of, columns_of, has_part, rows_of, has_size}
@@ -11,7 +11,6 @@ use Rattle.image.specs.declared.size.Size.{Size}
 use Rattle.sampling.specs.Area.{area_mean, foot_of}
 use Rattle.sampling.specs.inner.Sums.{FootIn}
 use Rattle.sampling.specs.Depth.{level_of}
-use Rattle.sampling.specs.inner.Depths.{DepthsFit}
 use Rattle.sampling.specs.Nearest.{near_place}
 use Rattle.sampling.specs.declared.depth.Depths.{Depths}
 use Rattle.sampling.specs.declared.raster.Axis.{Axis}
@@ -83,11 +82,11 @@ pub record AreaAxis (a : Axis) : Type 0 where
 
 -- what a rule asks of a plane's axes
 unfoldable pub RuleFits : Rule → Axis → Axis → Type 0
-RuleFits (Rule.Near k) across down = DepthsFit k
+RuleFits (Rule.Near k) across down = ⊤
 RuleFits Rule.Area across down = AreaAxis across × AreaAxis down × (across.from * down.from ≤ 2 ^ 30)
 
 unfoldable pub RuleRowFits : RowRule → Axis → ℕ → Type 0
-RuleRowFits (RowRule.Near k) across rows = DepthsFit k.depths × (k.y < rows)
+RuleRowFits (RowRule.Near k) across rows = k.y < rows
 RuleRowFits (RowRule.Area f) across rows = AreaAxis across × FootIn f rows × (across.from * rows ≤ 2 ^ 30)
 
 pub record RasterFits (d : List ℕ) (r : Raster) : Type 0 where

@@ -1,21 +1,20 @@
 use mathlib.Core.List.{List, ◌++◌}
-use Prim.Native.Nat.{◌+◌, ℕ}
-use native.Mathlib.Omega.{arith}
-use borrow.Author.Rules.{rules}
+use Prim.Native.Nat.{ℕ}
 use Rattle.laws.proofs.Writing.{Writing, writing-ended, writing-fits, writing-run, writing-whole}
 use Rattle.laws.specs.Pick.{pick}
 use Rattle.laws.specs.Utf8.{character_bytes, utf8}
 use Rattle.numbers.specs.Decimal.{decimal}
-use Rattle.sentence.specs.inner.Texts.{item_at, last_sort, sentence_at, text_at}
+use Rattle.sentence.proofs.Texts.{fits-as, stored-as}
+use Rattle.sentence.specs.inner.Texts.{item_at, reason_text_of, sentence_at}
 use Rattle.sentence.proofs.put_sentence.Goals as goal
-use Rattle.sentence.proofs.put_sentence.Goals.{After-copy_row-b, After-put_item-d, After-put_text-c, After-write_decimal-a, Start}
+use Rattle.sentence.proofs.put_sentence.Goals.{After-copy_row-b, After-put_item-d, After-copy_row-c, After-write_decimal-a, Start}
 
 -- how far the sentence is stored, and what of it is left
 abbrev Stored : Start → List ℕ → ℕ → List ℕ → Type 0
 Stored start d i left = Writing start.args.out.now 0 (sentence_at start.args.number start.args.sort start.args.index start.args.language) d i left
 
 abbrev reason_text : Start → List ℕ
-reason_text start = text_at (start.args.number + last_sort) start.args.language
+reason_text start = reason_text_of start.args.number start.args.language
 
 abbrev item_text : Start → List ℕ
 item_text start = item_at start.args.sort start.args.index start.args.language
@@ -34,15 +33,16 @@ w2 : (c : After-copy_row-b)
 unfolding utf8 character_bytes pick
 w2 c = writing-run (utf8 ": ") (w1 (goal.at.After-copy_row-b c).After-write_decimal-a) c.copy_row-b.ensures.0 c.copy_row-b.ensures.1
 
-w3 : (c : After-put_text-c)
-    → Stored (goal.at.After-put_text-c c).Start c.put_text-c.new.out c.put_text-c.result (item_text (goal.at.After-put_text-c c).Start ++ utf8 ".")
+w3 : (c : After-copy_row-c)
+    → Stored (goal.at.After-copy_row-c c).Start c.copy_row-c.new.out c.copy_row-c.result (item_text (goal.at.After-copy_row-c c).Start ++ utf8 ".")
 w3 c =
-    writing-run (reason_text (goal.at.After-put_text-c c).Start) (w2 (goal.at.After-put_text-c c).After-copy_row-b) c.put_text-c.ensures.0 c.put_text-c.ensures.1
+    let stored = stored-as _ _ _ _ _ _ c.reason_text.ensures c.copy_row-c.ensures in
+    writing-run (reason_text (goal.at.After-copy_row-c c).Start) (w2 (goal.at.After-copy_row-c c).After-copy_row-b) stored.0 stored.1
 
 w4 : (c : After-put_item-d)
     → Stored (goal.at.After-put_item-d c).Start c.put_item-d.new.out c.put_item-d.result (utf8 ".")
 w4 c =
-    writing-run (item_text (goal.at.After-put_item-d c).Start) (w3 (goal.at.After-put_item-d c).After-put_text-c) c.put_item-d.ensures.0 c.put_item-d.ensures.1
+    writing-run (item_text (goal.at.After-put_item-d c).Start) (w3 (goal.at.After-put_item-d c).After-copy_row-c) c.put_item-d.ensures.0 c.put_item-d.ensures.1
 
 pub write_decimal-a-requires : goal.write_decimal-a-requires
 write_decimal-a-requires c = writing-fits (decimal c.args.number) _ (w0 (goal.at.write_decimal-a-requires c).Start)
@@ -51,13 +51,13 @@ pub copy_row-b-requires : goal.copy_row-b-requires
 unfolding utf8 character_bytes pick
 copy_row-b-requires c = writing-fits (utf8 ": ") _ (w1 (goal.at.copy_row-b-requires c).After-write_decimal-a)
 
-pub put_text-c-requires : goal.put_text-c-requires
-put_text-c-requires c =
-    (omega (arith, c.requires.0.most), c.requires.0.spoken, writing-fits (reason_text (goal.at.put_text-c-requires c).Start) _ (w2 (goal.at.put_text-c-requires c).After-copy_row-b))
+pub copy_row-c-requires : goal.copy_row-c-requires
+copy_row-c-requires c =
+    fits-as _ _ _ _ c.reason_text.ensures (writing-fits (reason_text (goal.at.copy_row-c-requires c).Start) _ (w2 (goal.at.copy_row-c-requires c).After-copy_row-b))
 
 pub put_item-d-requires : goal.put_item-d-requires
 put_item-d-requires c =
-    (c.requires.0.listed, c.requires.0.spoken, writing-fits (item_text (goal.at.put_item-d-requires c).Start) _ (w3 (goal.at.put_item-d-requires c).After-put_text-c))
+    (c.requires.0.listed, c.requires.0.spoken, writing-fits (item_text (goal.at.put_item-d-requires c).Start) _ (w3 (goal.at.put_item-d-requires c).After-copy_row-c))
 
 pub copy_row-requires : goal.copy_row-requires
 unfolding utf8 character_bytes pick

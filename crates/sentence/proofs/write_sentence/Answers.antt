@@ -4,7 +4,6 @@ use Prim.Native.Nat.{◌≤◌, ℕ}
 use native.Mathlib.Nat.{zero-add}
 use native.Mathlib.Omega.{arith}
 use lib.ListN.{length, take}
-use borrow.Author.Rules.{rules}
 use Rattle.laws.proofs.Out.{done-answers, fitted-room, fitted_short, refused-answers}
 use Rattle.laws.specs.Out.{fitted}
 use Rattle.sentence.proofs.RunLaws.{run-known, run-no-language, run-no-number, run-no-sort, sentence-short}
@@ -12,6 +11,7 @@ use Rattle.sentence.proofs.Texts.{fits-as, start-again, stored-as}
 use Rattle.sentence.specs.Sentence.{sentence_run}
 use Rattle.sentence.specs.inner.Texts.{Known, sentence_at}
 use Rattle.sentence.proofs.write_sentence.Goals as goal
+use Rattle.sentence.proofs.write_sentence.Goals.{then-number-lt1-via-then-number-lt1, then-number-lt1-via-else-number-lt1+then-number-gt-LAST_NUMBER, then-number-lt1-via-else-number-lt1+else-number-gt-LAST_NUMBER+then-sort-gt-LAST_SORT, then-number-lt1-via-else-number-lt1+else-number-gt-LAST_NUMBER+else-sort-gt-LAST_SORT+then-language-gt1}
 use Rattle.sentence.proofs.write_sentence.Goals.{After-put_sentence-end, Else-language-gt1, Else-out-end, Start}
 
 abbrev sentence_text : Start → List ℕ
@@ -39,19 +39,12 @@ room : (c : Else-out-end)
 room c = omega (arith, c.if-out-end.false, c.put_sentence-end.ensures.0)
 
 pub returns-then-number-lt1 : goal.returns-then-number-lt1
-returns-then-number-lt1 c = refused-answers _ _ _ (run-no-number c.args.number _ _ _ _ (λ a b. omega (arith, c.if-number-lt1.true)))
-
-pub returns-then-number-gt-LAST_NUMBER : goal.returns-then-number-gt-LAST_NUMBER
-returns-then-number-gt-LAST_NUMBER c =
-    refused-answers _ _ _ (run-no-number c.args.number _ _ _ _ (λ a b. omega (arith, c.if-number-gt-LAST_NUMBER.true)))
-
-pub returns-then-sort-gt-LAST_SORT : goal.returns-then-sort-gt-LAST_SORT
-returns-then-sort-gt-LAST_SORT c =
-    refused-answers _ _ _ (run-no-sort c.args.number c.args.sort _ _ _ (omega (arith, c.if-number-lt1.false)) (omega (arith, c.if-number-gt-LAST_NUMBER.false)) (λ a. omega (arith, c.if-sort-gt-LAST_SORT.true)))
-
-pub returns-then-language-gt1 : goal.returns-then-language-gt1
-returns-then-language-gt1 c =
-    refused-answers _ _ _ (run-no-language c.args.number c.args.sort _ _ _ (omega (arith, c.if-number-lt1.false)) (omega (arith, c.if-number-gt-LAST_NUMBER.false)) (omega (arith, c.if-sort-gt-LAST_SORT.false)) c.if-language-gt1.true)
+returns-then-number-lt1 c = refused-answers _ _ _ (elim c.then-number-lt1.branch [
+  | then-number-lt1-via-then-number-lt1 w ↦ run-no-number c.args.number _ _ _ _ (λ a b. omega (arith, w.if-number-lt1.true))
+  | then-number-lt1-via-else-number-lt1+then-number-gt-LAST_NUMBER w ↦ run-no-number c.args.number _ _ _ _ (λ a b. omega (arith, w.if-number-gt-LAST_NUMBER.true))
+  | then-number-lt1-via-else-number-lt1+else-number-gt-LAST_NUMBER+then-sort-gt-LAST_SORT w ↦ run-no-sort c.args.number c.args.sort _ _ _ (omega (arith, w.if-number-lt1.false)) (omega (arith, w.if-number-gt-LAST_NUMBER.false)) (λ a. omega (arith, w.if-sort-gt-LAST_SORT.true))
+  | then-number-lt1-via-else-number-lt1+else-number-gt-LAST_NUMBER+else-sort-gt-LAST_SORT+then-language-gt1 w ↦ run-no-language c.args.number c.args.sort _ _ _ (omega (arith, w.if-number-lt1.false)) (omega (arith, w.if-number-gt-LAST_NUMBER.false)) (omega (arith, w.if-sort-gt-LAST_SORT.false)) w.if-language-gt1.true
+])
 
 pub put_sentence-end-requires : goal.put_sentence-end-requires
 put_sentence-end-requires c = (known (goal.at.put_sentence-end-requires c).Else-language-gt1, omega (arith, short (goal.at.put_sentence-end-requires c).Else-language-gt1))

@@ -1,4 +1,3 @@
-use Prim.Native.Nat.{◌-◌}
 use Rattle.laws.specs.Out.{and_then}
 use Rattle.props.proofs.ChainLaws.{Along}
 use Rattle.props.specs.Chain.{entries_at}
@@ -10,6 +9,3 @@ abbrev pub invariant-loop-i : goal.invariant-loop-i
 invariant-loop-i l =
     Along sight_after l.essential_only l.count l.s (and_then (entries_at l.count l.s l.initial.next) (λ es. sight_of es l.essential_only l.width l.height)) l.i l.next l.reached
     × Bounded l.reached.area
-
-abbrev pub decreases-loop-i : goal.decreases-loop-i
-decreases-loop-i l = l.count - l.i

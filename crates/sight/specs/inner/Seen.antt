@@ -1,6 +1,7 @@
 -- What it means that a picture is what another shows to a sight.
+use Rattle.std.specs.Prelude.{Ok, Err}
 use Rattle.std.specs.Prelude.{true, ◌≡◌, ◌<◌, ℕ}
-use Rattle.laws.specs.Out.{Out, done, reason, refused}
+use Rattle.laws.specs.Out.{Out, reason}
 use Rattle.image.specs.Format.{has_part, Covers}
 use Rattle.planes.specs.Picture.{Pic, pixel}
 use Rattle.planes.specs.inner.Even.{Even}
@@ -42,5 +43,5 @@ pub record NamesPlace (P Q : Pic) (x y : ℕ) (l : Place) : Type 0 where
 
 -- what is answered at a final place: 18 exactly where it is outside Q
 unfoldable pub PlaceAgrees : Pic → Pic → ℕ → ℕ → Out Place → Type 0
-PlaceAgrees P Q x y (refused r) = (r ≡ reason 18) × (x < Q.form.width → y < Q.form.height → ⊥)
-PlaceAgrees P Q x y (done l) = NamesPlace P Q x y l
+PlaceAgrees P Q x y (Err r) = (r ≡ reason 18) × (x < Q.form.width → y < Q.form.height → ⊥)
+PlaceAgrees P Q x y (Ok l) = NamesPlace P Q x y l

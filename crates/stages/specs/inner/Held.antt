@@ -1,6 +1,7 @@
 -- What a property makes of a form, and whether a sight can hold it.
+use Rattle.std.specs.Prelude.{Ok}
 use Rattle.std.specs.Prelude.{Bool, ◌&&◌, false, not, true}
-use Rattle.laws.specs.Out.{Out, and_then, done}
+use Rattle.laws.specs.Out.{Out, and_then}
 use Rattle.laws.specs.Pick.{pick}
 use Rattle.image.specs.Format.{needs444, odd, sized}
 use Rattle.image.specs.declared.format.Form.{Form}
@@ -12,11 +13,11 @@ use Rattle.motions.specs.inner.Moves.{crop_move, turn_form}
 
 -- the form after a property
 unfoldable pub form_after : Property → Form → Out Form
-form_after Property.Other m = done m
-form_after (Property.Clap c) m = and_then (resolve_of c m.width m.height) (λ k. done (crop_move m k.rect).form)
-form_after (Property.Irot k) m = done (turn_form m (quarter_of k.angle))
-form_after (Property.Imir k) m = done m
-form_after (Property.Iscl k) m = and_then (scale_of k m.width m.height) (λ z. done (sized m z.width z.height))
+form_after Property.Other m = Ok m
+form_after (Property.Clap c) m = and_then (resolve_of c m.width m.height) (λ k. Ok (crop_move m k.rect).form)
+form_after (Property.Irot k) m = Ok (turn_form m (quarter_of k.angle))
+form_after (Property.Imir k) m = Ok m
+form_after (Property.Iscl k) m = and_then (scale_of k m.width m.height) (λ z. Ok (sized m z.width z.height))
 
 -- any other property draws nothing
 unfoldable pub moves : Property → Bool

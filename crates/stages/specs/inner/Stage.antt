@@ -1,6 +1,7 @@
 -- What a chain has reached: a record in a buffer, or what a sight shows of it.
+use Rattle.std.specs.Prelude.{Ok}
 use Rattle.std.specs.Prelude.{false, not, true, List, ◌≡◌, ℕ}
-use Rattle.laws.specs.Out.{Out, and_then, done}
+use Rattle.laws.specs.Out.{Out, and_then}
 use Rattle.laws.specs.Pick.{pick}
 use Rattle.image.specs.Format.{odd}
 use Rattle.image.specs.declared.format.Form.{Form}
@@ -24,17 +25,17 @@ use Rattle.stages.specs.inner.Held.{form_after}
 
 -- what an operation writes of a record, where there is room
 unfoldable pub record_after : Property → List ℕ → Out (List ℕ)
-record_after Property.Other s = done s
+record_after Property.Other s = Ok s
 record_after (Property.Clap c) s =
-    and_then (record_of s) (λ fr. and_then (resolve_of c fr.form.width fr.form.height) (λ k. done (encode (crop (decode s fr) k.rect))))
-record_after (Property.Irot k) s = and_then (record_of s) (λ fr. done (turn_bytes s fr (quarter_of k.angle)))
-record_after (Property.Imir k) s = and_then (record_of s) (λ fr. done (encode (mirror (decode s fr) (odd k.axis))))
+    and_then (record_of s) (λ fr. and_then (resolve_of c fr.form.width fr.form.height) (λ k. Ok (encode (crop (decode s fr) k.rect))))
+record_after (Property.Irot k) s = and_then (record_of s) (λ fr. Ok (turn_bytes s fr (quarter_of k.angle)))
+record_after (Property.Imir k) s = and_then (record_of s) (λ fr. Ok (encode (mirror (decode s fr) (odd k.axis))))
 record_after (Property.Iscl k) s =
-    and_then (record_of s) (λ fr. and_then (scale_of k fr.form.width fr.form.height) (λ z. done (area_bytes s fr z.width z.height)))
+    and_then (record_of s) (λ fr. and_then (scale_of k fr.form.width fr.form.height) (λ z. Ok (area_bytes s fr z.width z.height)))
 
 -- what is answered where a step is not refused
 unfoldable pub Gives : {A : Type 0} → Out A → A → Type 0
-Gives {A} o r = (n : A) → o ≡ done n → r ≡ n
+Gives {A} o r = (n : A) → o ≡ Ok n → r ≡ n
 
 abbrev pub stage_pic : Stage → List ℕ → Pic
 stage_pic t bs = decode bs (tight_at t.from 0)
@@ -75,4 +76,4 @@ unfoldable pub stage_held : Stage → Form → Sight → Stage
 stage_held t m s = record { current = t.current; from = t.from; form = m; sight = s; shown = true }
 
 unfoldable pub HeldAfter : Property → Stage → Stage → Type 0
-HeldAfter p t r = (m : Form) (s : Sight) → form_after p t.form ≡ done m → sight_after p (sight_here t) ≡ done s → r ≡ stage_held t m s
+HeldAfter p t r = (m : Form) (s : Sight) → form_after p t.form ≡ Ok m → sight_after p (sight_here t) ≡ Ok s → r ≡ stage_held t m s

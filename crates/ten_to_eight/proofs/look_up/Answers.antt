@@ -2,7 +2,6 @@ use mathlib.Core.Path.{◌∙◌, ap}
 use Prim.Native.Nat.{ℕ}
 use native.Mathlib.Omega.{arith}
 use lib.ListN.{get_or}
-use borrow.Author.Rules.{rules}
 use Rattle.ten_to_eight.proofs.TableLaws.{looked-up}
 use Rattle.ten_to_eight.proofs.look_up.Goals as goal
 

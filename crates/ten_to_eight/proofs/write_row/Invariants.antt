@@ -1,4 +1,3 @@
-use Prim.Native.Nat.{◌-◌}
 use Rattle.laws.proofs.Writing.{Writing}
 use Rattle.laws.specs.Span.{span}
 use Rattle.planes.specs.Bytes.{sample_bytes}
@@ -7,7 +6,4 @@ use Rattle.ten_to_eight.specs.inner.Table.{eight_row}
 use Rattle.ten_to_eight.proofs.write_row.Given as goal
 
 abbrev pub invariant-loop-x : goal.invariant-loop-x
-invariant-loop-x l = Writing l.initial.out l.at (raster_row l.plane l.r (eight_row l.y)) l.out l.i (span (λ u. sample_bytes l.r.to_bytes (raster_at l.plane l.r (eight_row l.y) u)) l.x l.n)
-
-abbrev pub decreases-loop-x : goal.decreases-loop-x
-decreases-loop-x l = l.n - l.x
+invariant-loop-x l = Writing l.initial.out l.at (raster_row l.s.plane.now l.s.raster (eight_row l.y)) l.out l.i (span (λ u. sample_bytes l.s.raster.to_bytes (raster_at l.s.plane.now l.s.raster (eight_row l.y) u)) l.x l.s.raster.across.to)

@@ -8,4 +8,4 @@ use Rattle.ten_to_eight.proofs.write_rows.Goals as goal
 pub write_by-requires : goal.write_by-requires
 unfolding ruled level_of rounded pick
 write_by-requires c =
-    (c.requires.0, c.requires.1, table_at _ refl refl, c.requires.2)
+    (c.requires.0, table_at _ refl refl, c.requires.1)

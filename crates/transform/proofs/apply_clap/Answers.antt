@@ -1,43 +1,35 @@
+use Rattle.std.specs.Prelude.{Ok}
 use mathlib.Core.Path.{◌∙◌, ◌≡◌, ap, sym}
 use lib.ListN.{length}
-use Rattle.laws.proofs.Out.{answers-as, refused-answers, then-refused}
-use Rattle.laws.specs.Out.{done, fitted}
+use Rattle.laws.proofs.Out.{answers-as}
+use Rattle.laws.specs.Out.{fitted}
 use Rattle.records.proofs.RecordLaws.{whole-sound}
 use Rattle.planes.specs.Bytes.{decode, encode}
-use Rattle.records.specs.Record.{frame_out, record_of}
-use Rattle.sizes.proofs.ApertureLaws.{refused-no-rect}
-use Rattle.sizes.specs.Aperture.{resolve_of, resolved_out}
-use Rattle.transform.proofs.Runs.{clap-drawn, clap-fits, clap-refused}
+use Rattle.records.specs.Record.{record_of}
+use Rattle.sizes.specs.Aperture.{resolve_of}
+use Rattle.transform.proofs.Runs.{clap-drawn, clap-fits}
 use Rattle.moves.specs.inner.Move.{moved}
-use Rattle.transform.specs.Run.{clap_run}
 use Rattle.moves.specs.declared.walk.Move.{Move}
 use Rattle.transform.proofs.apply_clap.Goals as goal
-use Rattle.transform.proofs.apply_clap.Goals.{In-Read, In-Rect}
+use Rattle.transform.proofs.apply_clap.Goals.{In_ok-frame, In-Ok}
 
-taken : (c : In-Read) → record_of c.args.«record».now ≡ done c.in-Read.f
-taken c = sym c.parse_record.ensures ∙ ap frame_out c.in-Read.is
+taken : (c : In_ok-frame) → record_of c.args.«record».now ≡ Ok c.in_ok-frame.frame
+taken c = sym c.parse_record.ensures ∙ c.in_ok-frame.was
 
-cut : (c : In-Rect)
-    → resolve_of c.args.clap c.in-Read.f.form.width c.in-Read.f.form.height ≡ done c.in-Rect.k
-cut c = sym c.resolve-found.ensures ∙ ap resolved_out c.in-Rect.is
+pub invariant_of-picture : goal.invariant_of-picture
+invariant_of-picture c = record { sound = (whole-sound _ _ (taken (goal.at.invariant_of-picture c).In_ok-frame)).0 }
 
-pub refusal-requires : goal.refusal-requires
-refusal-requires c = refused-no-rect _ c.in_default.field-0 c.in_default.is
-
-pub returns-in_default : goal.returns-in_default
-returns-in_default c = refused-answers _ _ _ (clap-refused _ _ (taken (goal.at.returns-in_default c).In-Read) _ _ _ (sym c.resolve-found.ensures ∙ ap resolved_out c.refusal.ensures))
+cut : (c : In-Ok)
+    → resolve_of c.args.clap c.in_ok-frame.frame.form.width c.in_ok-frame.frame.form.height ≡ Ok c.in-Ok.k
+cut c = sym c.resolve-found.ensures ∙ c.in-Ok.is
 
 pub draw-requires : goal.draw-requires
-draw-requires c = ((whole-sound _ _ (taken (goal.at.draw-requires c).In-Read)).0, rw c.crop_move.ensures (clap-fits _ _ (taken (goal.at.draw-requires c).In-Read) _ 0 _ (cut (goal.at.draw-requires c).In-Rect)))
+draw-requires c = rw c.crop_move.ensures (clap-fits _ _ (taken (goal.at.draw-requires c).In_ok-frame) _ 0 _ (cut (goal.at.draw-requires c).In-Ok))
 
-pub returns-in-Refused : goal.returns-in-Refused
-unfolding clap_run
-returns-in-Refused c = refused-answers _ _ _ (then-refused _ (sym c.parse_record.ensures ∙ ap frame_out c.in-Refused.is))
-
-pub returns-in-Rect : goal.returns-in-Rect
-returns-in-Rect c =
+pub returns : goal.returns
+returns c =
     answers-as _ _ _ _ _
-    (clap-drawn _ _ (taken (goal.at.returns-in-Rect c).In-Read) _ _ _ (cut (goal.at.returns-in-Rect c).In-Rect)
-    ∙ ap (λ (v : Move). fitted (length c.args.out.now) (encode (moved v (decode c.args.«record».now c.in-Read.f))))
+    (clap-drawn _ _ (taken (goal.at.returns c).In_ok-frame) _ _ _ (cut (goal.at.returns c).In-Ok)
+    ∙ ap (λ (v : Move). fitted (length c.args.out.now) (encode (moved v (decode c.args.«record».now c.in_ok-frame.frame))))
     (sym c.crop_move.ensures))
     c.draw.ensures

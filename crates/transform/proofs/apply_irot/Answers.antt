@@ -1,73 +1,79 @@
+use Rattle.std.specs.Prelude.{Ok}
 use mathlib.Core.Bool.{false, true}
 use mathlib.Core.List.{List}
 use mathlib.Core.Path.{◌∙◌, ◌≡◌, ap, sym}
 use Prim.Native.Nat.{ℕ}
+use native.Mathlib.Omega.{arith}
 use lib.ListN.{length}
-use Rattle.laws.proofs.Out.{answers-as, refused-answers, then-refused}
-use Rattle.laws.specs.Out.{Out, done, fitted}
+use Rattle.laws.proofs.Out.{answers-as}
+use Rattle.laws.specs.Out.{Out, fitted}
 use Rattle.records.proofs.RecordLaws.{whole-sound}
 use Rattle.planes.specs.Bytes.{decode, encode}
-use Rattle.records.specs.Record.{frame_out, record_of}
+use Rattle.records.specs.Record.{record_of}
 use Rattle.records.specs.inner.Placed.{Sound}
 use Rattle.motions.proofs.Fits.{half-fits, quarter-fits}
 use Rattle.transform.proofs.Runs.{turn-half, turn-left, turn-none, turn-right}
 use Rattle.moves.specs.inner.Move.{moved}
-use Rattle.transform.specs.Run.{irot_run}
 use Rattle.moves.specs.declared.walk.Move.{Move}
 use Rattle.transform.proofs.apply_irot.Goals as goal
-use Rattle.transform.proofs.apply_irot.Goals.{In-Read}
+use Rattle.transform.proofs.apply_irot.Goals.{In_ok-frame}
 
-taken : (c : In-Read) → record_of c.args.«record».now ≡ done c.in-Read.f
-taken c = sym c.parse_record.ensures ∙ ap frame_out c.in-Read.is
+taken : (c : In_ok-frame) → record_of c.args.«record».now ≡ Ok c.in_ok-frame.frame
+taken c = sym c.parse_record.ensures ∙ c.in_ok-frame.was
 
-sound : (c : In-Read) → Sound c.args.«record».now c.in-Read.f
+sound : (c : In_ok-frame) → Sound c.args.«record».now c.in_ok-frame.frame
 sound c = (whole-sound _ _ (taken c)).0
 
--- what a move draws
-drawn : (c : In-Read) → Move → Out (List ℕ)
-drawn c v = fitted (length c.args.out.now) (encode (moved v (decode c.args.«record».now c.in-Read.f)))
+pub invariant_of-picture : goal.invariant_of-picture
+invariant_of-picture c = record { sound = sound (goal.at.invariant_of-picture c).In_ok-frame }
 
-pub returns-then-quarter-eq0 : goal.returns-then-quarter-eq0
-returns-then-quarter-eq0 c =
-    answers-as _ _ _ _ _ (turn-none _ _ (taken (goal.at.returns-then-quarter-eq0 c).In-Read) _ c.args.irot c.if-quarter-eq0.true) c.hand_back.ensures
+pub invariant_of-picture-in-2 : goal.invariant_of-picture-in-2
+invariant_of-picture-in-2 c = record { sound = sound (goal.at.invariant_of-picture-in-2 c).In_ok-frame }
+
+pub invariant_of-picture-in_default : goal.invariant_of-picture-in_default
+invariant_of-picture-in_default c = record { sound = sound (goal.at.invariant_of-picture-in_default c).In_ok-frame }
+
+-- what a move draws
+drawn : (c : In_ok-frame) → Move → Out (List ℕ)
+drawn c v = fitted (length c.args.out.now) (encode (moved v (decode c.args.«record».now c.in_ok-frame.frame)))
+
+pub returns-in-0 : goal.returns-in-0
+returns-in-0 c =
+    answers-as _ _ _ _ _ (turn-none _ _ (taken (goal.at.returns-in-0 c).In_ok-frame) _ c.args.irot c.in-0.is) c.hand_back.ensures
 
 pub quarter_move-requires : goal.quarter_move-requires
-quarter_move-requires c = (sound (goal.at.quarter_move-requires c).In-Read).form
+quarter_move-requires c = (sound (goal.at.quarter_move-requires c).In_ok-frame).form
 
 pub draw-requires : goal.draw-requires
-draw-requires c = (sound (goal.at.draw-requires c).In-Read, rw c.quarter_move.ensures (quarter-fits _ true false (sound (goal.at.draw-requires c).In-Read).form))
+draw-requires c = rw c.quarter_move.ensures (quarter-fits _ true false (sound (goal.at.draw-requires c).In_ok-frame).form)
 
-pub returns-then-quarter-eq1 : goal.returns-then-quarter-eq1
+pub returns-in-1 : goal.returns-in-1
 unfolding drawn
-returns-then-quarter-eq1 c =
-    answers-as _ _ _ _ _ (turn-left _ _ (taken (goal.at.returns-then-quarter-eq1 c).In-Read) _ c.args.irot c.if-quarter-eq1.true ∙ ap (drawn (goal.at.returns-then-quarter-eq1 c).In-Read) (sym c.quarter_move.ensures))
+returns-in-1 c =
+    answers-as _ _ _ _ _ (turn-left _ _ (taken (goal.at.returns-in-1 c).In_ok-frame) _ c.args.irot c.in-1.is ∙ ap (drawn (goal.at.returns-in-1 c).In_ok-frame) (sym c.quarter_move.ensures))
     c.draw.ensures
 
 pub half_move-requires : goal.half_move-requires
-half_move-requires c = (sound (goal.at.half_move-requires c).In-Read).form
+half_move-requires c = (sound (goal.at.half_move-requires c).In_ok-frame).form
 
-pub draw-requires-then-quarter-eq2 : goal.draw-requires-then-quarter-eq2
-draw-requires-then-quarter-eq2 c = (sound (goal.at.draw-requires-then-quarter-eq2 c).In-Read, rw c.half_move.ensures (half-fits _ (sound (goal.at.draw-requires-then-quarter-eq2 c).In-Read).form))
+pub draw-requires-in-2 : goal.draw-requires-in-2
+draw-requires-in-2 c = rw c.half_move.ensures (half-fits _ (sound (goal.at.draw-requires-in-2 c).In_ok-frame).form)
 
-pub returns-then-quarter-eq2 : goal.returns-then-quarter-eq2
+pub returns-in-2 : goal.returns-in-2
 unfolding drawn
-returns-then-quarter-eq2 c =
-    answers-as _ _ _ _ _ (turn-half _ _ (taken (goal.at.returns-then-quarter-eq2 c).In-Read) _ c.args.irot c.if-quarter-eq2.true ∙ ap (drawn (goal.at.returns-then-quarter-eq2 c).In-Read) (sym c.half_move.ensures))
-    c.draw-then-quarter-eq2.ensures
+returns-in-2 c =
+    answers-as _ _ _ _ _ (turn-half _ _ (taken (goal.at.returns-in-2 c).In_ok-frame) _ c.args.irot c.in-2.is ∙ ap (drawn (goal.at.returns-in-2 c).In_ok-frame) (sym c.half_move.ensures))
+    c.draw-in-2.ensures
 
-pub quarter_move-requires-in-Read : goal.quarter_move-requires-in-Read
-quarter_move-requires-in-Read c = (sound (goal.at.quarter_move-requires-in-Read c).In-Read).form
+pub quarter_move-requires-in_default : goal.quarter_move-requires-in_default
+quarter_move-requires-in_default c = (sound (goal.at.quarter_move-requires-in_default c).In_ok-frame).form
 
-pub draw-requires-in-Read : goal.draw-requires-in-Read
-draw-requires-in-Read c = (sound (goal.at.draw-requires-in-Read c).In-Read, rw c.quarter_move-in-Read.ensures (quarter-fits _ false true (sound (goal.at.draw-requires-in-Read c).In-Read).form))
+pub draw-requires-in_default : goal.draw-requires-in_default
+draw-requires-in_default c = rw c.quarter_move-in_default.ensures (quarter-fits _ false true (sound (goal.at.draw-requires-in_default c).In_ok-frame).form)
 
-pub returns-in-Refused : goal.returns-in-Refused
-unfolding irot_run
-returns-in-Refused c = refused-answers _ _ _ (then-refused _ (sym c.parse_record.ensures ∙ ap frame_out c.in-Refused.is))
-
-pub returns-else-quarter-eq2 : goal.returns-else-quarter-eq2
+pub returns-in_default : goal.returns-in_default
 unfolding drawn
-returns-else-quarter-eq2 c =
+returns-in_default c =
     answers-as _ _ _ _ _
-    (turn-right _ _ (taken (goal.at.returns-else-quarter-eq2 c).In-Read) _ c.args.irot c.if-quarter-eq0.false c.if-quarter-eq1.false c.if-quarter-eq2.false ∙ ap (drawn (goal.at.returns-else-quarter-eq2 c).In-Read) (sym c.quarter_move-in-Read.ensures))
-    c.draw-in-Read.ensures
+    (turn-right _ _ (taken (goal.at.returns-in_default c).In_ok-frame) _ c.args.irot (λ e. omega arith) (λ e. omega arith) (λ e. omega arith) ∙ ap (drawn (goal.at.returns-in_default c).In_ok-frame) (sym c.quarter_move-in_default.ensures))
+    c.draw-in_default.ensures

@@ -9,13 +9,13 @@ use Rattle.moves.specs.inner.Move.{moved}
 use Rattle.transform.proofs.tighten.Goals as goal
 use Rattle.transform.proofs.tighten.Goals.{After-still_move}
 
-drawn : (c : After-still_move) → encode (moved c.still_move.result (decode c.args.record.now c.args.fr)) ≡ encode (decode c.args.record.now c.args.fr)
+drawn : (c : After-still_move) → encode (moved c.still_move.result (decode c.args.picture.«record».now c.args.picture.frame)) ≡ encode (decode c.args.picture.«record».now c.args.picture.frame)
 drawn c =
-    ap (λ (v : Move). encode (moved v (decode c.args.record.now c.args.fr))) c.still_move.ensures ∙ still-bytes _ _ c.requires.0.form
+    ap (λ (v : Move). encode (moved v (decode c.args.picture.«record».now c.args.picture.frame))) c.still_move.ensures ∙ still-bytes _ _ c.args.picture.sound.form
 
 pub write_moved-requires : goal.write_moved-requires
 write_moved-requires c =
-    (c.requires.0, rw c.still_move.ensures (still-fits _ c.requires.0.form), rw (drawn c) c.requires.1)
+    (rw c.still_move.ensures (still-fits _ c.args.picture.sound.form), rw (drawn c) c.requires)
 
 pub returns : goal.returns
 returns c =

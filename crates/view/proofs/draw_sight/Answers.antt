@@ -8,8 +8,8 @@ use Rattle.view.proofs.draw_sight.Goals as goal
 
 pub write_moved-requires : goal.write_moved-requires
 write_moved-requires c =
-    (c.requires.0, rw c.sight_move.ensures (shown-fits c.args.fr.form c.args.n c.args.s c.requires.1), le_trans (le_of_eq (ap (λ Q. length (encode Q)) (drawn-by c.args.«record».now c.args.fr c.args.n c.args.s _ c.sight_move.ensures) ∙ shown-size c.args.n c.args.s _)) c.requires.2)
+    (rw c.sight_move.ensures (shown-fits c.args.picture.frame.form c.args.n c.args.s c.requires.0), le_trans (le_of_eq (ap (λ Q. length (encode Q)) (drawn-by c.args.picture.«record».now c.args.picture.frame c.args.n c.args.s _ c.sight_move.ensures) ∙ shown-size c.args.n c.args.s _)) c.requires.1)
 
 pub returns : goal.returns
 returns c =
-    let e = drawn-by c.args.«record».now c.args.fr c.args.n c.args.s _ c.sight_move.ensures in (c.write_moved.ensures.0 ∙ ap (λ Q. length (encode Q)) e ∙ shown-size c.args.n c.args.s _, c.write_moved.ensures.1 ∙ ap (λ Q. puts c.args.out.now 0 (encode Q)) e)
+    let e = drawn-by c.args.picture.«record».now c.args.picture.frame c.args.n c.args.s _ c.sight_move.ensures in (c.write_moved.ensures.0 ∙ ap (λ Q. length (encode Q)) e ∙ shown-size c.args.n c.args.s _, c.write_moved.ensures.1 ∙ ap (λ Q. puts c.args.out.now 0 (encode Q)) e)

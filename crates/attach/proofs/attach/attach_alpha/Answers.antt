@@ -1,43 +1,43 @@
+use Rattle.std.specs.Prelude.{Ok}
 use mathlib.Core.List.{List}
-use mathlib.Core.Path.{◌∙◌, ◌≡◌, ap, sym}
+use mathlib.Core.Path.{◌∙◌, ◌≡◌, sym}
 use Prim.Native.Nat.{ℕ}
-use Rattle.laws.proofs.Out.{done-answers, fitted-room, fitted_short, refused-answers, then-refused}
-use Rattle.laws.specs.Out.{done}
-use Rattle.records.specs.Record.{frame_out, record_of}
-use Rattle.attach.proofs.AttachLaws.{attach-refused, attach-run, whole_of}
-use Rattle.attach.specs.Attach.{attach_bytes, attach_run}
+use Rattle.laws.proofs.Out.{done-answers, fitted-room, fitted_short, refused-answers}
+use Rattle.records.proofs.RecordLaws.{whole-sound}
+use Rattle.records.specs.Record.{record_of}
+use Rattle.attach.proofs.AttachLaws.{attach-run, record-short}
+use Rattle.attach.specs.Attach.{attach_bytes}
 use Rattle.attach.proofs.attach.attach_alpha.Goals as goal
-use Rattle.attach.proofs.attach.attach_alpha.Goals.{After-attached_size, In-Read, In-Read-parse_record}
+use Rattle.attach.proofs.attach.attach_alpha.Goals.{After-attached_size, In_ok-f, In_ok-g}
 
-taken : (c : In-Read) → record_of c.args.master.now ≡ done c.in-Read.f
-taken c = sym c.parse_record.ensures ∙ ap frame_out c.in-Read.is
+taken : (c : In_ok-f) → record_of c.args.master.now ≡ Ok c.in_ok-f.f
+taken c = sym c.parse_record.ensures ∙ c.in_ok-f.was
 
-taken2 : (c : In-Read-parse_record)
-    → record_of c.args.alpha.now ≡ done c.in-Read-parse_record.g
-taken2 c = sym c.parse_record-in-Read.ensures ∙ ap frame_out c.in-Read-parse_record.is
+taken2 : (c : In_ok-g)
+    → record_of c.args.alpha.now ≡ Ok c.in_ok-g.g
+taken2 c = sym c.parse_record-2.ensures ∙ c.in_ok-g.was
 
 abbrev bs : (c : After-attached_size) → List ℕ
 bs c =
-    attach_bytes c.args.master.now c.in-Read.f c.args.alpha.now c.in-Read-parse_record.g
+    attach_bytes c.args.master.now c.in_ok-f.f c.args.alpha.now c.in_ok-g.g
 
-pub attached_size-requires : goal.attached_size-requires
-attached_size-requires c = (whole_of _ _ (taken (goal.at.attached_size-requires c).In-Read), whole_of _ _ (taken2 c))
+pub invariant_of-picture : goal.invariant_of-picture
+invariant_of-picture c = record { sound = (whole-sound _ _ (taken (goal.at.invariant_of-picture c).In_ok-f)).0 }
+
+pub invariant_of-other : goal.invariant_of-other
+invariant_of-other c = record { sound = (whole-sound _ _ (taken2 (goal.at.invariant_of-other c).In_ok-g)).0 }
+
+pub invariant_of-colours : goal.invariant_of-colours
+invariant_of-colours c = record { short = record-short _ _ (taken (goal.at.invariant_of-colours c).In_ok-f) }
+
+pub invariant_of-luma : goal.invariant_of-luma
+invariant_of-luma c = record { short = record-short _ _ (taken2 (goal.at.invariant_of-luma c).In_ok-g) }
 
 pub returns-then-out-attached_size : goal.returns-then-out-attached_size
-returns-then-out-attached_size c = refused-answers _ _ _ (attach-run _ _ (taken (goal.at.returns-then-out-attached_size c).In-Read) _ _ (taken2 (goal.at.returns-then-out-attached_size c).In-Read-parse_record) _ ∙ fitted_short _ (bs (goal.at.returns-then-out-attached_size c).After-attached_size) (rw (← c.attached_size.ensures) c.if-out-attached_size.true))
+returns-then-out-attached_size c = refused-answers _ _ _ (attach-run _ _ (taken (goal.at.returns-then-out-attached_size c).In_ok-f) _ _ (taken2 (goal.at.returns-then-out-attached_size c).In_ok-g) _ ∙ fitted_short _ (bs (goal.at.returns-then-out-attached_size c).After-attached_size) (rw (← c.attached_size.ensures) c.if-out-attached_size.true))
 
-pub write_attached-requires : goal.write_attached-requires
-write_attached-requires c = (whole_of _ _ (taken (goal.at.write_attached-requires c).In-Read), whole_of _ _ (taken2 (goal.at.write_attached-requires c).In-Read-parse_record), rw (← c.attached_size.ensures) c.if-out-attached_size.false)
-
-pub returns-in-Refused : goal.returns-in-Refused
-unfolding attach_run
-returns-in-Refused c = refused-answers _ _ _ (then-refused _ (sym c.parse_record.ensures ∙ ap frame_out c.in-Refused.is))
-
-pub returns-in-Refused-parse_record : goal.returns-in-Refused-parse_record
-returns-in-Refused-parse_record c = refused-answers _ _ _ (attach-refused _ _ (taken (goal.at.returns-in-Refused-parse_record c).In-Read) _ _ _ (sym c.parse_record-in-Read.ensures ∙ ap frame_out c.in-Refused-parse_record.is))
-
-pub returns-else-out-attached_size : goal.returns-else-out-attached_size
-returns-else-out-attached_size c =
+pub returns : goal.returns
+returns c =
     let h = rw c.attached_size.ensures at c.if-out-attached_size.false in
-    done-answers _ (bs (goal.at.returns-else-out-attached_size c).After-attached_size) _ _ _ (attach-run _ _ (taken (goal.at.returns-else-out-attached_size c).In-Read) _ _ (taken2 (goal.at.returns-else-out-attached_size c).In-Read-parse_record) _ ∙ fitted-room _ _ h) h
+    done-answers _ (bs (goal.at.returns c).After-attached_size) _ _ _ (attach-run _ _ (taken (goal.at.returns c).In_ok-f) _ _ (taken2 (goal.at.returns c).In_ok-g) _ ∙ fitted-room _ _ h) h
     c.write_attached.ensures.0 c.write_attached.ensures.1

@@ -3,7 +3,6 @@ use mathlib.Core.Path.{◌∙◌, ap}
 use Prim.Native.Nat.{◌+◌, ◌≤◌, ℕ}
 use native.Mathlib.Omega.{arith}
 use lib.ListN.{length, length-append}
-use borrow.Author.Rules.{rules}
 use Rattle.laws.proofs.Writing.{Writing, writing-fits, writing-last, writing-run, writing_start}
 use Rattle.laws.specs.Puts.{puts}
 use Rattle.numbers.specs.Number.{number_bytes}

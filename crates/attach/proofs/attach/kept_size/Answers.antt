@@ -1,5 +1,4 @@
 use native.Mathlib.Omega.{arith}
-use borrow.Author.Rules.{rules}
 use Rattle.attach.proofs.AttachLaws.{length-kept_plane}
 use Rattle.attach.proofs.attach.kept_size.Goals as goal
 

@@ -3,7 +3,6 @@ use mathlib.Core.Path.{◌∙◌, ◌≡◌, ap, sym}
 use Prim.Native.Nat.{◌*◌, ◌+◌, ℕ}
 use native.Mathlib.Omega.{arith}
 use lib.ListN.{get_or, length}
-use borrow.Author.Rules.{rules}
 use Rattle.laws.proofs.Span.{span-end, span-step}
 use Rattle.laws.proofs.Writing.{Writing, writing-as, writing-done, writing-fits, writing-run, writing_start}
 use Rattle.laws.specs.Puts.{puts}
@@ -31,12 +30,11 @@ going : (c : In-loop-k) → Writing c.args.out.now c.args.at
     (samples_of c.args.bytes (λ j. unpremultiply c.args.top 0 (get_or c.args.colour.now j 0) c.args.top) c.args.n)
     c.loop-k.out c.loop-k.i (item c c.loop-k.k ++ span (item c) (c.loop-k.k + 1) c.args.n)
 unfolding item
-going c = writing-as c.loop-k.invariant.2 (step c)
+going c = writing-as c.loop-k.invariant.1 (step c)
 
 pub loop-k-init : goal.loop-k-init
 unfolding samples_of
 loop-k-init c = (
-  omega arith,
   omega arith,
   writing_start _ _ _
       (omega (
@@ -47,10 +45,6 @@ loop-k-init c = (
             c.args.n c.requires.0 c.requires.1,
       )),
 )
-
-pub offset_bounds-colour-k : goal.offset_bounds-colour-k
-offset_bounds-colour-k c =
-    omega (arith, c.requires.2, c.loop-k-test.true)
 
 pub bounds-colour-k : goal.bounds-colour-k
 bounds-colour-k c =
@@ -63,8 +57,7 @@ put_sample-i-requires c =
 pub loop-k-preserved : goal.loop-k-preserved
 unfolding item
 loop-k-preserved c = (
-  omega (arith, c.loop-k-test.true),
-  omega (arith, c.put_sample-i.ensures.0, c.loop-k.invariant.1),
+  omega (arith, c.put_sample-i.ensures.0, c.loop-k.invariant.0),
   writing-run (item (goal.at.loop-k-preserved c).In-loop-k c.loop-k.k) (going (goal.at.loop-k-preserved c).In-loop-k)
       (c.put_sample-i.ensures.0 ∙ ap (λ (k : ℕ). c.loop-k.i + k) (sym (long (goal.at.loop-k-preserved c).In-loop-k)))
       (c.put_sample-i.ensures.1
@@ -73,7 +66,7 @@ loop-k-preserved c = (
 
 pub returns : goal.returns
 returns c =
-    let e : c.loop-k.k ≡ c.args.n = omega (arith, c.loop-k.invariant.0, c.loop-k-test.false) in (
-      c.loop-k.invariant.1 ∙ ap (λ (x : ℕ). c.args.at + x * c.args.bytes) e,
-      (writing-done (writing-as c.loop-k.invariant.2 (span-end _ _ _ c.loop-k-test.false))).1,
+    let e : c.loop-k.k ≡ c.args.n = omega (arith, c.loop-k-test.false) in (
+      c.loop-k.invariant.0 ∙ ap (λ (x : ℕ). c.args.at + x * c.args.bytes) e,
+      (writing-done (writing-as c.loop-k.invariant.1 (span-end _ _ _ c.loop-k-test.false))).1,
     )

@@ -1,5 +1,5 @@
 use mathlib.Core.Path.{◌≡◌}
-use Prim.Native.Nat.{◌*◌, ◌+◌, ◌-◌, ◌≤◌}
+use Prim.Native.Nat.{◌*◌, ◌+◌}
 use lib.ListN.{get_or}
 use Rattle.laws.proofs.Writing.{Writing}
 use Rattle.laws.specs.Span.{span}
@@ -8,9 +8,6 @@ use Rattle.blend.specs.Overlay.{final_sample}
 use Rattle.blend.proofs.finish.write_run.Given as goal
 
 abbrev pub invariant-loop-k : goal.invariant-loop-k
-invariant-loop-k l = (l.k ≤ l.n) × (l.i ≡ l.at + l.k * l.bytes)
+invariant-loop-k l = (l.i ≡ l.at + l.k * l.bytes)
     × Writing l.initial.out l.at (samples_of l.bytes (λ j. final_sample l.top l.part l.fill (get_or l.colour j 0) (get_or l.opacity j 0)) l.n) l.out l.i
     (span (λ j. sample_bytes l.bytes (final_sample l.top l.part l.fill (get_or l.colour j 0) (get_or l.opacity j 0))) l.k l.n)
-
-abbrev pub decreases-loop-k : goal.decreases-loop-k
-decreases-loop-k l = l.n - l.k

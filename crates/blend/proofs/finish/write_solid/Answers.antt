@@ -1,39 +1,28 @@
-use mathlib.Core.Path.{◌∙◌, ◌≡◌, ap, ap₂, sym}
-use Prim.Native.Nat.{◌*◌, ◌+◌, ℕ}
+use mathlib.Core.Path.{◌≡◌, sym}
+use Prim.Native.Nat.{◌*◌, ◌+◌, ◌≤◌}
 use native.Mathlib.Omega.{arith}
-use lib.ListN.{get_or}
-use borrow.Author.Rules.{rules}
-use Rattle.laws.proofs.Order.{positive}
-use Rattle.laws.specs.Puts.{puts}
-use Rattle.planes.specs.Bytes.{samples_of}
-use Rattle.blend.specs.Overlay.{unpremultiply}
+use lib.ListN.{length}
+use borrow.Author.Tests.{le-leb, lt-leb}
+use Rattle.laws.proofs.Order.{pick-false, pick_true}
+use Rattle.blend.specs.inner.Row.{bytes_at}
 use Rattle.blend.proofs.finish.write_solid.Goals as goal
-use Rattle.blend.proofs.finish.write_solid.Goals.{Else-bytes-eq1}
 
-two : (c : Else-bytes-eq1) → c.args.bytes ≡ 2
-two c =
-    omega (arith, c.requires.0, c.requires.1, c.if-bytes-eq1.false)
+pub solid_samples-requires : goal.solid_samples-requires
+solid_samples-requires c =
+    let room : c.args.at + c.args.n * 1 ≤ length c.args.out.now = rw c.if-bytes-eq1.true at c.requires.3 in
+    let d = c.depth_of.ensures _ c.in-Some.is in
+    let e : 1 ≡ bytes_at c.in-Some.d = sym (pick_true _ _ _ (le-leb _ 8 (omega (arith, c.if-d-eq8.true)))) in
+    (c.requires.2, room, d.0, d.1, e, c.requires.4)
 
-pub solid_bytes-requires : goal.solid_bytes-requires
-solid_bytes-requires c =
-    (c.requires.2, omega (arith, c.requires.3, ap (λ (b : ℕ). c.args.n * b) c.if-bytes-eq1.true), rw c.if-top-eq255.true at c.requires.4)
+pub returns-then-d-eq8 : goal.returns-then-d-eq8
+returns-then-d-eq8 c = rw c.if-bytes-eq1.true c.solid_samples.ensures
 
-pub returns-then-top-eq255 : goal.returns-then-top-eq255
-returns-then-top-eq255 c =
-    let e : c.args.n * c.args.bytes ≡ c.args.n = ap (λ (b : ℕ). c.args.n * b) c.if-bytes-eq1.true ∙ omega arith in (
-      c.solid_bytes.ensures.0 ∙ ap (λ (k : ℕ). c.args.at + k) (sym e),
-      c.solid_bytes.ensures.1
-          ∙ sym (ap₂ (λ (b t : ℕ). puts c.args.out.now c.args.at (samples_of b (λ k. unpremultiply t 0 (get_or c.args.colour.now k 0) t) c.args.n)) c.if-bytes-eq1.true c.if-top-eq255.true),
-    )
+pub solid_samples-requires-then-d-gt8 : goal.solid_samples-requires-then-d-gt8
+solid_samples-requires-then-d-gt8 c =
+    let room : c.args.at + c.args.n * 2 ≤ length c.args.out.now = rw c.if-bytes-eq2.true at c.requires.3 in
+    let d = c.depth_of.ensures _ c.in-Some.is in
+    let e : 2 ≡ bytes_at c.in-Some.d = sym (pick-false _ _ _ (lt-leb _ 8 c.if-d-gt8.true)) in
+    (c.requires.2, room, d.0, d.1, e, c.requires.4)
 
-pub solid_pairs-requires : goal.solid_pairs-requires
-solid_pairs-requires c =
-    (c.requires.2, omega (arith, c.requires.3, ap (λ (b : ℕ). c.args.n * b) (two (goal.at.solid_pairs-requires c).Else-bytes-eq1)), c.depth_of-d.ensures (positive _ c.if-d-eq0.false), c.requires.4)
-
-pub returns : goal.returns
-returns c =
-    let e : c.args.n * c.args.bytes ≡ 2 * c.args.n = ap (λ (b : ℕ). c.args.n * b) (two (goal.at.returns c).Else-bytes-eq1) ∙ omega arith in (
-      c.solid_pairs.ensures.0 ∙ ap (λ (k : ℕ). c.args.at + k) (sym e),
-      c.solid_pairs.ensures.1
-          ∙ sym (ap (λ (b : ℕ). puts c.args.out.now c.args.at (samples_of b (λ k. unpremultiply c.args.top 0 (get_or c.args.colour.now k 0) c.args.top) c.args.n)) (two (goal.at.returns c).Else-bytes-eq1)),
-    )
+pub returns-then-d-gt8 : goal.returns-then-d-gt8
+returns-then-d-gt8 c = rw c.if-bytes-eq2.true c.solid_samples-then-d-gt8.ensures

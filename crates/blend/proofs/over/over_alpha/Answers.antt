@@ -1,5 +1,4 @@
 use native.Mathlib.Omega.{arith}
-use borrow.Author.Rules.{rules}
 use Rattle.inputs.proofs.BlendLaws.{share-small, under-small}
 use Rattle.blend.specs.Overlay.{over_alpha}
 use Rattle.blend.proofs.over.over_alpha.Goals as goal

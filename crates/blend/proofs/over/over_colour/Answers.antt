@@ -1,5 +1,4 @@
 use native.Mathlib.Omega.{arith}
-use borrow.Author.Rules.{rules}
 use Rattle.laws.specs.Pick.{pick}
 use Rattle.inputs.proofs.BlendLaws.{sample-product, share-small, under-small}
 use Rattle.blend.specs.Overlay.{over_colour}
@@ -27,18 +26,18 @@ pub returns-then-premultiplied : goal.returns-then-premultiplied
 unfolding over_colour pick
 returns-then-premultiplied c = rw (c.if-premultiplied.true, ← c.saturating_sub.ensures) c.min.ensures
 
-pub overflow_mul-m-2 : goal.overflow_mul-m-2
-overflow_mul-m-2 c = omega (arith, sample-product c.args.m c.args.a (omega arith) (omega arith))
+pub overflow_mul-m-else-premultiplied : goal.overflow_mul-m-else-premultiplied
+overflow_mul-m-else-premultiplied c = omega (arith, sample-product c.args.m c.args.a (omega arith) (omega arith))
 
-pub overflow_add-m-2 : goal.overflow_add-m-2
-overflow_add-m-2 c = omega (arith, sample-product c.args.m c.args.a (omega arith) (omega arith), share-small c.args.v c.args.top c.saturating_sub.result (omega arith) (omega arith) (omega (arith, c.saturating_sub.ensures)))
+pub overflow_add-m-else-premultiplied : goal.overflow_add-m-else-premultiplied
+overflow_add-m-else-premultiplied c = omega (arith, sample-product c.args.m c.args.a (omega arith) (omega arith), share-small c.args.v c.args.top c.saturating_sub.result (omega arith) (omega arith) (omega (arith, c.saturating_sub.ensures)))
 
-pub overflow_mul-t-2 : goal.overflow_mul-t-2
-overflow_mul-t-2 c = omega (arith, sample-product c.args.top c.args.top (omega arith) (omega arith))
+pub overflow_mul-t-else-premultiplied : goal.overflow_mul-t-else-premultiplied
+overflow_mul-t-else-premultiplied c = omega (arith, sample-product c.args.top c.args.top (omega arith) (omega arith))
 
-pub overflow_cast-result-2 : goal.overflow_cast-result-2
-overflow_cast-result-2 c = omega (arith, c.min-2.ensures, sample-product c.args.top c.args.top (omega arith) (omega arith))
+pub overflow_cast-result-else-premultiplied : goal.overflow_cast-result-else-premultiplied
+overflow_cast-result-else-premultiplied c = omega (arith, c.min-else-premultiplied.ensures, sample-product c.args.top c.args.top (omega arith) (omega arith))
 
-pub returns : goal.returns
+pub returns-else-premultiplied : goal.returns-else-premultiplied
 unfolding over_colour pick
-returns c = rw (c.if-premultiplied.false, ← c.saturating_sub.ensures) c.min-2.ensures
+returns-else-premultiplied c = rw (c.if-premultiplied.false, ← c.saturating_sub.ensures) c.min-else-premultiplied.ensures

@@ -1,17 +1,16 @@
 use mathlib.Core.Path.{◌∙◌, ap, refl}
 use Prim.Native.Nat.{◌+◌, ◌-◌, ◌/◌, ◌<◌, ◌≤◌, max, min}
 use native.Mathlib.Omega.{arith}
-use borrow.Author.Rules.{rules}
 use Rattle.opaque.specs.declared.axis.Stretch.{Stretch}
 use Rattle.opaque.specs.inner.Window.{stretch_of}
 use Rattle.blend.proofs.ReachLaws.{row-begins}
 use Rattle.blend.proofs.StripeLaws.{row-shown, rows-begin, rows_end, rows-held, rows_more}
 use Rattle.blend.proofs.over.over_input.Goals as goal
-use Rattle.blend.proofs.over.over_input.Goals.{After-loop-r, After-max-r, In-loop-r}
+use Rattle.blend.proofs.over.over_input.Goals.{After-loop-r, After-max-first, In-loop-r}
 
-begun : (c : After-max-r)
-    → (stretch_of c.args.run.half_down c.args.place.vertical c.args.fr.form.height).from ≤ c.max-r.result
-begun c = let e = ap (λ (q : Stretch). q.from) c.reach-down.ensures in omega (arith, e, c.max-r.ensures)
+begun : (c : After-max-first)
+    → (stretch_of c.args.run.half_down c.args.place.vertical c.args.fr.form.height).from ≤ c.max-first.result
+begun c = let e = ap (λ (q : Stretch). q.from) c.reach-down.ensures in omega (arith, e, c.max-first.ensures)
 
 deep_is : (c : In-loop-r)
     → c.loop-r.r < (stretch_of c.args.run.half_down c.args.place.vertical c.args.fr.form.height).to
@@ -35,16 +34,13 @@ overflow_sub-end c = omega (arith, c.requires.2.wide)
 pub nonzero_div-end : goal.nonzero_div-end
 nonzero_div-end c = omega (arith, c.requires.2.wide)
 
-pub nonzero_div-start : goal.nonzero_div-start
-nonzero_div-start c = omega (arith, c.requires.2.wide)
-
 pub loop-r-init : goal.loop-r-init
 loop-r-init c = (
-  begun c,
+  begun (goal.at.loop-r-init c).After-max-first,
   refl,
   λ j h. rows-begin c.args.tray.now c.args.fr c.args.place c.args.premultiplied c.args.part
       c.args.top c.args.run c.requires.2 j _ _
-      (c.max-r.ensures
+      (c.max-first.ensures
       ∙ ap (λ (q : Stretch). max q.from (c.args.run.start / c.args.run.columns)) c.reach-down.ensures),
 )
 
@@ -62,9 +58,6 @@ over_line-requires c = (
       c.args.top c.args.run c.requires.2 j _ _ c.loop-r.r c.requires.1
       (c.loop-r.invariant.2 j h) (c.requires.4 j h),
 )
-
-pub overflow_add-r : goal.overflow_add-r
-overflow_add-r c = omega (arith, c.loop-r-test.true)
 
 pub loop-r-preserved : goal.loop-r-preserved
 loop-r-preserved c = (

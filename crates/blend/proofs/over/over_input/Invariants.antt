@@ -1,5 +1,5 @@
 use mathlib.Core.Path.{◌≡◌}
-use Prim.Native.Nat.{◌+◌, ◌-◌, ◌/◌, ◌<◌, ◌≤◌, ℕ}
+use Prim.Native.Nat.{◌+◌, ◌/◌, ◌<◌, ◌≤◌, ℕ}
 use lib.Dec.{ltb}
 use lib.ListN.{get_or, length}
 use Rattle.laws.specs.Pick.{pick}
@@ -15,6 +15,3 @@ invariant-loop-r l =
     → get_or l.acc j 0
     ≡ pick (ltb ((l.run.start + j) / l.run.columns) l.r)
     (over_at l.top l.part (across_at l.run j) (down_at l.run j) (layer_with l.tray l.fr l.place l.premultiplied) (get_or l.initial.acc j 0)) (get_or l.initial.acc j 0))
-
-abbrev pub decreases-loop-r : goal.decreases-loop-r
-decreases-loop-r l = l.last - l.r

@@ -1,7 +1,6 @@
 use mathlib.Core.Path.{◌∙◌, ap}
 use Prim.Native.Nat.{◌*◌, ◌+◌, ◌-◌, ◌<◌, ◌≤◌}
 use native.Mathlib.Omega.{arith}
-use borrow.Author.Rules.{rules}
 use Rattle.laws.proofs.Order.{within}
 use Rattle.image.specs.declared.format.Part.TheVariants.{Alpha}
 use Rattle.opaque.proofs.WindowLaws.{stretch-small}

@@ -3,7 +3,6 @@ use Prim.Native.Nat.{◌*◌, ◌+◌, ◌-◌, ◌<◌, ◌^◌, ◌≤◌, ℕ
 use native.Mathlib.Nat.{mul-le-mul_right}
 use native.Mathlib.Omega.{arith}
 use lib.ListN.{get_or, length-set}
-use borrow.Author.Rules.{rules}
 use Rattle.laws.proofs.Order.{pick-false, within, within_none}
 use Rattle.laws.specs.Pick.{pick}
 use Rattle.blend.proofs.StripeLaws.{stored_more}
@@ -16,7 +15,7 @@ walked : (c : In-loop-i)
 walked c = (mul-le-mul_right c.args.step (omega (arith, c.loop-i-test.true)), c.requires.small)
 
 ended : (c : After-loop-i) → c.loop-i.i ≡ c.args.n
-ended c = omega (arith, c.loop-i.invariant.0, c.loop-i-test.false)
+ended c = omega (arith, c.loop-i-test.false)
 
 next : (c : After-over)
     → c.over.result
@@ -29,7 +28,7 @@ next c =
     rw (z, ← c.promoted-m.ensures, ← c.source_alpha-a.ensures) c.over.ensures
 
 pub loop-i-init : goal.loop-i-init
-loop-i-init c = (omega arith, refl, λ j. sym (pick-false _ _ _ (within_none c.args.k j)))
+loop-i-init c = (refl, λ j. sym (pick-false _ _ _ (within_none c.args.k j)))
 
 pub overflow_mul-u : goal.overflow_mul-u
 overflow_mul-u c = omega (arith, walked c)
@@ -44,39 +43,27 @@ pub source_alpha-a-requires : goal.source_alpha-a-requires
 source_alpha-a-requires c = c.requires.alphas c.loop-i.i c.loop-i-test.true
 
 pub overflow_add-at : goal.overflow_add-at
-overflow_add-at c = omega (arith, c.requires.bounded, c.loop-i-test.true, c.loop-i.invariant.1)
-
-pub offset_bounds-acc-at : goal.offset_bounds-acc-at
-offset_bounds-acc-at c = omega (arith, c.requires.bounded, c.loop-i-test.true, c.loop-i.invariant.1)
+overflow_add-at c = omega (arith, c.requires.bounded, c.loop-i-test.true, c.loop-i.invariant.0)
 
 pub bounds-acc-at : goal.bounds-acc-at
-bounds-acc-at c = omega (arith, c.requires.bounded, c.loop-i-test.true, c.loop-i.invariant.1)
+bounds-acc-at c = omega (arith, c.requires.bounded, c.loop-i-test.true, c.loop-i.invariant.0)
 
 pub over-requires : goal.over-requires
 over-requires c = c.requires.positive
 
-pub offset_bounds-acc-at-in-loop-i : goal.offset_bounds-acc-at-in-loop-i
-offset_bounds-acc-at-in-loop-i c =
-    omega (arith, c.requires.bounded, c.loop-i-test.true, c.loop-i.invariant.1)
-
-pub bounds-acc-at-in-loop-i : goal.bounds-acc-at-in-loop-i
-bounds-acc-at-in-loop-i c =
-    omega (arith, c.requires.bounded, c.loop-i-test.true, c.loop-i.invariant.1)
-
 pub loop-i-preserved : goal.loop-i-preserved
 loop-i-preserved c = (
-  search rules,
-  length-set c.loop-i.acc (c.args.k + c.loop-i.i) c.over.result ∙ c.loop-i.invariant.1,
+  length-set c.loop-i.acc (c.args.k + c.loop-i.i) c.over.result ∙ c.loop-i.invariant.0,
   stored_more c.args.acc.now c.loop-i.acc c.args.k c.loop-i.i c.over.result
       (λ j v. row_over c.args.plane.now c.args.alpha.now c.args.s
       (c.args.x + (j - c.args.k) * c.args.step) c.args.y v)
-      (omega (arith, c.requires.bounded, c.loop-i-test.true, c.loop-i.invariant.1)) c.loop-i.invariant.2 (next c),
+      (omega (arith, c.requires.bounded, c.loop-i-test.true, c.loop-i.invariant.0)) c.loop-i.invariant.1 (next c),
 )
 
 pub returns : goal.returns
 unfolding within
 returns c =
-    λ j. c.loop-i.invariant.2 j
+    λ j. c.loop-i.invariant.1 j
     ∙ ap (λ (i : ℕ). pick (within c.args.k i j)
     (row_over c.args.plane.now c.args.alpha.now c.args.s (c.args.x + (j - c.args.k) * c.args.step)
     c.args.y (get_or c.args.acc.now j 0))

@@ -19,6 +19,6 @@ returns-then-has c =
     c.bytes_per_sample.ensures
     ∙ sym (pick_true (has_alpha c.args.s.format) _ _ (sym c.has.ensures ∙ c.if-has.true))
 
-pub returns : goal.returns
+pub returns-else-has : goal.returns-else-has
 unfolding alpha_in has_part
-returns c = sym (pick-false _ _ _ (sym c.has.ensures ∙ c.if-has.false))
+returns-else-has c = sym (pick-false _ _ _ (sym c.has.ensures ∙ c.if-has.false))

@@ -3,7 +3,6 @@ use Prim.Native.Nat.{◌%◌, ◌*◌, ◌+◌, ◌-◌, ◌/◌, ◌<◌, ◌^�
 use native.Mathlib.Nat.{div-le_self, mod-eq_of_lt}
 use native.Mathlib.Omega.{arith}
 use lib.Pow.{pow_mono}
-use borrow.Author.Rules.{rules}
 use Rattle.laws.proofs.Order.{mul-below}
 use Rattle.image.specs.Format.{top_at}
 use Rattle.blend.proofs.TopLaws.{by-top, rest-small}

@@ -1,6 +1,5 @@
 use Prim.Native.Nat.{◌*◌, ◌-◌, ◌≤◌}
 use native.Mathlib.Omega.{arith}
-use borrow.Author.Rules.{rules}
 use Rattle.laws.proofs.Order.{mul-below}
 use Rattle.laws.specs.Pick.{pick}
 use Rattle.blend.specs.Overlay.{over_colour}
@@ -24,14 +23,14 @@ overflow_add-m c = omega (arith, under (goal.at.overflow_add-m c).Start, c.requi
 
 pub returns-then-premultiplied : goal.returns-then-premultiplied
 unfolding over_colour pick
-returns-then-premultiplied c = rw c.if-premultiplied.true c.least.ensures
+returns-then-premultiplied c = rw c.if-premultiplied.true c.min.ensures
 
-pub overflow_mul-m-2 : goal.overflow_mul-m-2
-overflow_mul-m-2 c = omega (arith, share (goal.at.overflow_mul-m-2 c).Start)
+pub overflow_mul-m-else-premultiplied : goal.overflow_mul-m-else-premultiplied
+overflow_mul-m-else-premultiplied c = omega (arith, share (goal.at.overflow_mul-m-else-premultiplied c).Start)
 
-pub overflow_add-m-2 : goal.overflow_add-m-2
-overflow_add-m-2 c = omega (arith, under (goal.at.overflow_add-m-2 c).Start, share (goal.at.overflow_add-m-2 c).Start)
+pub overflow_add-m-else-premultiplied : goal.overflow_add-m-else-premultiplied
+overflow_add-m-else-premultiplied c = omega (arith, under (goal.at.overflow_add-m-else-premultiplied c).Start, share (goal.at.overflow_add-m-else-premultiplied c).Start)
 
-pub returns : goal.returns
+pub returns-else-premultiplied : goal.returns-else-premultiplied
 unfolding over_colour pick
-returns c = rw c.if-premultiplied.false c.least-2.ensures
+returns-else-premultiplied c = rw c.if-premultiplied.false c.min-else-premultiplied.ensures

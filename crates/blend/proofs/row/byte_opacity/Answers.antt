@@ -1,6 +1,5 @@
 use Prim.Native.Nat.{◌*◌, ◌-◌, ◌≤◌}
 use native.Mathlib.Omega.{arith}
-use borrow.Author.Rules.{rules}
 use Rattle.laws.proofs.Order.{mul-below}
 use Rattle.blend.specs.Overlay.{over_alpha}
 use Rattle.blend.proofs.row.byte_opacity.Goals as goal
@@ -20,4 +19,4 @@ overflow_add-a c = omega (arith, under c, c.requires.0)
 
 pub returns : goal.returns
 unfolding over_alpha
-returns c = c.least.ensures
+returns c = c.min.ensures

@@ -1,35 +1,59 @@
-use mathlib.Core.Path.{◌∙◌, ◌≡◌, ap}
+use mathlib.Core.Path.{◌∙◌, ◌≡◌, ap, refl}
+use Prim.Native.Nat.{◌+◌, ◌≤◌, ℕ}
 use native.Mathlib.Omega.{arith}
-use borrow.Author.Rules.{rules}
-use borrow.Author.Tests.{lt-leb}
-use Rattle.laws.proofs.Order.{pick-false}
-use Rattle.laws.specs.Pick.{pick}
-use Rattle.image.specs.Format.{top_at}
-use Rattle.blend.specs.inner.Row.{bytes_at}
+use lib.ListN.{get_or, length-set}
+use Rattle.laws.proofs.Order.{mul-below}
+use Rattle.laws.specs.Puts.{Bytes}
+use Rattle.planes.specs.Bytes.{sample_in}
+use Rattle.blend.proofs.RowLaws.{depth-bytes, laid-held, laid_more, laid_none, sample-low}
+use Rattle.blend.specs.Overlay.{over_alpha}
+use Rattle.blend.proofs.row.opacity_row.Given.{Over}
 use Rattle.blend.proofs.row.opacity_row.Goals as goal
-use Rattle.blend.proofs.row.opacity_row.Goals.{Else-d-eq8, Then-d-eq8}
+use Rattle.blend.proofs.row.opacity_row.Goals.{In-loop-i, Start}
 
-byte : (c : Then-d-eq8) → (bytes_at c.args.d ≡ 1) × (c.args.top ≡ 255)
-unfolding pick
-byte c =
-    (ap bytes_at c.if-d-eq8.true, c.requires.2.same ∙ ap top_at c.if-d-eq8.true)
+few : (g : Over) (c : Start g) → (1 ≤ g.row.BYTES) × (g.row.BYTES ≤ 2)
+few g c = depth-bytes c.args.d g.row.BYTES c.requires.4
 
-pair : (c : Else-d-eq8) → bytes_at c.args.d ≡ 2
-pair c =
-    pick-false _ _ _ (lt-leb c.args.d 8 (omega (arith, c.requires.3, c.if-d-eq8.false)))
+-- what is laid of sample i
+abbrev laid : (g : Over) → Start g → ℕ → ℕ → ℕ
+laid g c i v = over_alpha c.args.top (sample_in c.args.alpha.now g.row.BYTES c.args.stride (c.args.x + i) c.args.y) v
 
-pub opacity_bytes-requires : goal.opacity_bytes-requires
-opacity_bytes-requires c =
-    (rw (byte (goal.at.opacity_bytes-requires c).Then-d-eq8).1 at c.requires.0, rw (byte (goal.at.opacity_bytes-requires c).Then-d-eq8).0 at c.requires.1)
+pub loop-i-init : goal.loop-i-init
+loop-i-init g c = (refl, laid_none c.args.acc.now c.args.k (laid g (goal.at.loop-i-init g c).Start))
 
-pub returns-then-d-eq8 : goal.returns-then-d-eq8
-returns-then-d-eq8 c =
-    λ j. rw ((byte (goal.at.returns-then-d-eq8 c).Then-d-eq8).0, (byte (goal.at.returns-then-d-eq8 c).Then-d-eq8).1) (c.opacity_bytes.ensures j)
+pub overflow_add-x : goal.overflow_add-x
+overflow_add-x g c =
+    omega (arith, c.requires.1.inside c.loop-i.i c.loop-i-test.true, mul-below (c.args.x + c.loop-i.i) g.row.BYTES (c.args.x + c.loop-i.i) 1 (omega arith) (few g (goal.at.overflow_add-x g c).Start).0)
 
-pub opacity_pairs-requires : goal.opacity_pairs-requires
-opacity_pairs-requires c =
-    (c.requires.0, rw (pair (goal.at.opacity_pairs-requires c).Else-d-eq8) at c.requires.1, c.requires.2)
+pub sample-a-requires : goal.sample-a-requires
+sample-a-requires g c =
+    let b = few g (goal.at.sample-a-requires g c).Start in (b.0, b.1, c.requires.1.inside c.loop-i.i c.loop-i-test.true)
+
+pub overflow_add-at : goal.overflow_add-at
+overflow_add-at g c = omega (arith, c.requires.0.bounded, c.loop-i-test.true, c.loop-i.invariant.0)
+
+pub bounds-acc-at : goal.bounds-acc-at
+bounds-acc-at g c = omega (arith, c.requires.0.bounded, c.loop-i-test.true, c.loop-i.invariant.0)
+
+pub sample_opacity-requires : goal.sample_opacity-requires
+unfolding Bytes
+sample_opacity-requires g c =
+    let b = few g (goal.at.sample_opacity-requires g c).Start in (
+      c.requires.2,
+      c.requires.3,
+      c.requires.4,
+      rw c.sample-a.ensures (sample-low _ _ _ _ _ (λ i. omega (arith, c.type_inv.alpha i)) b.0 b.1),
+      laid-held c.args.acc.now c.args.k (laid g (goal.at.sample_opacity-requires g c).Start) c.loop-i.acc c.loop-i.i c.loop-i.invariant.1 c.args.top _ c.requires.0 c.loop-i-test.true,
+    )
+
+pub loop-i-preserved : goal.loop-i-preserved
+loop-i-preserved g c = (
+  length-set c.loop-i.acc (c.args.k + c.loop-i.i) c.sample_opacity.result ∙ c.loop-i.invariant.0,
+  laid_more c.args.acc.now c.args.k (laid g (goal.at.loop-i-preserved g c).Start) c.loop-i.acc c.loop-i.i c.loop-i.invariant.1 c.sample_opacity.result
+      (omega (arith, c.requires.0.bounded, c.loop-i-test.true, c.loop-i.invariant.0))
+      (c.sample_opacity.ensures ∙ ap (λ (a : ℕ). over_alpha c.args.top a (get_or c.loop-i.acc (c.args.k + c.loop-i.i) 0)) c.sample-a.ensures),
+)
 
 pub returns : goal.returns
-returns c =
-    λ j. rw (pair (goal.at.returns c).Else-d-eq8) (c.opacity_pairs.ensures j)
+returns g c =
+    let e : c.loop-i.i ≡ c.args.n = omega (arith, c.loop-i-test.false) in rw e at c.loop-i.invariant.1

@@ -1,8 +1,7 @@
 use mathlib.Core.Path.{◌∙◌, ◌≡◌, ap}
-use Prim.Native.Nat.{◌*◌, ◌+◌, ◌-◌, ◌/◌, ◌<◌, ◌^◌, min, ℕ}
+use Prim.Native.Nat.{◌*◌, ◌+◌, ◌-◌, ◌/◌, ◌<◌, ◌^◌, ℕ}
 use native.Mathlib.Nat.{div-le_self}
 use native.Mathlib.Omega.{arith}
-use borrow.Author.Rules.{rules}
 use Rattle.laws.specs.Pick.{pick}
 use Rattle.image.specs.Format.{top_at}
 use Rattle.inputs.proofs.BlendLaws.{sample-product, under-small}
@@ -55,22 +54,22 @@ pub returns-then-premultiplied : goal.returns-then-premultiplied
 unfolding over_colour pick
 returns-then-premultiplied c = rw (c.if-premultiplied.true, ← (share (goal.at.returns-then-premultiplied c).After-by_top-under).0) c.min.ensures
 
-pub overflow_mul-m-2 : goal.overflow_mul-m-2
-overflow_mul-m-2 c =
-    omega (arith, square (goal.at.overflow_mul-m-2 c).Start)
+pub overflow_mul-m-else-premultiplied : goal.overflow_mul-m-else-premultiplied
+overflow_mul-m-else-premultiplied c =
+    omega (arith, square (goal.at.overflow_mul-m-else-premultiplied c).Start)
 
-pub overflow_add-m-2 : goal.overflow_add-m-2
-overflow_add-m-2 c =
-    omega (arith, square (goal.at.overflow_add-m-2 c).Start, share (goal.at.overflow_add-m-2 c).After-by_top-under)
+pub overflow_add-m-else-premultiplied : goal.overflow_add-m-else-premultiplied
+overflow_add-m-else-premultiplied c =
+    omega (arith, square (goal.at.overflow_add-m-else-premultiplied c).Start, share (goal.at.overflow_add-m-else-premultiplied c).After-by_top-under)
 
-pub overflow_mul-t-2 : goal.overflow_mul-t-2
-overflow_mul-t-2 c =
-    omega (arith, square (goal.at.overflow_mul-t-2 c).Start)
+pub overflow_mul-t-else-premultiplied : goal.overflow_mul-t-else-premultiplied
+overflow_mul-t-else-premultiplied c =
+    omega (arith, square (goal.at.overflow_mul-t-else-premultiplied c).Start)
 
-pub overflow_cast-result-2 : goal.overflow_cast-result-2
-overflow_cast-result-2 c =
-    omega (arith, c.min-2.ensures, square (goal.at.overflow_cast-result-2 c).Start)
+pub overflow_cast-result-else-premultiplied : goal.overflow_cast-result-else-premultiplied
+overflow_cast-result-else-premultiplied c =
+    omega (arith, c.min-else-premultiplied.ensures, square (goal.at.overflow_cast-result-else-premultiplied c).Start)
 
-pub returns : goal.returns
+pub returns-else-premultiplied : goal.returns-else-premultiplied
 unfolding over_colour pick
-returns c = rw (c.if-premultiplied.false, ← (share (goal.at.returns c).After-by_top-under).0) c.min-2.ensures
+returns-else-premultiplied c = rw (c.if-premultiplied.false, ← (share (goal.at.returns-else-premultiplied c).After-by_top-under).0) c.min-else-premultiplied.ensures

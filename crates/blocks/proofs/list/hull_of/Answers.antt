@@ -1,6 +1,5 @@
 use Prim.Native.Nat.{◌^◌, ◌≤◌}
 use native.Mathlib.Omega.{arith}
-use borrow.Author.Rules.{rules}
 use Rattle.laws.proofs.Order.{mul-below}
 use Rattle.blocks.proofs.HullLaws.{hull-worked}
 use Rattle.blocks.proofs.ListLaws.{stretch-small}

@@ -1,11 +1,8 @@
 use mathlib.Core.Path.{◌≡◌}
-use Prim.Native.Nat.{◌-◌, ◌≤◌}
+use Prim.Native.Nat.{◌≤◌}
 use lib.ListN.{length}
 use Rattle.blocks.specs.inner.Listed.{Listing}
 use Rattle.blocks.proofs.list.list_inputs.Given as goal
 
 abbrev pub invariant-loop-i : goal.invariant-loop-i
-invariant-loop-i l = (l.i ≤ l.d.count) × (length l.entries ≡ length l.initial.entries) × (l.n ≤ 1024) × Listing l.body l.tray l.d l.first l.columns l.start l.count l.entries l.n l.i l.at
-
-abbrev pub decreases-loop-i : goal.decreases-loop-i
-decreases-loop-i l = l.d.count - l.i
+invariant-loop-i l = (length l.entries ≡ length l.initial.entries) × (l.n ≤ 1024) × Listing l.body l.tray l.d l.first l.columns l.start l.count l.entries l.n l.i l.at

@@ -1,7 +1,6 @@
 use mathlib.Core.List.{List, ◌++◌}
 use Prim.Native.Nat.{ℕ}
 use native.Mathlib.Omega.{arith}
-use borrow.Author.Rules.{rules}
 use Rattle.laws.proofs.Writing.{Writing, writing-fits, writing-last, writing-run, writing_start}
 use Rattle.numbers.specs.Field.{big_endian_bytes}
 use Rattle.numbers.specs.inner.Length.{FieldLength}

@@ -2,7 +2,6 @@ use mathlib.Core.List.{List, ◌++◌, ◌∷◌}
 use Prim.Native.Nat.{◌≤◌, ℕ}
 use native.Mathlib.Omega.{arith}
 use lib.ListN.{length, length-set, set}
-use borrow.Author.Rules.{rules}
 use Rattle.laws.proofs.Writing.{Writing, writing-ended, writing-fits, writing-put, writing-run, writing-whole}
 use Rattle.derived.specs.Canvas.{field_bytes}
 use Rattle.bodies.proofs.FormLaws.{field-length, length-head}

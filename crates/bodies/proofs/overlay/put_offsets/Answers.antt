@@ -1,7 +1,6 @@
 use mathlib.Core.List.{List, ◌++◌}
-use Prim.Native.Nat.{◌*◌, ◌+◌, ℕ}
-use native.Mathlib.Omega.{arith}
-use lib.ListN.{get_or}
+use Prim.Native.Nat.{◌*◌, ◌+◌, ◌/◌, ℕ}
+use lib.ListN.{get_or, length}
 use Rattle.laws.proofs.Span.{span-end}
 use Rattle.laws.proofs.Writing.{Writing, writing-as, writing-done, writing-fits, writing-run, writing_start}
 use Rattle.laws.specs.Span.{span}
@@ -16,7 +15,7 @@ abbrev word : Start → ℕ → List ℕ
 word start k = big_endian_bytes start.args.bytes (get_or start.args.offsets.now k 0)
 
 abbrev words : Start → ℕ → List ℕ
-words start i = span (word_bytes start.args.bytes start.args.offsets.now) i start.args.count
+words start i = span (word_bytes start.args.bytes start.args.offsets.now) i (length start.args.offsets.now / 2)
 
 abbrev Stored : Start → List ℕ → ℕ → List ℕ → Type 0
 Stored start d i left = Writing start.args.out.now start.args.at (words start 0) d i left
@@ -24,7 +23,7 @@ Stored start d i left = Writing start.args.out.now start.args.at (words start 0)
 horizontal : (c : In-loop-i)
     → Stored (goal.at.In-loop-i c).Start c.loop-i.out c.loop-i.place (word (goal.at.In-loop-i c).Start (2 * c.loop-i.i) ++ (word (goal.at.In-loop-i c).Start (2 * c.loop-i.i + 1) ++ words (goal.at.In-loop-i c).Start (c.loop-i.i + 1)))
 horizontal c =
-    writing-as c.loop-i.invariant.1 (word_next c.args.bytes c.args.offsets.now c.loop-i.i c.args.count c.loop-i-test.true)
+    writing-as c.loop-i.invariant (word_next c.args.bytes c.args.offsets.now c.loop-i.i (length c.args.offsets.now / 2) c.loop-i-test.true)
 
 vertical : (c : After-write_field-middle)
     → Stored (goal.at.After-write_field-middle c).Start c.write_field-middle.new.out c.write_field-middle.result (word (goal.at.After-write_field-middle c).Start (2 * c.loop-i.i + 1) ++ words (goal.at.After-write_field-middle c).Start (c.loop-i.i + 1))
@@ -32,54 +31,20 @@ vertical c =
     writing-run (word (goal.at.After-write_field-middle c).Start (2 * c.loop-i.i)) (horizontal (goal.at.After-write_field-middle c).In-loop-i) c.write_field-middle.ensures.0 c.write_field-middle.ensures.1
 
 pub loop-i-init : goal.loop-i-init
-loop-i-init c = (omega arith, writing_start _ _ _ c.requires.2)
-
-pub overflow_mul-i : goal.overflow_mul-i
-overflow_mul-i c =
-    omega (arith, c.requires.1, c.loop-i.invariant.0, c.well_formed)
-
-pub offset_bounds-offsets-i : goal.offset_bounds-offsets-i
-offset_bounds-offsets-i c =
-    omega (arith, c.requires.1, c.loop-i.invariant.0, c.well_formed)
-
-pub bounds-offsets-i : goal.bounds-offsets-i
-bounds-offsets-i c =
-    omega (arith, c.requires.1, c.loop-i.invariant.0, c.well_formed)
+loop-i-init c = writing_start _ _ _ c.requires.1
 
 pub write_field-middle-requires : goal.write_field-middle-requires
 write_field-middle-requires c =
     (c.requires.0, writing-fits (word (goal.at.write_field-middle-requires c).Start (2 * c.loop-i.i)) _ (horizontal (goal.at.write_field-middle-requires c).In-loop-i))
 
-pub overflow_mul-i-in-loop-i : goal.overflow_mul-i-in-loop-i
-overflow_mul-i-in-loop-i c =
-    omega (arith, c.requires.1, c.loop-i.invariant.0, c.well_formed)
-
-pub overflow_add-i : goal.overflow_add-i
-overflow_add-i c =
-    omega (arith, c.requires.1, c.loop-i.invariant.0, c.well_formed)
-
-pub offset_bounds-offsets-i-in-loop-i : goal.offset_bounds-offsets-i-in-loop-i
-offset_bounds-offsets-i-in-loop-i c =
-    omega (arith, c.requires.1, c.loop-i.invariant.0, c.well_formed)
-
-pub bounds-offsets-i-in-loop-i : goal.bounds-offsets-i-in-loop-i
-bounds-offsets-i-in-loop-i c =
-    omega (arith, c.requires.1, c.loop-i.invariant.0, c.well_formed)
-
 pub write_field-place-requires : goal.write_field-place-requires
 write_field-place-requires c =
     (c.requires.0, writing-fits (word (goal.at.write_field-place-requires c).Start (2 * c.loop-i.i + 1)) _ (vertical (goal.at.write_field-place-requires c).After-write_field-middle))
 
-pub overflow_add-i-in-loop-i : goal.overflow_add-i-in-loop-i
-overflow_add-i-in-loop-i c = omega arith
-
-pub loop-i-smaller : goal.loop-i-smaller
-loop-i-smaller c = omega arith
-
 pub loop-i-preserved : goal.loop-i-preserved
 loop-i-preserved c =
-    (omega arith, writing-run (word (goal.at.loop-i-preserved c).Start (2 * c.loop-i.i + 1)) (vertical (goal.at.loop-i-preserved c).After-write_field-middle) c.write_field-place.ensures.0 c.write_field-place.ensures.1)
+    writing-run (word (goal.at.loop-i-preserved c).Start (2 * c.loop-i.i + 1)) (vertical (goal.at.loop-i-preserved c).After-write_field-middle) c.write_field-place.ensures.0 c.write_field-place.ensures.1
 
 pub returns : goal.returns
 returns c =
-    writing-done (writing-as c.loop-i.invariant.1 (span-end (word_bytes c.args.bytes c.args.offsets.now) c.loop-i.i c.args.count c.loop-i-test.false))
+    writing-done (writing-as c.loop-i.invariant (span-end (word_bytes c.args.bytes c.args.offsets.now) c.loop-i.i (length c.args.offsets.now / 2) c.loop-i-test.false))

@@ -1,25 +1,26 @@
+use Rattle.std.specs.Prelude.{Ok, Err}
 use mathlib.Core.Bool.{◌&&◌}
 use mathlib.Core.List.{List, ◌++◌}
-use mathlib.Core.Path.{◌∙◌, ◌≡◌, ap, ap₂, sym}
+use mathlib.Core.Path.{◌∙◌, ◌≡◌, ap, sym}
 use Prim.Native.Nat.{◌*◌, ◌/◌, ◌<◌, ◌^◌, ◌≤◌, ℕ}
 use native.Mathlib.Nat.{zero-add}
 use native.Mathlib.Omega.{arith}
+use lib.Dec.{eqb, ltb}
 use lib.ListN.{get_or, length, length-append}
 use borrow.Author.Rules.{rules}
 use Rattle.laws.proofs.Order.{mul-below}
-use Rattle.laws.proofs.Out.{done-answers, refused-answers}
+use Rattle.laws.proofs.Out.{done-answers, refused-answers, then-done, then-refused}
 use Rattle.laws.proofs.Writing.{Writing, writing-ended, writing-run, writing-whole}
-use Rattle.laws.specs.Out.{Out, and_then, done}
+use Rattle.laws.specs.Out.{Out, refuse}
 use Rattle.laws.specs.Span.{span}
 use Rattle.derived.specs.Canvas.{field_bytes}
 use Rattle.bodies.proofs.FormLaws.{field-length}
-use Rattle.bodies.proofs.RunLaws.{judged-then, overlay-done, overlay-judged, overlay-refused, overlay-short}
-use Rattle.bodies.specs.inner.Judged.{judged_out}
+use Rattle.bodies.proofs.RunLaws.{overlay-done, overlay-judged, overlay-refused, overlay-short}
 use Rattle.bodies.specs.inner.Words.{narrow_inputs, overlay_head, word_bytes}
 use Rattle.bodies.specs.Form.{flags_of, narrow_canvas}
 use Rattle.bodies.specs.Overlay.{OverlayFields, fields_in, overlay_body_run, overlay_judged}
 use Rattle.bodies.proofs.overlay.write_overlay.Goals as goal
-use Rattle.bodies.proofs.overlay.write_overlay.Goals.{After-field_bytes-bytes, After-first, After-flags_of-flags, After-put_head-at, After-shared_slice_known-1, Else-out-bytes, In-Taken, Start}
+use Rattle.bodies.proofs.overlay.write_overlay.Goals.{After-field_bytes-bytes, After-flags_of-flags, After-put_head-at, After-shared_slice_known-1, Else-out-bytes, In_ok-judge_count, Start}
 
 -- the fields, and with those flags what stands before the offsets and the offsets
 abbrev fields : Start → OverlayFields
@@ -34,12 +35,12 @@ words start flags = span (word_bytes (field_bytes flags) start.args.offsets.now)
 small : (c : After-shared_slice_known-1) (k : ℕ) → get_or c.args.offsets.now k 0 < 2 ^ 32
 small c k = omega (arith, c.type_inv.offsets k)
 
-judged : (c : After-first) → judged_out c.first.result ≡ overlay_judged (fields (goal.at.After-first c).Start)
-unfolding overlay_judged fields_in
-judged c = c.first.ensures ∙ ap₂ (λ (x y : Out Unit). and_then x (λ _. y)) c.judge_canvas-canvas.ensures c.judge_count-inputs.ensures ∙ judged-then _ tt _
+counted : (c : In_ok-judge_count) → ◌≡◌ {A = Out Unit} (refuse (ltb 65536 (length c.args.offsets.now / 2)) 4 (refuse (eqb (length c.args.offsets.now / 2) 0) 15 (Ok tt))) (Ok tt)
+counted c = sym c.judge_count.ensures ∙ c.in_ok-judge_count.was
 
-taken : (c : In-Taken) → overlay_judged (fields (goal.at.In-Taken c).Start) ≡ done tt
-taken c = sym (judged (goal.at.In-Taken c).After-first) ∙ ap judged_out c.in-Taken.is
+taken : (c : In_ok-judge_count) → overlay_judged (fields (goal.at.In_ok-judge_count c).Start) ≡ Ok tt
+unfolding overlay_judged fields_in
+taken c = then-done _ (sym c.judge.ensures ∙ c.in_ok-judge.was) ∙ counted c
 
 picked : (c : After-flags_of-flags)
     → c.flags_of-flags.result
@@ -51,14 +52,14 @@ few : (c : After-field_bytes-bytes)
 unfolding fields_in
 few c =
     let h : c.field_bytes-bytes.result ≤ 4 = omega (arith, c.field_bytes-bytes.ensures, field-length c.flags_of-flags.result) in
-    (h, mul-below 65536 8 _ _ (overlay-judged _ tt (taken (goal.at.After-field_bytes-bytes c).In-Taken)).2 (omega arith))
+    (h, mul-below 65536 8 _ _ (overlay-judged _ tt (taken (goal.at.After-field_bytes-bytes c).In_ok-judge_count)).2 (omega arith))
 
 -- the body fits, and is what the run comes to
 fits : (c : Else-out-bytes)
     → (length (head (goal.at.Else-out-bytes c).Start c.flags_of-flags.result ++ words (goal.at.Else-out-bytes c).Start c.flags_of-flags.result) ≤ length c.args.out.now)
-    × (overlay_body_run (fields (goal.at.Else-out-bytes c).Start) (length c.args.out.now) ≡ done (head (goal.at.Else-out-bytes c).Start c.flags_of-flags.result ++ words (goal.at.Else-out-bytes c).Start c.flags_of-flags.result))
+    × (overlay_body_run (fields (goal.at.Else-out-bytes c).Start) (length c.args.out.now) ≡ Ok (head (goal.at.Else-out-bytes c).Start c.flags_of-flags.result ++ words (goal.at.Else-out-bytes c).Start c.flags_of-flags.result))
 fits c =
-    overlay-done c.args.fill c.args.width c.args.height c.args.offsets.now (length c.args.out.now) tt (taken (goal.at.Else-out-bytes c).In-Taken) (small (goal.at.Else-out-bytes c).After-shared_slice_known-1) _
+    overlay-done c.args.fill c.args.width c.args.height c.args.offsets.now (length c.args.out.now) tt (taken (goal.at.Else-out-bytes c).In_ok-judge_count) (small (goal.at.Else-out-bytes c).After-shared_slice_known-1) _
     (picked (goal.at.Else-out-bytes c).After-flags_of-flags) (rw c.field_bytes-bytes.ensures at c.if-out-bytes.false)
 
 offsets : (c : After-put_head-at)
@@ -75,18 +76,18 @@ overflow_mul-bytes c = omega (arith, few c)
 pub overflow_add-bytes : goal.overflow_add-bytes
 overflow_add-bytes c = omega (arith, few c)
 
-pub overflow_mul-bytes-in-Taken : goal.overflow_mul-bytes-in-Taken
-overflow_mul-bytes-in-Taken c = omega (arith, few c)
+pub overflow_mul-bytes-2 : goal.overflow_mul-bytes-2
+overflow_mul-bytes-2 c = omega (arith, few c)
 
 pub overflow_mul-count : goal.overflow_mul-count
 overflow_mul-count c = omega (arith, few c)
 
-pub overflow_add-bytes-in-Taken : goal.overflow_add-bytes-in-Taken
-overflow_add-bytes-in-Taken c = omega (arith, few c)
+pub overflow_add-bytes-2 : goal.overflow_add-bytes-2
+overflow_add-bytes-2 c = omega (arith, few c)
 
 pub returns-then-out-bytes : goal.returns-then-out-bytes
 returns-then-out-bytes c =
-    refused-answers _ _ _ (overlay-short c.args.fill c.args.width c.args.height c.args.offsets.now _ tt (taken (goal.at.returns-then-out-bytes c).In-Taken) (small (goal.at.returns-then-out-bytes c).After-shared_slice_known-1) _ (picked (goal.at.returns-then-out-bytes c).After-flags_of-flags) (rw c.field_bytes-bytes.ensures at c.if-out-bytes.true))
+    refused-answers _ _ _ (overlay-short c.args.fill c.args.width c.args.height c.args.offsets.now _ tt (taken (goal.at.returns-then-out-bytes c).In_ok-judge_count) (small (goal.at.returns-then-out-bytes c).After-shared_slice_known-1) _ (picked (goal.at.returns-then-out-bytes c).After-flags_of-flags) (rw c.field_bytes-bytes.ensures at c.if-out-bytes.true))
 
 pub put_head-at-requires : goal.put_head-at-requires
 put_head-at-requires c =
@@ -94,12 +95,22 @@ put_head-at-requires c =
 
 pub put_offsets-requires : goal.put_offsets-requires
 put_offsets-requires c =
-    rw c.field_bytes-bytes.ensures (field-length c.flags_of-flags.result, omega arith, (offsets (goal.at.put_offsets-requires c).After-put_head-at).room)
+    rw c.field_bytes-bytes.ensures (field-length c.flags_of-flags.result, (offsets (goal.at.put_offsets-requires c).After-put_head-at).room)
 
-pub returns-in-Refused : goal.returns-in-Refused
-returns-in-Refused c =
-    refused-answers _ _ _ (overlay-refused (fields (goal.at.returns-in-Refused c).Start) _ _ (sym (judged (goal.at.returns-in-Refused c).After-first) ∙ ap judged_out c.in-Refused.is))
+pub returns-in_err-judge : goal.returns-in_err-judge
+unfolding overlay_judged fields_in
+returns-in_err-judge c =
+    let e : c.from_residual.result ≡ Err c.in_err-judge.field-0.0 = search rules in
+    rw e (refused-answers _ _ _ (overlay-refused (fields (goal.at.returns-in_err-judge c).Start) _ _ (then-refused _ (sym c.judge.ensures ∙ c.in_err-judge.was))))
 
-pub returns-else-out-bytes : goal.returns-else-out-bytes
-returns-else-out-bytes c =
-    let o = fits (goal.at.returns-else-out-bytes c).Else-out-bytes in let w = writing-ended (offsets (goal.at.returns-else-out-bytes c).After-put_head-at) (rw c.field_bytes-bytes.ensures at c.put_offsets.ensures.0) (rw c.field_bytes-bytes.ensures at c.put_offsets.ensures.1) in done-answers _ _ _ _ _ o.1 o.0 w.0 w.1
+pub returns-in_err-judge_count : goal.returns-in_err-judge_count
+unfolding overlay_judged fields_in
+returns-in_err-judge_count c =
+    let e : c.from_residual-in_err-judge_count.result ≡ Err c.in_err-judge_count.field-0.0 = search rules in
+    rw e (refused-answers _ _ _ (overlay-refused (fields (goal.at.returns-in_err-judge_count c).Start) _ _ (then-done _ (sym c.judge.ensures ∙ c.in_ok-judge.was) ∙ sym c.judge_count.ensures ∙ c.in_err-judge_count.was)))
+
+pub returns : goal.returns
+returns c =
+    let o = fits (goal.at.returns c).Else-out-bytes in
+    let w = writing-ended (offsets (goal.at.returns c).After-put_head-at) (rw c.field_bytes-bytes.ensures at c.put_offsets.ensures.0) (rw c.field_bytes-bytes.ensures at c.put_offsets.ensures.1) in
+    done-answers _ _ _ _ _ o.1 o.0 w.0 w.1

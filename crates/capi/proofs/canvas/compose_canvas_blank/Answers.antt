@@ -12,6 +12,6 @@ returns-then-state-lt1034 c = drawn-short _ _ _ _ _ (state-short _ _ c.if-state-
 pub returns : goal.returns
 unfolding blank_run
 returns c =
-    drawn-answers _ _ _ _ _ _ _ _ _
+    drawn-answers _ _ _ _ _ _ _ _
     (state-read _ _ c.if-state-lt1034.false ∙ ap (λ (s : Canvas). blank_of s c.args.index c.args.buffer.now) (sym c.canvas_of-canvas.ensures))
-    c.blank-called.ensures.0 c.keep.ensures c.blank-called.ensures.1
+    c.blank.ensures.0 c.keep.ensures c.blank.ensures.1

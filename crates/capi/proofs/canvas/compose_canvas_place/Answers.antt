@@ -12,7 +12,7 @@ returns-then-state-lt1034 c = drawn-short _ _ _ _ _ (state-short _ _ c.if-state-
 pub returns : goal.returns
 unfolding place_run
 returns c =
-    drawn-answers _ _ _ _ _ _ _ _ _
+    drawn-answers _ _ _ _ _ _ _ _
     (state-read _ _ c.if-state-lt1034.false
     ∙ ap (λ (s : Canvas). place_of s c.args.index c.args.record.now c.args.buffer.now) (sym c.canvas_of-canvas.ensures))
-    c.place-called.ensures.0 c.keep.ensures c.place-called.ensures.1
+    c.place.ensures.0 c.keep.ensures c.place.ensures.1

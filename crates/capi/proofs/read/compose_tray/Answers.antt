@@ -1,12 +1,11 @@
 use mathlib.Core.Path.{◌∙◌, ap, sym}
-use Rattle.records.specs.Tray.{tray_out}
 use Rattle.words.specs.Code.{code_of}
 use Rattle.capi.proofs.read.compose_tray.Goals as goal
 
-pub returns-in-Refused : goal.returns-in-Refused
+pub returns-in-Err : goal.returns-in-Err
 unfolding code_of
-returns-in-Refused c = c.refusal_code.ensures ∙ ap code_of (sym (ap tray_out c.in-Refused.is) ∙ c.check_tray.ensures)
+returns-in-Err c = c.refusal_code.ensures ∙ ap code_of (sym (c.in-Err.is) ∙ c.check_tray.ensures)
 
-pub returns-in-Read : goal.returns-in-Read
+pub returns-in-Ok : goal.returns-in-Ok
 unfolding code_of
-returns-in-Read c = ap code_of (sym (ap tray_out c.in-Read.is) ∙ c.check_tray.ensures)
+returns-in-Ok c = ap code_of (sym (c.in-Ok.is) ∙ c.check_tray.ensures)

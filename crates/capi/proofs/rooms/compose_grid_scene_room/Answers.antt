@@ -1,15 +1,9 @@
-use mathlib.Core.Path.{◌∙◌, ap, sym}
-use Rattle.scene_room.specs.Room.{room_out}
-use Rattle.words.specs.Code.{code_of}
+use mathlib.Core.Path.{◌∙◌, ap}
+use Rattle.words.proofs.CanvasLaws.{length-code}
+use Rattle.words.specs.Code.{answer_code}
 use Rattle.words.specs.Spots.{flag_of}
 use Rattle.capi.proofs.rooms.compose_grid_scene_room.Goals as goal
 
-pub returns-in-Refused : goal.returns-in-Refused
-unfolding flag_of code_of
-returns-in-Refused c =
-    c.refusal_code.ensures ∙ ap code_of (ap room_out (sym c.in-Refused.is) ∙ c.grid_room.ensures)
-
-pub returns-in-Room : goal.returns-in-Room
-unfolding flag_of code_of
-returns-in-Room c =
-    ap code_of (ap room_out (sym c.in-Room.is) ∙ c.grid_room.ensures)
+pub returns : goal.returns
+unfolding flag_of
+returns c = c.answer_code.ensures ∙ ap answer_code c.grid_room.ensures ∙ length-code _

@@ -1,7 +1,6 @@
 use mathlib.Core.Path.{◌∙◌, ◌≡◌, ap, ap₂, refl, sym}
 use Prim.Native.Nat.{◌*◌, ◌<◌, ◌^◌, ◌≤◌, ℕ}
 use native.Mathlib.Omega.{arith}
-use borrow.Author.Rules.{rules}
 use Rattle.laws.proofs.Order.{mul-below}
 use Rattle.image.proofs.FormLaws.{columns-le, height-le, rows-le, width-le}
 use Rattle.image.specs.Format.{bytes_of, columns_of, rows_of}
@@ -13,7 +12,7 @@ use Rattle.paste.proofs.HeadedLaws.{part-stride}
 use Rattle.cells.proofs.CellFits.{cell-low, cell-narrow, tile-row-le, worked-above, worked-at, worked-before, worked-cell}
 use Rattle.cells.specs.Cell.{no_cell, visible_of}
 use Rattle.cells.proofs.cell.cell_of.Goals as goal
-use Rattle.cells.proofs.cell.cell_of.Goals.{After-plane-plane, Else-down-eq0, Start}
+use Rattle.cells.proofs.cell.cell_of.Goals.{After-plane-plane, Else-down-eq0, Start, then-across-eq0-via-then-across-eq0, then-across-eq0-via-else-across-eq0+then-down-eq0}
 
 -- the numbers that were worked out
 module _ (c : Else-down-eq0) where
@@ -65,19 +64,19 @@ visible-down-requires c =
     omega (arith, c.rows-high.ensures)
 
 pub returns-then-across-eq0 : goal.returns-then-across-eq0
-unfolding columns_of no_cell
+unfolding columns_of rows_of no_cell
 returns-then-across-eq0 c =
-    sym (cell-narrow _ _ _ _ _
-    (sym (c.visible-across.ensures ∙ ap₂ (λ (a b : ℕ). visible_of a b c.args.column) c.columns.ensures c.columns-wide.ensures)
-    ∙ c.if-across-eq0.true))
-
-pub returns-then-down-eq0 : goal.returns-then-down-eq0
-unfolding rows_of no_cell
-returns-then-down-eq0 c =
-    sym (cell-low _ _ _ _ _
-    (sym (c.visible-down.ensures
-    ∙ ap₂ (λ (a b : ℕ). visible_of a b c.args.row) c.rows.ensures c.rows-high.ensures)
-    ∙ c.if-down-eq0.true))
+    elim c.then-across-eq0.branch [
+      | then-across-eq0-via-then-across-eq0 w ↦
+          sym (cell-narrow _ _ _ _ _
+          (sym (c.visible-across.ensures ∙ ap₂ (λ (a b : ℕ). visible_of a b c.args.column) c.columns.ensures c.columns-wide.ensures)
+          ∙ w.if-across-eq0.true))
+      | then-across-eq0-via-else-across-eq0+then-down-eq0 w ↦
+          sym (cell-low _ _ _ _ _
+          (sym (c.visible-down.ensures
+          ∙ ap₂ (λ (a b : ℕ). visible_of a b c.args.row) c.rows.ensures c.rows-high.ensures)
+          ∙ w.if-down-eq0.true))
+    ]
 
 pub overflow_mul-above : goal.overflow_mul-above
 overflow_mul-above c =

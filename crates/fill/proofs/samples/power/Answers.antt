@@ -1,4 +1,4 @@
-use Rattle.std.proofs.Common.{ℕ, ◌%◌, ◌^◌, ap, ◌∙◌, mod-eq_of_lt, one-mul, rules}
+use Rattle.std.proofs.Common.{ℕ, ◌%◌, ◌^◌, ap, ◌∙◌, mod-eq_of_lt, one-mul}
 use lib.Pow.{pow-lt}
 use Rattle.fill.proofs.samples.power.Goals as goal
 

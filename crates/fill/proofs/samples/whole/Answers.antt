@@ -1,4 +1,4 @@
-use Rattle.std.proofs.Common.{◌≡◌, ℕ, ◌+◌, ◌*◌, ◌/◌, ◌^◌, ◌<◌, ◌≤◌, sym, ap, ◌∙◌, subst, arith, lit<, le→leb, rules}
+use Rattle.std.proofs.Common.{◌≡◌, ℕ, ◌+◌, ◌*◌, ◌/◌, ◌^◌, ◌<◌, ◌≤◌, sym, ap, ◌∙◌, subst, arith, lit<, le→leb}
 use lib.Ieee.{in_float}
 use lib.Ieee.Positive.{den, num}
 use Rattle.fill.proofs.WholeLaws.{Plain, above_zero, answer-down, answer-top, answer-up, answer-zero, below_top, below-wide, ge-cross, half-value, lt-cross, part-is, part-lt, plain}
@@ -46,16 +46,16 @@ returns-then-x-half c =
     let h : num c.args.x * 2 < (c.truncating_f64_to_u64-t.result + c.truncating_f64_to_u64-t.result + 1) * den c.args.x = lt-cross c.args.x _ (c.truncating_f64_to_u64-t.result + c.truncating_f64_to_u64-t.result + 1) 2 (x-plain (goal.at.returns-then-x-half c).Then-x-top) (lit< tt) (half-value (c.truncating_f64_to_u64-t.result + c.truncating_f64_to_u64-t.result + 1) (omega arith) (omega (arith, small (goal.at.returns-then-x-half c).After-truncating_f64_to_u64-t, c.ranges.top))) c.if-x-half.true in
     part (goal.at.returns-then-x-half c).After-truncating_f64_to_u64-t ∙ answer-down c.args.x c.args.top (x-plain (goal.at.returns-then-x-half c).Then-x-top) (x_below (goal.at.returns-then-x-half c).Then-x-top) (subst (λ (k : ℕ). num c.args.x * 2 < (k + k + 1) * den c.args.x) (part (goal.at.returns-then-x-half c).After-truncating_f64_to_u64-t) h)
 
-pub overflow_cast-result-then-x-top : goal.overflow_cast-result-then-x-top
-overflow_cast-result-then-x-top c = omega (arith, small (goal.at.overflow_cast-result-then-x-top c).After-truncating_f64_to_u64-t, c.ranges.top)
+pub overflow_cast-result-else-x-half : goal.overflow_cast-result-else-x-half
+overflow_cast-result-else-x-half c = omega (arith, small (goal.at.overflow_cast-result-else-x-half c).After-truncating_f64_to_u64-t, c.ranges.top)
 
-pub returns-then-x-top : goal.returns-then-x-top
-returns-then-x-top c =
-    let h : (c.truncating_f64_to_u64-t.result + c.truncating_f64_to_u64-t.result + 1) * den c.args.x ≤ num c.args.x * 2 = ge-cross c.args.x _ (c.truncating_f64_to_u64-t.result + c.truncating_f64_to_u64-t.result + 1) 2 (x-plain (goal.at.returns-then-x-top c).Then-x-top) (lit< tt) (half-value (c.truncating_f64_to_u64-t.result + c.truncating_f64_to_u64-t.result + 1) (omega arith) (omega (arith, small (goal.at.returns-then-x-top c).After-truncating_f64_to_u64-t, c.ranges.top))) c.if-x-half.false in
-    ap (λ (k : ℕ). k + 1) (part (goal.at.returns-then-x-top c).After-truncating_f64_to_u64-t) ∙ answer-up c.args.x c.args.top (x-plain (goal.at.returns-then-x-top c).Then-x-top) (x_below (goal.at.returns-then-x-top c).Then-x-top) (subst (λ (k : ℕ). (k + k + 1) * den c.args.x ≤ num c.args.x * 2) (part (goal.at.returns-then-x-top c).After-truncating_f64_to_u64-t) h)
+pub returns-else-x-half : goal.returns-else-x-half
+returns-else-x-half c =
+    let h : (c.truncating_f64_to_u64-t.result + c.truncating_f64_to_u64-t.result + 1) * den c.args.x ≤ num c.args.x * 2 = ge-cross c.args.x _ (c.truncating_f64_to_u64-t.result + c.truncating_f64_to_u64-t.result + 1) 2 (x-plain (goal.at.returns-else-x-half c).Then-x-top) (lit< tt) (half-value (c.truncating_f64_to_u64-t.result + c.truncating_f64_to_u64-t.result + 1) (omega arith) (omega (arith, small (goal.at.returns-else-x-half c).After-truncating_f64_to_u64-t, c.ranges.top))) c.if-x-half.false in
+    ap (λ (k : ℕ). k + 1) (part (goal.at.returns-else-x-half c).After-truncating_f64_to_u64-t) ∙ answer-up c.args.x c.args.top (x-plain (goal.at.returns-else-x-half c).Then-x-top) (x_below (goal.at.returns-else-x-half c).Then-x-top) (subst (λ (k : ℕ). (k + k + 1) * den c.args.x ≤ num c.args.x * 2) (part (goal.at.returns-else-x-half c).After-truncating_f64_to_u64-t) h)
 
-pub returns-then-x : goal.returns-then-x
-returns-then-x c = answer-top _ _ c.if-x.true c.if-x-top.false (omega (arith, c.ranges.top))
+pub returns-else-x-top : goal.returns-else-x-top
+returns-else-x-top c = answer-top _ _ c.if-x.true c.if-x-top.false (omega (arith, c.ranges.top))
 
-pub returns : goal.returns
-returns c = answer-zero c.args.x _ c.if-x.false
+pub returns-else-x : goal.returns-else-x
+returns-else-x c = answer-zero c.args.x _ c.if-x.false

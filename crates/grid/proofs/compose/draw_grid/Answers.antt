@@ -1,15 +1,13 @@
+use Rattle.std.specs.Prelude.{Ok}
 use mathlib.Core.Bool.{Bool}
 use mathlib.Core.List.{List, ◌∷◌}
 use mathlib.Core.Path.{◌∙◌, ◌≡◌, ap, ap₂, refl, sym}
 use Prim.Native.Nat.{◌%◌, ◌*◌, ◌+◌, ◌-◌, ◌/◌, ◌<◌, ℕ}
 use native.Mathlib.Omega.{arith}
 use lib.ListN.{drop, get_or, length}
-use borrow.Author.Rules.{rules}
 use Rattle.laws.proofs.Order.{mul-below}
 use Rattle.laws.proofs.Puts.{length-puts}
-use Rattle.laws.specs.Out.{done}
 use Rattle.laws.specs.Puts.{puts}
-use Rattle.records.specs.Record.{frame_out}
 use Rattle.records.specs.Tray.{frames_at, no_frame, taken_of}
 use Rattle.image.specs.declared.format.Form.{Form}
 use Rattle.records.specs.declared.record.Frame.{Frame}
@@ -23,7 +21,7 @@ use Rattle.tiles.specs.Tiles.{count_of}
 use Rattle.grid.specs.inner.Stored.{store_tiles, under_at, under_pic}
 use Rattle.tiles.specs.inner.Taken.{FramesTaken}
 use Rattle.grid.proofs.compose.draw_grid.Goals as goal
-use Rattle.grid.proofs.compose.draw_grid.Goals.{At-loop-i, In-Read, In-Refused, In-loop-i, Start}
+use Rattle.grid.proofs.compose.draw_grid.Goals.{At-loop-i, In-Ok, In_default, In-loop-i, Start}
 
 some : (c : In-loop-i)
     → 0 < c.args.t.desc.rows * c.args.t.desc.columns - c.loop-i.i
@@ -35,30 +33,30 @@ stored-as : (tray : List ℕ) (frs : List Frame) (columns : ℕ) {n n' : ℕ} {m
 stored-as tray frs columns en em eb ed = rw (en, em, eb, ed) refl
 
 -- the records were taken: none is refused
-dead : {X : Type 0} (c : In-Refused) → X
+dead : {X : Type 0} (c : In_default) → X
 unfolding FramesTaken
-dead c = first-not-refused _ _ _ _ (some (goal.at.In-Refused c).In-loop-i) (_, c.loop-i.invariant.1) (sym c.read_record.ensures ∙ ap frame_out c.in-Refused.is)
+dead c = first-not-refused _ _ _ _ (some (goal.at.In_default c).In-loop-i) (_, c.loop-i.invariant.0) (sym c.read_record.ensures ∙ c.in_default.is)
 
 -- the output keeps its length
 long : (c : At-loop-i)
     → length c.loop-i.out ≡ length c.args.out.now
-long c = ap length c.loop-i.invariant.2 ∙ length-store_tiles _ _ _ _ _ ∙ ap length c.outline_canvas.ensures.1 ∙ length-puts _ _ _
+long c = ap length c.loop-i.invariant.1 ∙ length-store_tiles _ _ _ _ _ ∙ ap length c.outline_canvas.ensures.1 ∙ length-puts _ _ _
 
 -- the frames of the tray
 abbrev frames : Start → List Frame
 frames start = taken_of (frames_at (start.args.t.desc.rows * start.args.t.desc.columns) start.args.tray.now start.args.t.first)
 
 -- the record that was read
-module _ (c : In-Read) where
+module _ (c : In-Ok) where
   step : (rest : List Frame)
-      × (frames_at (c.args.t.desc.rows * c.args.t.desc.columns - c.loop-i.i - 1) c.args.tray.now c.in-Read.f.end
-      ≡ done rest)
-      × (drop c.loop-i.i (frames (goal.at.In-Read c).Start) ≡ c.in-Read.f ∷ rest)
-  step = first_read _ _ _ _ _ (some (goal.at.In-Read c).In-loop-i) c.loop-i.invariant.1 (sym c.read_record.ensures ∙ ap frame_out c.in-Read.is)
+      × (frames_at (c.args.t.desc.rows * c.args.t.desc.columns - c.loop-i.i - 1) c.args.tray.now c.in-Ok.f.end
+      ≡ Ok rest)
+      × (drop c.loop-i.i (frames (goal.at.In-Ok c).Start) ≡ c.in-Ok.f ∷ rest)
+  step = first_read _ _ _ _ _ (some (goal.at.In-Ok c).In-loop-i) c.loop-i.invariant.0 (sym c.read_record.ensures ∙ c.in-Ok.is)
 
-  frame_here : (get_or (frames (goal.at.In-Read c).Start) c.loop-i.i no_frame ≡ c.in-Read.f) × (drop (c.loop-i.i + 1) (frames (goal.at.In-Read c).Start) ≡ step.0)
+  frame_here : (get_or (frames (goal.at.In-Ok c).Start) c.loop-i.i no_frame ≡ c.in-Ok.f) × (drop (c.loop-i.i + 1) (frames (goal.at.In-Ok c).Start) ≡ step.0)
   frame_here =
-      drop_head (frames (goal.at.In-Read c).Start) c.loop-i.i _ _ step.2
+      drop_head (frames (goal.at.In-Ok c).Start) c.loop-i.i _ _ step.2
 
 pub overflow_mul-count : goal.overflow_mul-count
 overflow_mul-count c =
@@ -75,10 +73,10 @@ outline_canvas-requires c =
 pub loop-i-init : goal.loop-i-init
 unfolding frames_in count_of store_tiles
 loop-i-init c =
-    (omega arith, ap (λ (k : ℕ). frames_at k c.args.tray.now c.args.t.first) (omega arith) ∙ c.requires.0.taken, refl)
+    (ap (λ (k : ℕ). frames_at k c.args.tray.now c.args.t.first) (omega arith) ∙ c.requires.0.taken, refl)
 
-pub returns-in-Refused : goal.returns-in-Refused
-returns-in-Refused c = dead c
+pub returns-in_default : goal.returns-in_default
+returns-in_default c = dead c
 
 pub nonzero_rem-i : goal.nonzero_rem-i
 nonzero_rem-i c =
@@ -93,27 +91,22 @@ unfolding frames_in count_of
 draw_tile-requires c =
     let to = tight-form _ _ c.tight-to.ensures in (
       to.1,
-      suits-at c.args.tray.now c.args.t c.requires.0 c.loop-i.i _ _ _ _ c.loop-i-test.true (frame_here (goal.at.draw_tile-requires c).In-Read).0
+      suits-at c.args.tray.now c.args.t c.requires.0 c.loop-i.i _ _ _ _ c.loop-i-test.true (frame_here (goal.at.draw_tile-requires c).In-Ok).0
           (to.0 ∙ c.canvas_form-canvas.ensures) c.promotes-promoted.ensures (omega (arith, long (goal.at.draw_tile-requires c).At-loop-i, c.requires.1)),
     )
-
-pub overflow_add-i : goal.overflow_add-i
-overflow_add-i c =
-    omega (arith, c.loop-i-test.true, mul-below 256 256 c.args.t.desc.rows c.args.t.desc.columns c.requires.0.rows.1 c.requires.0.columns.1)
 
 pub loop-i-preserved : goal.loop-i-preserved
 unfolding picture_in
 loop-i-preserved c =
-    let s = step (goal.at.loop-i-preserved c).In-Read in
-    let q = frame_here (goal.at.loop-i-preserved c).In-Read in
+    let s = step (goal.at.loop-i-preserved c).In-Ok in
+    let q = frame_here (goal.at.loop-i-preserved c).In-Ok in
     let e : c.args.t.desc.rows * c.args.t.desc.columns - (c.loop-i.i + 1)
     ≡ c.args.t.desc.rows * c.args.t.desc.columns - c.loop-i.i - 1 = omega arith in (
-      omega (arith, c.loop-i-test.true),
-      ap (λ (k : ℕ). frames_at k c.args.tray.now c.in-Read.f.end) e ∙ s.1 ∙ ap done (sym q.1),
+      ap (λ (k : ℕ). frames_at k c.args.tray.now c.in-Ok.f.end) e ∙ s.1 ∙ ap Ok (sym q.1),
       c.draw_tile.ensures
           ∙ ap₂ (λ (f : Frame) (d : List ℕ). store_tile c.tight-to.result.form (tile_pic c.promotes-promoted.result (decode c.args.tray.now f))
           (c.loop-i.i % c.args.t.desc.columns) (c.loop-i.i / c.args.t.desc.columns) d)
-          (sym q.0) c.loop-i.invariant.2
+          (sym q.0) c.loop-i.invariant.1
           ∙ tiles_more c.tight-to.result.form (λ j. tile_pic c.promotes-promoted.result (picture_in c.args.tray.now (frames (goal.at.loop-i-preserved c).Start) j))
           c.args.t.desc.columns c.loop-i.i _,
     )
@@ -122,8 +115,8 @@ pub returns : goal.returns
 unfolding frames_in count_of under_pic under_at
 returns c =
     let n = c.args.t.desc.rows * c.args.t.desc.columns in
-    let e : c.loop-i.i ≡ n = omega (arith, c.loop-i.invariant.0, c.loop-i-test.false) in
-    c.loop-i.invariant.2
+    let e : c.loop-i.i ≡ n = omega arith in
+    c.loop-i.invariant.1
     ∙ stored-as c.args.tray.now (frames (goal.at.returns c).Start) c.args.t.desc.columns e ((tight-form _ _ c.tight-to.ensures).0 ∙ c.canvas_form-canvas.ensures) c.promotes-promoted.ensures
     (c.outline_canvas.ensures.1 ∙ ap (λ (m : Form). puts c.args.out.now 0 (encode (under_pic m c.outline_canvas.ensures.0))) c.canvas_form-canvas.ensures)
     ∙ composed c.args.tray.now c.args.t c.requires.0 (under_pic _ c.outline_canvas.ensures.0) refl (λ x y. refl) c.args.out.now c.requires.1

@@ -1,7 +1,7 @@
+use Rattle.std.specs.Prelude.{Ok}
 use mathlib.Core.Path.{◌≡◌}
-use Prim.Native.Nat.{◌-◌, ◌≤◌}
+use Prim.Native.Nat.{◌-◌}
 use lib.ListN.{drop}
-use Rattle.laws.specs.Out.{done}
 use Rattle.records.specs.Tray.{frames_at, taken_of}
 use Rattle.planes.specs.Bytes.{picture_in}
 use Rattle.cells.specs.Cell.{tile_pic}
@@ -9,7 +9,4 @@ use Rattle.grid.specs.inner.Stored.{store_tiles}
 use Rattle.grid.proofs.compose.draw_grid.Given as goal
 
 abbrev pub invariant-loop-i : goal.invariant-loop-i
-invariant-loop-i l = (l.i ≤ l.count) × (frames_at (l.count - l.i) l.tray l.next ≡ done (drop l.i (taken_of (frames_at l.count l.tray l.initial.next)))) × (l.out ≡ store_tiles l.to.form (λ j. tile_pic l.promoted (picture_in l.tray (taken_of (frames_at l.count l.tray l.initial.next)) j)) l.columns l.i l.initial.out)
-
-abbrev pub decreases-loop-i : goal.decreases-loop-i
-decreases-loop-i l = l.count - l.i
+invariant-loop-i l = (frames_at (l.count - l.i) l.tray l.next ≡ Ok (drop l.i (taken_of (frames_at l.count l.tray l.initial.next)))) × (l.out ≡ store_tiles l.to.form (λ j. tile_pic l.promoted (picture_in l.tray (taken_of (frames_at l.count l.tray l.initial.next)) j)) l.columns l.i l.initial.out)

@@ -2,7 +2,6 @@ use mathlib.Core.Path.{◌∙◌, ap}
 use Prim.Native.Nat.{ℕ}
 use native.Mathlib.Omega.{arith}
 use lib.ListN.{length}
-use borrow.Author.Rules.{rules}
 use Rattle.laws.proofs.Puts.{length-puts}
 use Rattle.laws.specs.Puts.{puts}
 use Rattle.image.specs.declared.format.Part.TheVariants.{Alpha}

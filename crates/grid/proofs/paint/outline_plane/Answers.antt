@@ -3,7 +3,6 @@ use mathlib.Core.Path.{◌∙◌, ◌≡◌, sym}
 use Prim.Native.Nat.{◌*◌, ◌+◌}
 use native.Mathlib.Omega.{arith}
 use lib.ListN.{length}
-use borrow.Author.Rules.{rules}
 use Rattle.laws.proofs.Order.{pick_true}
 use Rattle.laws.specs.Puts.{Bytes}
 use Rattle.image.specs.Format.{has_part, row_size, rows_of}
@@ -34,5 +33,5 @@ unfolding Bytes
 returns-then-has c =
     (omega (arith, size (goal.at.returns-then-has c).Then-has, c.write_plane_head-a.ensures.0, c.plane_len.ensures), plane-there _ _ _ _ _ (there (goal.at.returns-then-has c).Then-has) c.requires.1 c.write_plane_head-a.ensures.1 (λ i. omega (arith, c.type_inv.out i)))
 
-pub returns : goal.returns
-returns c = plane-lacks _ _ _ _ (sym c.has.ensures ∙ c.if-has.false)
+pub returns-else-has : goal.returns-else-has
+returns-else-has c = plane-lacks _ _ _ _ (sym c.has.ensures ∙ c.if-has.false)

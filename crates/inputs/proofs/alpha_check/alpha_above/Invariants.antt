@@ -7,22 +7,13 @@ use Rattle.inputs.specs.inner.Sought.{found_at}
 use Rattle.inputs.proofs.alpha_check.alpha_above.Given as goal
 
 abbrev pub invariant-loop-x : goal.invariant-loop-x
-invariant-loop-x l = (l.x ≤ l.columns) × (l.found ≡ l.count) × ((k : ℕ) → k < l.x → sample_in l.plane l.bytes l.stride k l.y ≤ l.top)
-
-abbrev pub decreases-loop-x : goal.decreases-loop-x
-decreases-loop-x l = l.columns - l.x
+invariant-loop-x l = (l.found ≡ l.count) × ((k : ℕ) → k < l.x → sample_in l.plane l.bytes l.stride k l.y ≤ l.top)
 
 abbrev pub invariant-loop-y : goal.invariant-loop-y
 invariant-loop-y l =
-    (l.y ≤ l.rows) × (l.found ≡ l.count) × ((k : ℕ) → k < l.y → (x : ℕ) → x < l.columns → sample_in l.plane l.bytes l.stride x k ≤ l.top)
-
-abbrev pub decreases-loop-y : goal.decreases-loop-y
-decreases-loop-y l = l.rows - l.y
+    (l.found ≡ l.count) × ((k : ℕ) → k < l.y → (x : ℕ) → x < l.columns → sample_in l.plane l.bytes l.stride x k ≤ l.top)
 
 abbrev pub invariant-search : goal.invariant-search
 invariant-search l =
-    (l.i ≤ l.count) × (l.found ≡ l.count)
+    (l.found ≡ l.count)
     × (found_at 0 (alpha_above l.tray l.top) (frames_from l.count l.tray l.first) l.count ≡ found_at l.i (alpha_above l.tray l.top) (frames_from (l.count - l.i) l.tray l.at) l.count)
-
-abbrev pub decreases-search : goal.decreases-search
-decreases-search l = l.count - l.i

@@ -3,7 +3,6 @@ use Prim.Native.Nat.{◌*◌, ◌+◌, ◌-◌, ◌/◌, ◌<◌, ◌^◌, ◌�
 use native.Mathlib.Nat.{zero-add}
 use native.Mathlib.Omega.{arith}
 use lib.ListN.{get_or, length}
-use borrow.Author.Rules.{rules}
 use Rattle.laws.proofs.Order.{mul-below}
 use Rattle.means.proofs.ColumnLaws.{first-in, foot-short, head-all, head-part, head-past, inner-past, inner-whole, tail_none, tail-part, tail-some, weighing-at}
 use Rattle.sampling.proofs.FootLaws.{Weighing, weighing-done, weighing-fits, weighing-start, weighing-step}
@@ -37,22 +36,8 @@ tailed c =
 pub overflow_sub-head : goal.overflow_sub-head
 overflow_sub-head c = (head-room (goal.at.overflow_sub-head c).Start).0
 
-pub offset_bounds-sums-from : goal.offset_bounds-sums-from
-offset_bounds-sums-from c = omega (arith, head-room (goal.at.offset_bounds-sums-from c).Start, c.requires.4)
-
 pub bounds-sums-from : goal.bounds-sums-from
 bounds-sums-from c = omega (arith, head-room (goal.at.bounds-sums-from c).Start)
-
-pub overflow_cast-head : goal.overflow_cast-head
-overflow_cast-head c = omega (arith, few c (c.args.f.start / 256))
-
-pub overflow_sub-result : goal.overflow_sub-result
-overflow_sub-result c =
-    omega (arith, c.requires.0)
-
-pub overflow_mul-result : goal.overflow_mul-result
-overflow_mul-result c =
-    omega (arith, mul-below (2 ^ 32 - 1) 256 (get_or c.args.sums.now (c.args.f.start / 256 - c.args.first) 0) (c.args.f.end - c.args.f.start) (few (goal.at.overflow_mul-result c).After-shared_slice_known-1 (c.args.f.start / 256)) (omega (arith, c.if-f-edge.true)))
 
 pub returns-then-f-edge : goal.returns-then-f-edge
 unfolding first_of
@@ -63,36 +48,13 @@ returns-then-f-edge c =
     (sym (head-all c.args.f c.if-f-edge.true))))
     (head-past c.args.f c.if-f-edge.true)).0
 
-pub overflow_sub-sum : goal.overflow_sub-sum
-overflow_sub-sum c = omega arith
-
-pub overflow_mul-sum : goal.overflow_mul-sum
-overflow_mul-sum c =
-    omega (arith, mul-below (2 ^ 32 - 1) 256 (get_or c.args.sums.now (c.args.f.start / 256 - c.args.first) 0) (256 * (c.args.f.start / 256) + 256 - c.args.f.start) (few (goal.at.overflow_mul-sum c).After-shared_slice_known-1 (c.args.f.start / 256)) (omega arith))
-
 pub loop-j-init : goal.loop-j-init
 loop-j-init c =
     (omega arith, omega (arith, c.if-f-edge.false), headed (goal.at.loop-j-init c).After-shared_slice_known-1 _ (ap (λ (w : ℕ). get_or c.args.sums.now (c.args.f.start / 256 - c.args.first) 0 * w) (sym (head-part c.args.f c.if-f-edge.false))))
 
-pub overflow_sub-sum-in-loop-j : goal.overflow_sub-sum-in-loop-j
-overflow_sub-sum-in-loop-j c =
-    omega (arith, (head-room (goal.at.overflow_sub-sum-in-loop-j c).Start).0, c.loop-j.invariant.0)
-
-pub offset_bounds-sums-j : goal.offset_bounds-sums-j
-offset_bounds-sums-j c =
-    omega (arith, inner-past c.args.f c.loop-j.j c.loop-j-test.true, c.requires.3, c.requires.4)
-
 pub bounds-sums-j : goal.bounds-sums-j
 bounds-sums-j c =
     omega (arith, (head-room (goal.at.bounds-sums-j c).Start).0, c.loop-j.invariant.0, inner-past c.args.f c.loop-j.j c.loop-j-test.true, c.requires.3)
-
-pub overflow_cast-sum : goal.overflow_cast-sum
-overflow_cast-sum c =
-    omega (arith, few (goal.at.overflow_cast-sum c).After-shared_slice_known-1 c.loop-j.j)
-
-pub overflow_mul-sum-in-loop-j : goal.overflow_mul-sum-in-loop-j
-overflow_mul-sum-in-loop-j c =
-    omega (arith, few (goal.at.overflow_mul-sum-in-loop-j c).After-shared_slice_known-1 c.loop-j.j)
 
 pub overflow_add-sum : goal.overflow_add-sum
 overflow_add-sum c =
@@ -115,36 +77,13 @@ loop-j-preserved c = (
       (sym (inner-whole c.args.f c.loop-j.j c.loop-j.invariant.0 c.loop-j-test.true))),
 )
 
-pub overflow_mul-tail : goal.overflow_mul-tail
-overflow_mul-tail c =
-    omega (arith, c.requires.1)
-
-pub overflow_sub-tail : goal.overflow_sub-tail
-overflow_sub-tail c = omega arith
-
 pub returns-then-tail-eq0 : goal.returns-then-tail-eq0
 returns-then-tail-eq0 c =
     (weighing-done c.args.f _ (2 ^ 32 - 1) c.requires.0 _ _ (tailed (goal.at.returns-then-tail-eq0 c).After-loop-j) (tail_none c.args.f c.if-tail-eq0.true)).0
 
-pub overflow_sub-result-2 : goal.overflow_sub-result-2
-overflow_sub-result-2 c =
-    omega (arith, (head-room (goal.at.overflow_sub-result-2 c).Start).0, c.loop-j.invariant.0, c.loop-j.invariant.1)
-
-pub offset_bounds-sums-last : goal.offset_bounds-sums-last
-offset_bounds-sums-last c =
-    omega (arith, (tail-some c.args.f c.if-tail-eq0.false).0, c.requires.3, c.requires.4)
-
 pub bounds-sums-last : goal.bounds-sums-last
 bounds-sums-last c =
     omega (arith, (head-room (goal.at.bounds-sums-last c).Start).0, c.loop-j.invariant.0, c.loop-j.invariant.1, (tail-some c.args.f c.if-tail-eq0.false).0, c.requires.3)
-
-pub overflow_cast-result : goal.overflow_cast-result
-overflow_cast-result c =
-    omega (arith, few (goal.at.overflow_cast-result c).After-shared_slice_known-1 (c.args.f.end / 256))
-
-pub overflow_mul-result-2 : goal.overflow_mul-result-2
-overflow_mul-result-2 c =
-    omega (arith, mul-below (2 ^ 32 - 1) 256 (get_or c.args.sums.now (c.args.f.end / 256 - c.args.first) 0) (c.args.f.end - 256 * (c.args.f.end / 256)) (few (goal.at.overflow_mul-result-2 c).After-shared_slice_known-1 (c.args.f.end / 256)) (omega arith))
 
 pub overflow_add-result : goal.overflow_add-result
 overflow_add-result c =

@@ -8,7 +8,7 @@ slice_bounds-write_means-end c = sym (length-replicate {A = ℕ} 1024 0)
 
 pub write_means-requires : goal.write_means-requires
 write_means-requires c =
-    (c.requires.0, length-replicate {A = ℕ} 1024 0, c.requires.1)
+    (length-replicate {A = ℕ} 1024 0, c.requires.1)
 
 pub returns : goal.returns
 returns c =

@@ -3,8 +3,6 @@ use mathlib.Core.Path.{◌∙◌, ◌≡◌, ap, sym}
 use Prim.Native.Nat.{◌*◌, ◌+◌, ◌≤◌, ℕ}
 use native.Mathlib.Omega.{arith}
 use lib.ListN.{length}
-use borrow.Author.Rules.{rules}
-use Rattle.laws.proofs.Order.{mul-below}
 use Rattle.laws.proofs.Span.{length-span-all, span-end, span-step}
 use Rattle.laws.proofs.Writing.{writing-as, writing-done, writing-fits, writing-run, writing_start}
 use Rattle.laws.specs.Puts.{puts}
@@ -29,10 +27,6 @@ long c =
 
 room : (c : In-loop-y) → c.loop-y.i + c.args.columns * c.args.bytes ≤ length c.loop-y.out
 room c = rw (← long c) (writing-fits (item c c.loop-y.y) _ (writing-as c.loop-y.invariant.2 (step c)))
-
-pub overflow_mul-last : goal.overflow_mul-last
-overflow_mul-last c =
-    record { fits = omega (arith, mul-below 2147483648 2 c.args.w.across.from c.args.bytes (omega (arith, c.requires.0.across.small)) c.requires.0.bounded) }
 
 pub loop-y-init : goal.loop-y-init
 loop-y-init c =

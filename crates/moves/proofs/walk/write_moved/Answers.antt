@@ -8,13 +8,13 @@ use Rattle.moves.proofs.walk.write_moved.Goals.{After-write_head-a, After-write_
 
 -- the picture that is written
 abbrev picture : Start → Pic
-picture start = moved start.args.v (decode start.args.s.now start.args.fr)
+picture start = moved start.args.v (decode start.args.picture.«record».now start.args.picture.frame)
 
 -- the head and the planes in turn
 after-head : (c : After-write_head-a)
     → Written (picture (goal.at.After-write_head-a c).Start) c.args.out.now c.write_head-a.new.out c.write_head-a.result Luma
 unfolding moved
-after-head c = head-written c.requires.2 c.write_head-a.ensures.0 c.write_head-a.ensures.1
+after-head c = head-written c.requires.1 c.write_head-a.ensures.0 c.write_head-a.ensures.1
 
 after-luma : (c : After-write_plane-b)
     → Written (picture (goal.at.After-write_plane-b c).Start) c.args.out.now c.write_plane-b.new.out c.write_plane-b.result Cb
@@ -30,19 +30,19 @@ after-cr c = cr-written (after-cb (goal.at.After-write_plane-d c).After-write_pl
 
 pub write_head-a-requires : goal.write_head-a-requires
 unfolding moved
-write_head-a-requires c = head-fits (picture (goal.at.write_head-a-requires c).Start) c.args.out.now c.requires.2
+write_head-a-requires c = head-fits (picture (goal.at.write_head-a-requires c).Start) c.args.out.now c.requires.1
 
 pub write_plane-b-requires : goal.write_plane-b-requires
-write_plane-b-requires c = (c.requires.0, c.requires.1, plane-fits (after-head (goal.at.write_plane-b-requires c).After-write_head-a))
+write_plane-b-requires c = (c.requires.0, plane-fits (after-head (goal.at.write_plane-b-requires c).After-write_head-a))
 
 pub write_plane-c-requires : goal.write_plane-c-requires
-write_plane-c-requires c = (c.requires.0, c.requires.1, plane-fits (after-luma (goal.at.write_plane-c-requires c).After-write_plane-b))
+write_plane-c-requires c = (c.requires.0, plane-fits (after-luma (goal.at.write_plane-c-requires c).After-write_plane-b))
 
 pub write_plane-d-requires : goal.write_plane-d-requires
-write_plane-d-requires c = (c.requires.0, c.requires.1, plane-fits (after-cb (goal.at.write_plane-d-requires c).After-write_plane-c))
+write_plane-d-requires c = (c.requires.0, plane-fits (after-cb (goal.at.write_plane-d-requires c).After-write_plane-c))
 
 pub write_plane-requires : goal.write_plane-requires
-write_plane-requires c = (c.requires.0, c.requires.1, plane-fits (after-cr (goal.at.write_plane-requires c).After-write_plane-d))
+write_plane-requires c = (c.requires.0, plane-fits (after-cr (goal.at.write_plane-requires c).After-write_plane-d))
 
 pub returns : goal.returns
 returns c = alpha-written (after-cr (goal.at.returns c).After-write_plane-d) c.write_plane.ensures.0 c.write_plane.ensures.1

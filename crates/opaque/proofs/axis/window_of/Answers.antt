@@ -1,7 +1,6 @@
 use mathlib.Core.Path.{ap}
 use Prim.Native.Nat.{◌*◌, ℕ}
 use native.Mathlib.Omega.{arith}
-use borrow.Author.Rules.{rules}
 use Rattle.opaque.proofs.WindowLaws.{step_small, window-worked}
 use Rattle.opaque.proofs.axis.window_of.Goals as goal
 

@@ -1,10 +1,7 @@
-use mathlib.Core.Bool.{false}
 use mathlib.Core.Path.{◌∙◌, ◌≡◌, ap, refl, sym}
 use native.Mathlib.Nat.{sub-zero}
 use native.Mathlib.Omega.{arith}
 use lib.ListN.{length}
-use borrow.Author.Rules.{rules}
-use Rattle.records.specs.Record.{frame_out}
 use Rattle.image.specs.declared.format.Form.{Form}
 use Rattle.records.specs.inner.Frames.{frames_from}
 use Rattle.planes.specs.Bytes.{tight_at}
@@ -25,15 +22,15 @@ tight-to-requires c =
 
 pub loop-i-init : goal.loop-i-init
 loop-i-init c =
-    (omega arith, refl, rw ((form c).0, sub-zero c.args.d.count) c.requires.3, rw (sub-zero c.args.d.count) refl)
+    (refl, rw ((form c).0, sub-zero c.args.d.count) c.requires.3, rw (sub-zero c.args.d.count) refl)
 
-pub returns-in-Refused : goal.returns-in-Refused
-returns-in-Refused c =
+pub returns-in-Err : goal.returns-in-Err
+returns-in-Err c =
     sym (ap (λ (m : Form). lay_frames m c.args.body.now c.args.tray.now c.args.d 0
     (frames_from c.args.d.count c.args.tray.now c.args.first) c.args.out.now)
-    (sym (form (goal.at.returns-in-Refused c).After-tight-to).0)
-    ∙ c.loop-i.invariant.3
-    ∙ laid-refused _ _ _ _ _ _ _ _ _ (sym c.read_record.ensures ∙ ap frame_out c.in-Refused.is))
+    (sym (form (goal.at.returns-in-Err c).After-tight-to).0)
+    ∙ c.loop-i.invariant.2
+    ∙ laid-refused _ _ _ _ _ _ _ _ _ (sym c.read_record.ensures ∙ c.in-Err.is))
 
 pub offset-requires : goal.offset-requires
 offset-requires c =
@@ -41,27 +38,22 @@ offset-requires c =
 
 pub lay_input-requires : goal.lay_input-requires
 lay_input-requires c =
-    let term = sym c.read_record.ensures ∙ ap frame_out c.in-Read.is in (
+    let term = sym c.read_record.ensures ∙ c.in-Ok.is in (
       (form (goal.at.lay_input-requires c).After-tight-to).1,
       record {
         inside = record-inside _ _ _ term;
         canvas = rw (form (goal.at.lay_input-requires c).After-tight-to).0 c.requires.1;
-        fit = (fit_next _ _ _ _ _ c.loop-i-test.true term _ c.loop-i.invariant.2).0;
-        room = rw (form (goal.at.lay_input-requires c).After-tight-to).0 (omega (arith, c.requires.2, c.loop-i.invariant.1));
+        fit = (fit_next _ _ _ _ _ c.loop-i-test.true term _ c.loop-i.invariant.1).0;
+        room = rw (form (goal.at.lay_input-requires c).After-tight-to).0 (omega (arith, c.requires.2, c.loop-i.invariant.0));
       },
     )
 
-pub overflow_add-i : goal.overflow_add-i
-overflow_add-i c =
-    omega (arith, c.loop-i-test.true, c.requires.0.count)
-
 pub loop-i-preserved : goal.loop-i-preserved
 loop-i-preserved c = (
-  omega (arith, c.loop-i-test.true),
-  ap length c.lay_input.ensures ∙ length-lay_input _ _ _ _ ∙ c.loop-i.invariant.1,
-  (fit_next _ _ _ _ _ c.loop-i-test.true (sym c.read_record.ensures ∙ ap frame_out c.in-Read.is) _ c.loop-i.invariant.2).1,
-  c.loop-i.invariant.3
-      ∙ laid_next _ _ _ _ _ c.loop-i-test.true (sym c.read_record.ensures ∙ ap frame_out c.in-Read.is) _ _ _ _ _ _
+  ap length c.lay_input.ensures ∙ length-lay_input _ _ _ _ ∙ c.loop-i.invariant.0,
+  (fit_next _ _ _ _ _ c.loop-i-test.true (sym c.read_record.ensures ∙ c.in-Ok.is) _ c.loop-i.invariant.1).1,
+  c.loop-i.invariant.2
+      ∙ laid_next _ _ _ _ _ c.loop-i-test.true (sym c.read_record.ensures ∙ c.in-Ok.is) _ _ _ _ _ _
       c.offset.ensures c.lay_input.ensures,
 )
 
@@ -70,5 +62,5 @@ returns c =
     sym (ap (λ (m : Form). lay_frames m c.args.body.now c.args.tray.now c.args.d 0
     (frames_from c.args.d.count c.args.tray.now c.args.first) c.args.out.now)
     (sym (form (goal.at.returns c).After-tight-to).0)
-    ∙ c.loop-i.invariant.3
+    ∙ c.loop-i.invariant.2
     ∙ laid_none _ _ _ _ _ _ _ _ (omega (arith, c.loop-i-test.false)))

@@ -1,7 +1,6 @@
 use mathlib.Core.Path.{◌∙◌, sym}
 use native.Mathlib.Omega.{arith}
 use lib.ListN.{length}
-use borrow.Author.Rules.{rules}
 use Rattle.laws.specs.Puts.{Bytes}
 use Rattle.planes.proofs.ByteLaws.{data-bytes}
 use Rattle.paste.specs.inner.Source.{RowsFit}
@@ -39,9 +38,9 @@ pub store_rows-requires : goal.store_rows-requires
 store_rows-requires c =
     fits (goal.at.store_rows-requires c).After-source_of-s
 
-pub returns : goal.returns
-returns c =
+pub returns-else-may_exceed : goal.returns-else-may_exceed
+returns-else-may_exceed c =
     c.store_rows.ensures
     ∙ rw (c.plane_data-data.ensures, c.plane.ensures, c.source_of-s.ensures)
     (rows-plain c.args.tray.now c.args.fr c.args.canvas c.requires.0.fit c.args.part c.requires.1
-    c.args.to (data-bytes _ _ (small (goal.at.returns c).After-shared_slice_known-1)) (sym c.may_exceed.ensures ∙ c.if-may_exceed.false) _)
+    c.args.to (data-bytes _ _ (small (goal.at.returns-else-may_exceed c).After-shared_slice_known-1)) (sym c.may_exceed.ensures ∙ c.if-may_exceed.false) _)

@@ -2,7 +2,6 @@ use mathlib.Core.Bool.{Bool}
 use mathlib.Core.Path.{◌∙◌, ◌≡◌, ap, ap₂}
 use Prim.Native.Nat.{◌*◌, ◌^◌, ◌≤◌, ℕ}
 use native.Mathlib.Omega.{arith}
-use borrow.Author.Rules.{rules}
 use Rattle.image.proofs.FormLaws.{columns-le, height-le, rows-le, width-le}
 use Rattle.image.specs.Format.{columns_of, rows_of}
 use Rattle.records.specs.Record.{plane_of}

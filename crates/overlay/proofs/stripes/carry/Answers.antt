@@ -1,6 +1,5 @@
 use mathlib.Core.Path.{◌∙◌, ap}
 use native.Mathlib.Omega.{arith}
-use borrow.Author.Rules.{rules}
 use Rattle.blend.specs.Overlay.{over_all}
 use Rattle.blend.specs.inner.Stripe.{across_at, down_at}
 use Rattle.overlay.proofs.StripedLaws.{ready-fits, ready_held, ready-top}

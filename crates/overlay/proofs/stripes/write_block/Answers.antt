@@ -1,7 +1,6 @@
 use mathlib.Core.Path.{◌∙◌, ◌≡◌, refl}
 use Prim.Native.Nat.{◌+◌}
 use native.Mathlib.Omega.{arith}
-use borrow.Author.Rules.{rules}
 use Rattle.blocks.proofs.ListLaws.{listed-part}
 use Rattle.overlay.proofs.StripedLaws.{continued-none, continued-on, ready-total}
 use Rattle.overlay.proofs.stripes.write_block.Goals as goal
@@ -23,7 +22,7 @@ write_stripe-requires c = (
       ends = omega (arith, c.requires.1.ends, c.min.ensures, c.loop-s-test.true);
       whole = record { across = refl; down = refl };
     };
-    listed = λ h. listed-part _ _ _ _ _ _ _ _ _ _ _ c.loop-s.invariant.0 (omega (arith, c.min.ensures, c.loop-s-test.true)) (c.requires.1.listed h);
+    listed = λ n h. listed-part _ _ _ _ _ _ _ _ _ _ _ c.loop-s.invariant.0 (omega (arith, c.min.ensures, c.loop-s-test.true)) (c.requires.1.listed n h);
   },
   c.requires.2,
   omega (arith, c.requires.3, c.loop-s.invariant.3, c.min.ensures),

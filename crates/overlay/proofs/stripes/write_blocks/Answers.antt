@@ -1,7 +1,6 @@
 use mathlib.Core.Path.{◌∙◌, ◌≡◌, refl}
 use Prim.Native.Nat.{◌*◌}
 use native.Mathlib.Omega.{arith}
-use borrow.Author.Rules.{rules}
 use Rattle.laws.proofs.Order.{mul-below}
 use Rattle.image.proofs.FormLaws.{width-le}
 use Rattle.overlay.proofs.StripedLaws.{continued-none, continued-on, ready-total}
@@ -29,7 +28,7 @@ fit_block-b-requires c =
 
 pub write_block-requires : goal.write_block-requires
 write_block-requires c =
-    (c.requires.0, record { ends = omega (arith, c.fit_block-b.ensures.1, c.min.ensures, c.loop-start-test.true); listed = c.fit_block-b.ensures.2 }, c.tight-to.ensures, omega (arith, c.requires.1, c.loop-start.invariant.3), omega (arith, c.requires.2, c.loop-start.invariant.4), omega (arith, c.requires.4, c.loop-start.invariant.2))
+    (c.requires.0, record { ends = omega (arith, c.fit_block-b.ensures.1, c.min.ensures, c.loop-start-test.true); listed = λ n h. (c.fit_block-b.ensures.2 n h).1 }, c.tight-to.ensures, omega (arith, c.requires.1, c.loop-start.invariant.3), omega (arith, c.requires.2, c.loop-start.invariant.4), omega (arith, c.requires.4, c.loop-start.invariant.2))
 
 pub overflow_add-start : goal.overflow_add-start
 overflow_add-start c =

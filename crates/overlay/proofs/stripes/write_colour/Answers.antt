@@ -4,7 +4,6 @@ use mathlib.Core.Path.{◌∙◌, ◌≡◌, ap, sym}
 use Prim.Native.Nat.{◌*◌, ◌+◌, ◌≤◌}
 use native.Mathlib.Omega.{arith}
 use lib.ListN.{length}
-use borrow.Author.Rules.{rules}
 use borrow.Author.Tests.{not-false, not-true}
 use Rattle.image.specs.Format.{has_part}
 use Rattle.records.specs.Record.{plane_of}
@@ -51,9 +50,9 @@ pub write_run-requires : goal.write_run-requires
 write_run-requires c =
     ((room (goal.at.write_run-requires c).After-bytes_per_sample-bytes).1, (room (goal.at.write_run-requires c).After-bytes_per_sample-bytes).2, omega (arith, c.requires.2, c.carry.auto.acc), c.requires.3, (room (goal.at.write_run-requires c).After-bytes_per_sample-bytes).0)
 
-pub returns : goal.returns
+pub returns-else-g : goal.returns-else-g
 unfolding colour_stripe
-returns c =
-    run-written _ _ _ _ _ _ _ _ _ (has_part_lem (goal.at.returns c).Else-not-has) (c.plane-plane.ensures ∙ ap (λ (t : Frame). plane_of t c.args.part) c.requires.1)
+returns-else-g c =
+    run-written _ _ _ _ _ _ _ _ _ (has_part_lem (goal.at.returns-else-g c).Else-not-has) (c.plane-plane.ensures ∙ ap (λ (t : Frame). plane_of t c.args.part) c.requires.1)
     c.bytes_per_sample-bytes.ensures c.write_run.ensures.1
     (λ j h. colour-run _ _ _ _ _ _ _ _ _ c.fill_part.ensures (c.carry.ensures j h) (c.requires.5 j h))

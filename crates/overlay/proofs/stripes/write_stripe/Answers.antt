@@ -1,11 +1,10 @@
 use native.Mathlib.Omega.{arith}
-use borrow.Author.Rules.{rules}
 use Rattle.overlay.proofs.StripedLaws.{ready-clear, ready-drawn, ready-fits}
 use Rattle.overlay.proofs.stripes.write_stripe.Goals as goal
 
 pub is_clear-requires : goal.is_clear-requires
 is_clear-requires c =
-    ((λ h. (c.requires.0.listed h).room), (ready-fits c.requires.0.canvas _ c.requires.0.run).ends)
+    ((λ n h. (c.requires.0.listed n h).room), (ready-fits c.requires.0.canvas _ c.requires.0.run).ends)
 
 pub returns-then-is_clear : goal.returns-then-is_clear
 returns-then-is_clear c =

@@ -1,7 +1,6 @@
 use mathlib.Core.Path.{◌∙◌, ap}
 use native.Mathlib.Omega.{arith}
 use lib.ListN.{length}
-use borrow.Author.Rules.{rules}
 use Rattle.laws.proofs.Puts.{length-puts}
 use Rattle.planes.specs.Bytes.{head_bytes, size_of}
 use Rattle.paste.proofs.EvenLaws.{flat-written}

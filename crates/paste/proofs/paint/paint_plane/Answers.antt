@@ -4,7 +4,6 @@ use mathlib.Core.Path.{◌∙◌, ◌≡◌, ap, ap₂, sym}
 use Prim.Native.Nat.{◌*◌, ◌+◌, ◌^◌, ◌≤◌, ℕ}
 use native.Mathlib.Nat.{mul_comm}
 use native.Mathlib.Omega.{arith}
-use borrow.Author.Rules.{rules}
 use Rattle.laws.proofs.Writing.{Writing, writing-begin, writing-fits, writing-last, writing-none, writing-run}
 use Rattle.laws.specs.Puts.{puts}
 use Rattle.planes.proofs.ByteLaws.{length-samples_of}
@@ -74,8 +73,8 @@ returns-then-has c =
     ∙ ap₂ (λ (b n : ℕ). puts c.write_plane_head-a.new.out c.write_plane_head-a.result (samples_of b (λ x. c.args.v) n)) c.bytes_per_sample.ensures (count (goal.at.returns-then-has c).After-rows)) in
     (w.0 ∙ ap (λ (q : ℕ). c.args.at + q) (length-even-plane c.args.form c.args.v c.args.part), w.1)
 
-pub returns : goal.returns
-returns c =
+pub returns-else-has : goal.returns-else-has
+returns-else-has c =
     let h = sym c.has.ensures ∙ c.if-has.false in
     let w = writing-none c.args.out.now c.args.at _ (even-none c.args.form c.args.v c.args.part h) in
     (w.0 ∙ ap (λ (q : ℕ). c.args.at + q) (length-even-plane c.args.form c.args.v c.args.part), w.1)

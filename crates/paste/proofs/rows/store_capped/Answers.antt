@@ -3,7 +3,6 @@ use mathlib.Core.Path.{◌∙◌, ◌≡◌, ap, refl}
 use Prim.Native.Nat.{◌*◌, ◌+◌, ℕ}
 use native.Mathlib.Omega.{arith}
 use lib.ListN.{length}
-use borrow.Author.Rules.{rules}
 use Rattle.laws.specs.Puts.{puts}
 use Rattle.paste.proofs.RowLaws.{length-store_rows, rows_more}
 use Rattle.paste.specs.Stored.{store_rows}
@@ -12,7 +11,7 @@ use Rattle.paste.proofs.rows.store_capped.Goals as goal
 
 pub loop-k-init : goal.loop-k-init
 unfolding store_rows
-loop-k-init c = (omega arith, refl)
+loop-k-init c = refl
 
 pub overflow_mul-k : goal.overflow_mul-k
 overflow_mul-k c =
@@ -24,12 +23,12 @@ overflow_add-at c =
 
 pub store_capped_row-requires : goal.store_capped_row-requires
 store_capped_row-requires c =
-    let w = c.requires.writes c.loop-k.k c.loop-k-test.true in let l = ap length c.loop-k.invariant.1 ∙ length-store_rows _ _ _ _ _ in (c.requires.positive, c.requires.bounded, c.requires.wide, omega (arith, c.requires.tall), omega arith, λ i h. c.requires.reads i c.loop-k.k h c.loop-k-test.true)
+    let w = c.requires.writes c.loop-k.k c.loop-k-test.true in let l = ap length c.loop-k.invariant ∙ length-store_rows _ _ _ _ _ in (c.requires.positive, c.requires.bounded, c.requires.wide, omega (arith, c.requires.tall), omega arith, λ i h. c.requires.reads i c.loop-k.k h c.loop-k-test.true)
 
 pub loop-k-preserved : goal.loop-k-preserved
 loop-k-preserved c =
-    (omega arith, c.store_capped_row.ensures ∙ ap (λ (d : List ℕ). puts d (c.args.at + c.loop-k.k * c.args.stride) (capped_row c.args.plane.now c.args.s c.args.top c.args.across c.loop-k.k)) c.loop-k.invariant.1 ∙ rows_more c.args.out.now c.args.at c.args.stride _ c.loop-k.k)
+    c.store_capped_row.ensures ∙ ap (λ (d : List ℕ). puts d (c.args.at + c.loop-k.k * c.args.stride) (capped_row c.args.plane.now c.args.s c.args.top c.args.across c.loop-k.k)) c.loop-k.invariant ∙ rows_more c.args.out.now c.args.at c.args.stride _ c.loop-k.k
 
 pub returns : goal.returns
 returns c =
-    let e : c.loop-k.k ≡ c.args.down = omega (arith, c.loop-k.invariant.0, c.loop-k-test.false) in c.loop-k.invariant.1 ∙ ap (store_rows c.args.out.now c.args.at c.args.stride _) e
+    let e : c.loop-k.k ≡ c.args.down = omega arith in c.loop-k.invariant ∙ ap (store_rows c.args.out.now c.args.at c.args.stride _) e

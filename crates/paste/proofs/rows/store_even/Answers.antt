@@ -3,7 +3,6 @@ use mathlib.Core.Path.{◌∙◌, ◌≡◌, ap, refl}
 use Prim.Native.Nat.{◌*◌, ◌+◌, ℕ}
 use native.Mathlib.Omega.{arith}
 use lib.ListN.{length}
-use borrow.Author.Rules.{rules}
 use Rattle.laws.specs.Puts.{puts}
 use Rattle.planes.specs.Bytes.{samples_of}
 use Rattle.paste.proofs.RowLaws.{length-store_rows, rows_more}
@@ -12,7 +11,7 @@ use Rattle.paste.proofs.rows.store_even.Goals as goal
 
 pub loop-k-init : goal.loop-k-init
 unfolding store_rows
-loop-k-init c = (omega arith, refl)
+loop-k-init c = refl
 
 pub overflow_mul-k : goal.overflow_mul-k
 overflow_mul-k c =
@@ -24,12 +23,12 @@ overflow_add-at c =
 
 pub fill_row-requires : goal.fill_row-requires
 fill_row-requires c =
-    let w = c.requires.2 c.loop-k.k c.loop-k-test.true in let l = ap length c.loop-k.invariant.1 ∙ length-store_rows _ _ _ _ _ in (c.requires.0, c.requires.1, omega arith)
+    let w = c.requires.2 c.loop-k.k c.loop-k-test.true in let l = ap length c.loop-k.invariant ∙ length-store_rows _ _ _ _ _ in (c.requires.0, c.requires.1, omega arith)
 
 pub loop-k-preserved : goal.loop-k-preserved
 loop-k-preserved c =
-    (omega arith, c.fill_row.ensures.1 ∙ ap (λ (d : List ℕ). puts d (c.args.at + c.loop-k.k * c.args.stride) (samples_of c.args.bytes (λ i. c.args.v) c.args.across)) c.loop-k.invariant.1 ∙ rows_more c.args.out.now c.args.at c.args.stride _ c.loop-k.k)
+    c.fill_row.ensures.1 ∙ ap (λ (d : List ℕ). puts d (c.args.at + c.loop-k.k * c.args.stride) (samples_of c.args.bytes (λ i. c.args.v) c.args.across)) c.loop-k.invariant ∙ rows_more c.args.out.now c.args.at c.args.stride _ c.loop-k.k
 
 pub returns : goal.returns
 returns c =
-    let e : c.loop-k.k ≡ c.args.down = omega (arith, c.loop-k.invariant.0, c.loop-k-test.false) in c.loop-k.invariant.1 ∙ ap (store_rows c.args.out.now c.args.at c.args.stride _) e
+    let e : c.loop-k.k ≡ c.args.down = omega arith in c.loop-k.invariant ∙ ap (store_rows c.args.out.now c.args.at c.args.stride _) e

@@ -3,7 +3,6 @@ use mathlib.Core.Path.{◌∙◌, ◌≡◌, ap, ap₂, refl}
 use Prim.Native.Nat.{◌*◌, ◌+◌, ℕ}
 use native.Mathlib.Omega.{arith}
 use lib.ListN.{length}
-use borrow.Author.Rules.{rules}
 use Rattle.laws.specs.Puts.{puts}
 use Rattle.planes.specs.declared.samples.Line.{Line}
 use Rattle.planes.specs.inner.Line.{line_bytes}
@@ -20,7 +19,7 @@ line c =
 
 pub loop-k-init : goal.loop-k-init
 unfolding store_rows
-loop-k-init c = (omega arith, refl)
+loop-k-init c = refl
 
 pub overflow_add-s : goal.overflow_add-s
 overflow_add-s c =
@@ -40,20 +39,18 @@ overflow_add-at c =
 
 pub write_line-requires : goal.write_line-requires
 write_line-requires c =
-    let w = c.requires.writes c.loop-k.k c.loop-k-test.true in let l = ap length c.loop-k.invariant.1 ∙ length-store_rows _ _ _ _ _ in (rw (line (goal.at.write_line-requires c).After-covering) (line-fits _ _ _ _ _ _ _ _ c.requires c.loop-k-test.true), omega arith)
+    let w = c.requires.writes c.loop-k.k c.loop-k-test.true in let l = ap length c.loop-k.invariant ∙ length-store_rows _ _ _ _ _ in (rw (line (goal.at.write_line-requires c).After-covering) (line-fits _ _ _ _ _ _ _ _ c.requires c.loop-k-test.true), omega arith)
 
 pub loop-k-preserved : goal.loop-k-preserved
-loop-k-preserved c = (
-  omega arith,
-  c.write_line.ensures.1
-      ∙ ap (λ (l : Line). puts c.loop-k.out (c.args.at + c.loop-k.k * c.args.stride)
-      (line_bytes c.args.plane.now c.args.s.bytes l c.args.across))
-      (line (goal.at.loop-k-preserved c).After-covering)
-      ∙ ap₂ (λ (d b : List ℕ). puts d (c.args.at + c.loop-k.k * c.args.stride) b) c.loop-k.invariant.1
-      (line_row c.args.plane.now c.args.s c.args.across c.loop-k.k)
-      ∙ rows_more c.args.out.now c.args.at c.args.stride _ c.loop-k.k,
-)
+loop-k-preserved c =
+    c.write_line.ensures.1
+    ∙ ap (λ (l : Line). puts c.loop-k.out (c.args.at + c.loop-k.k * c.args.stride)
+    (line_bytes c.args.plane.now c.args.s.bytes l c.args.across))
+    (line (goal.at.loop-k-preserved c).After-covering)
+    ∙ ap₂ (λ (d b : List ℕ). puts d (c.args.at + c.loop-k.k * c.args.stride) b) c.loop-k.invariant
+    (line_row c.args.plane.now c.args.s c.args.across c.loop-k.k)
+    ∙ rows_more c.args.out.now c.args.at c.args.stride _ c.loop-k.k
 
 pub returns : goal.returns
 returns c =
-    let e : c.loop-k.k ≡ c.args.down = omega (arith, c.loop-k.invariant.0, c.loop-k-test.false) in c.loop-k.invariant.1 ∙ ap (store_rows c.args.out.now c.args.at c.args.stride _) e
+    let e : c.loop-k.k ≡ c.args.down = omega arith in c.loop-k.invariant ∙ ap (store_rows c.args.out.now c.args.at c.args.stride _) e

@@ -3,7 +3,6 @@ use mathlib.Core.Path.{◌∙◌, ◌≡◌, ap, sym}
 use Prim.Native.Nat.{◌*◌, ◌+◌, ◌-◌, ◌/◌, ◌^◌, ◌≤◌, ℕ}
 use native.Mathlib.Omega.{arith}
 use lib.ListN.{length, length-set}
-use borrow.Author.Rules.{rules}
 use Rattle.laws.proofs.Order.{mul-below}
 use Rattle.laws.proofs.Span.{span-end, span-step}
 use Rattle.laws.proofs.Writing.{writing-as, writing-done, writing-fits, writing-run, writing_start}
@@ -51,11 +50,11 @@ module _ (c : In-loop-k) where
   room : c.loop-k.i + b ≤ length c.loop-k.out
   room =
       let l : length (item k) ≡ b = length-sample_bytes b _ few.0 few.1 in
-      omega (arith, writing-fits (item k) _ (writing-as c.loop-k.invariant.2 step))
+      omega (arith, writing-fits (item k) _ (writing-as c.loop-k.invariant.1 step))
 
 pub loop-k-init : goal.loop-k-init
 unfolding line_bytes samples_of
-loop-k-init c = (omega arith, omega arith, writing_start _ _ _ (omega (arith, length-line_bytes c.args.plane.now c.args.bytes c.args.line c.args.n c.requires.0.positive c.requires.0.bounded)))
+loop-k-init c = (omega arith, writing_start _ _ _ (omega (arith, length-line_bytes c.args.plane.now c.args.bytes c.args.line c.args.n c.requires.0.positive c.requires.0.bounded)))
 
 pub overflow_mul-u : goal.overflow_mul-u
 overflow_mul-u c = omega (arith, walked c)
@@ -102,18 +101,14 @@ bounds-out-i-in-loop-k c = simp length-set (omega (arith, room (goal.at.bounds-o
 pub overflow_add-i : goal.overflow_add-i
 overflow_add-i c = omega (arith, room (goal.at.overflow_add-i c).In-loop-k)
 
-pub overflow_add-k : goal.overflow_add-k
-overflow_add-k c = omega arith
-
 pub loop-k-preserved : goal.loop-k-preserved
 unfolding place_on Bytes
 loop-k-preserved c = (
   omega arith,
-  omega arith,
-  writing-run (item (goal.at.loop-k-preserved c).In-loop-k (k (goal.at.loop-k-preserved c).In-loop-k)) (writing-as c.loop-k.invariant.2 (step (goal.at.loop-k-preserved c).In-loop-k)) (ap (λ (n : ℕ). c.loop-k.i + n) (sym (length-sample_bytes (b (goal.at.loop-k-preserved c).In-loop-k) _ (few (goal.at.loop-k-preserved c).In-loop-k).0 (few (goal.at.loop-k-preserved c).In-loop-k).1)))
+  writing-run (item (goal.at.loop-k-preserved c).In-loop-k (k (goal.at.loop-k-preserved c).In-loop-k)) (writing-as c.loop-k.invariant.1 (step (goal.at.loop-k-preserved c).In-loop-k)) (ap (λ (n : ℕ). c.loop-k.i + n) (sym (length-sample_bytes (b (goal.at.loop-k-preserved c).In-loop-k) _ (few (goal.at.loop-k-preserved c).In-loop-k).0 (few (goal.at.loop-k-preserved c).In-loop-k).1)))
       (sym (sample-stored c.loop-k.out (P (goal.at.loop-k-preserved c).In-loop-k) (b (goal.at.loop-k-preserved c).In-loop-k) c.loop-k.i (place_on (L (goal.at.loop-k-preserved c).In-loop-k) (k (goal.at.loop-k-preserved c).In-loop-k)) (λ i. omega (arith, c.type_inv.plane i)) (few (goal.at.loop-k-preserved c).In-loop-k).0
       (few (goal.at.loop-k-preserved c).In-loop-k).1)),
 )
 
 pub returns : goal.returns
-returns c = let e : c.loop-k.k ≡ c.args.n = omega arith in (c.loop-k.invariant.1 ∙ ap (λ (x : ℕ). c.args.at + x * c.args.bytes) e, (writing-done (writing-as c.loop-k.invariant.2 (span-end _ _ _ c.loop-k-test.false))).1)
+returns c = let e : c.loop-k.k ≡ c.args.n = omega arith in (c.loop-k.invariant.0 ∙ ap (λ (x : ℕ). c.args.at + x * c.args.bytes) e, (writing-done (writing-as c.loop-k.invariant.1 (span-end _ _ _ c.loop-k-test.false))).1)

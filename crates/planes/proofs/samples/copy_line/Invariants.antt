@@ -1,5 +1,5 @@
 use mathlib.Core.Path.{◌≡◌}
-use Prim.Native.Nat.{◌*◌, ◌+◌, ◌-◌, ◌≤◌}
+use Prim.Native.Nat.{◌*◌, ◌+◌}
 use Rattle.laws.proofs.Writing.{Writing}
 use Rattle.laws.specs.Span.{span}
 use Rattle.planes.specs.Bytes.{sample_at, sample_bytes}
@@ -8,11 +8,8 @@ use Rattle.planes.proofs.samples.copy_line.Given as goal
 
 abbrev pub invariant-loop-k : goal.invariant-loop-k
 invariant-loop-k l =
-    (l.k ≤ l.n) × (l.i ≡ l.at + l.k * l.bytes)
+    (l.i ≡ l.at + l.k * l.bytes)
     × Writing l.initial.out l.at (line_bytes l.plane l.bytes (record { origin = l.origin; step = l.step; from = l.from; forth = l.forth; back = l.back; half = l.half }) l.n) l.out l.i
     (span (λ x. sample_bytes l.bytes
     (sample_at l.plane l.bytes (place_on (record { origin = l.origin; step = l.step; from = l.from; forth = l.forth; back = l.back; half = l.half }) x)))
     l.k l.n)
-
-abbrev pub decreases-loop-k : goal.decreases-loop-k
-decreases-loop-k l = l.n - l.k

@@ -1,25 +1,23 @@
-use mathlib.Core.List.{[], ◌∷◌}
-use mathlib.Core.Path.{refl}
+use mathlib.Core.Path.{◌∙◌, ◌≡◌, ap}
+use Prim.Native.Nat.{◌*◌, ◌+◌, ℕ}
 use native.Mathlib.Omega.{arith}
-use borrow.Author.Rules.{rules}
+use lib.ListN.{length}
 use Rattle.laws.proofs.Span.{span-end, span-step}
-use Rattle.laws.proofs.Writing.{writing-as, writing-done, writing-put, writing_start, writing-to}
+use Rattle.laws.proofs.Writing.{writing-as, writing-done, writing-fits, writing-run, writing_start}
+use Rattle.laws.specs.Span.{span}
 use Rattle.planes.proofs.ByteLaws.{length-even}
 use Rattle.planes.specs.inner.Promoted.{even_bytes}
 use Rattle.planes.proofs.samples.fill_bytes.Goals as goal
 
 pub loop-k-init : goal.loop-k-init
 unfolding even_bytes
-loop-k-init c = (omega arith, writing-to (writing_start _ _ _ (omega (arith, length-even (c.args.v ∷ []) c.args.n, c.requires))) (omega arith))
+loop-k-init g c = let e : length c.args.v ≡ g.row.BYTES = omega arith in writing_start _ _ _ (omega (arith, length-even c.args.v c.args.n, ap (λ (k : ℕ). c.args.n * k) e))
 
-pub overflow_add-out : goal.overflow_add-out
-overflow_add-out c = omega (arith, c.loop-k.invariant.1.long, c.requires)
-
-pub bounds-out-at : goal.bounds-out-at
-bounds-out-at c = omega (arith, c.loop-k.invariant.1.long, c.requires)
+pub copy_row-i-requires : goal.copy_row-i-requires
+copy_row-i-requires g c = writing-fits c.args.v (span (λ x. c.args.v) (c.loop-k._k + 1) c.args.n) (writing-as c.loop-k.invariant (span-step (λ x. c.args.v) c.loop-k._k c.args.n c.loop-k-test.true))
 
 pub loop-k-preserved : goal.loop-k-preserved
-loop-k-preserved c = (omega arith, writing-to (writing-put (writing-as c.loop-k.invariant.1 (span-step _ c.loop-k.k c.args.n c.loop-k-test.true))) (omega arith))
+loop-k-preserved g c = writing-run c.args.v (writing-as c.loop-k.invariant (span-step (λ x. c.args.v) c.loop-k._k c.args.n c.loop-k-test.true)) c.copy_row-i.ensures.0 c.copy_row-i.ensures.1
 
 pub returns : goal.returns
-returns c = (refl, (writing-done (writing-as c.loop-k.invariant.1 (span-end _ c.loop-k.k c.args.n c.loop-k-test.false))).1)
+returns g c = let w = writing-done (writing-as c.loop-k.invariant (span-end (λ x. c.args.v) c.loop-k._k c.args.n c.loop-k-test.false)) in (w.0 ∙ ap (λ (k : ℕ). c.args.at + k) (length-even c.args.v c.args.n ∙ (let e : length c.args.v ≡ g.row.BYTES = omega arith in ap (λ (k : ℕ). c.args.n * k) e)), w.1)

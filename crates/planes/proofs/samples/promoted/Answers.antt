@@ -1,7 +1,5 @@
 use mathlib.Core.Path.{◌∙◌, sym}
-use Rattle.laws.specs.Pick.{pick}
 use Rattle.image.proofs.FormLaws.{bytes-few}
-use Rattle.planes.specs.inner.Promoted.{promoted_in}
 use Rattle.planes.proofs.samples.promoted.Goals as goal
 
 pub sample-requires : goal.sample-requires
@@ -16,26 +14,3 @@ sample-requires c = (
     c.bytes_per_sample.ensures,
   ) (c.requires.inside (sym c.has.ensures ∙ c.if-has.true)),
 )
-
-pub returns-then-has : goal.returns-then-has
-unfolding promoted_in pick
-returns-then-has c =
-    simp (
-      sym c.has.ensures,
-      c.if-has.true,
-      sym c.half_width.ensures,
-      sym c.covering-cx.ensures,
-      sym c.half_height.ensures,
-      sym c.covering-cy.ensures,
-      sym c.bytes_per_sample.ensures,
-      sym c.sample.ensures,
-    )
-
-pub returns : goal.returns
-unfolding promoted_in pick
-returns c =
-    simp (
-      sym c.has.ensures,
-      c.if-has.false,
-      sym c.middle.ensures,
-    )

@@ -1,8 +1,6 @@
 use mathlib.Core.Path.{◌∙◌, ◌≡◌, ap, sym}
 use Prim.Native.Nat.{◌%◌, ◌/◌}
 use native.Mathlib.Omega.{arith}
-use lib.ListN.{length-set}
-use borrow.Author.Rules.{rules}
 use Rattle.laws.specs.Puts.{puts}
 use Rattle.planes.proofs.ByteLaws.{sample-one, sample-two}
 use Rattle.planes.proofs.samples.put_sample.Goals as goal
@@ -10,9 +8,6 @@ use Rattle.planes.proofs.samples.put_sample.Goals as goal
 pub returns-then-bytes-eq1 : goal.returns-then-bytes-eq1
 unfolding puts
 returns-then-bytes-eq1 c = (omega arith, sym (ap (puts c.args.out.now c.args.at) (sample-one c.args.bytes c.args.v c.if-bytes-eq1.true)))
-
-pub bounds-out-at-2 : goal.bounds-out-at-2
-bounds-out-at-2 c = simp length-set (omega arith)
 
 pub returns : goal.returns
 unfolding puts

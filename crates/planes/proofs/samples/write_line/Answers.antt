@@ -3,7 +3,6 @@ use Prim.Native.Nat.{◌*◌, ◌+◌, ◌-◌, ◌<◌, ◌≤◌, ℕ}
 use native.Mathlib.Omega.{arith}
 use lib.ListN.{drop, length, length-drop, take}
 use lib.Seq.{length-take-le}
-use borrow.Author.Rules.{rules}
 use Rattle.laws.proofs.Order.{positive}
 use Rattle.laws.specs.Puts.{puts, Bytes}
 use Rattle.planes.proofs.LineLaws.{line-inside, line-none, line_taken}

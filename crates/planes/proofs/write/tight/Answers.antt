@@ -1,6 +1,5 @@
 use mathlib.Core.Path.{◌∙◌}
 use native.Mathlib.Omega.{arith}
-use borrow.Author.Rules.{rules}
 use Rattle.planes.proofs.RoundTrip.{tight-planes}
 use Rattle.records.specs.Record.{past}
 use Rattle.planes.proofs.write.tight.Goals as goal

@@ -1,10 +1,8 @@
+use Rattle.std.specs.Prelude.{Err}
 use mathlib.Core.Path.{◌∙◌, ap, sym}
 use Rattle.laws.proofs.Out.{then-done}
-use Rattle.laws.specs.Out.{refused}
 use Rattle.props.proofs.ChainLaws.{along-begins, along-ends, along-next, along-refused, along-stands}
-use Rattle.props.specs.Entry.{entry_out}
 use Rattle.plans.proofs.ChainPlanLaws.{entry-sound, plan-start, start-sound}
-use Rattle.plans.specs.inner.ChainPlan.{chain_plan_out}
 use Rattle.plans.proofs.chain_plan.plan_chain.Goals as goal
 
 pub new-reached-requires : goal.new-reached-requires
@@ -16,25 +14,23 @@ loop-i-init c = (
   rw c.new-reached.ensures (start-sound _ c.requires.1),
 )
 
-pub returns-in_default : goal.returns-in_default
-returns-in_default c =
-    along-stands _ _ _ _ _ _ _ _ c.loop-i.invariant.0 c.loop-i-test.true _ (sym c.read_entry.ensures ∙ ap entry_out c.in_default.is)
+pub returns-in_err-entry : goal.returns-in_err-entry
+returns-in_err-entry c = along-stands _ _ _ _ _ _ _ _ c.loop-i.invariant.0 c.loop-i-test.true _ (sym c.read_entry.ensures ∙ c.in_err-entry.was)
 
 pub after_entry-requires : goal.after_entry-requires
-after_entry-requires c =
-    c.loop-i.invariant.1
+after_entry-requires c = c.loop-i.invariant.1
 
-pub returns-in-Refused : goal.returns-in-Refused
-returns-in-Refused c =
-    ap (λ r. refused r) c.about.ensures
+pub returns-in-Err : goal.returns-in-Err
+returns-in-Err c =
+    ap (λ r. Err r) c.about.ensures
     ∙ sym (plan-start _ _ _ _ _ _ c.new-reached.ensures
-    ∙ along-refused _ _ _ _ _ _ _ _ c.loop-i.invariant.0 c.loop-i-test.true _ _ (sym c.read_entry.ensures ∙ ap entry_out c.in-Read.is)
-    (sym c.after_entry.ensures ∙ ap chain_plan_out c.in-Refused.is))
+    ∙ along-refused _ _ _ _ _ _ _ _ c.loop-i.invariant.0 c.loop-i-test.true _ _ (sym c.read_entry.ensures ∙ c.in_ok-entry.was)
+    (sym c.after_entry.ensures ∙ c.in-Err.is))
 
 pub loop-i-preserved : goal.loop-i-preserved
 loop-i-preserved c =
-    let q = sym c.after_entry.ensures ∙ ap chain_plan_out c.in-ChainPlan.is in (
-      along-next _ _ _ _ _ _ _ _ c.loop-i.invariant.0 c.loop-i-test.true _ _ (sym c.read_entry.ensures ∙ ap entry_out c.in-Read.is) q,
+    let q = sym c.after_entry.ensures ∙ c.in-Ok.is in (
+      along-next _ _ _ _ _ _ _ _ c.loop-i.invariant.0 c.loop-i-test.true _ _ (sym c.read_entry.ensures ∙ c.in_ok-entry.was) q,
       entry-sound _ _ _ _ c.loop-i.invariant.1 q,
     )
 

@@ -1,4 +1,3 @@
-use Prim.Native.Nat.{◌-◌}
 use Rattle.laws.specs.Out.{and_then}
 use Rattle.image.specs.Sound.{FormSound}
 use Rattle.props.proofs.ChainLaws.{Along}
@@ -11,6 +10,3 @@ invariant-loop-i l =
     Along chain_plan_after l.essential_only l.count l.s (and_then (entries_at l.count l.s l.initial.next) (λ es. fold_chain chain_plan_after l.essential_only es l.initial.reached)) l.i l.next
     l.reached
     × FormSound l.reached.form
-
-abbrev pub decreases-loop-i : goal.decreases-loop-i
-decreases-loop-i l = l.count - l.i

@@ -1,44 +1,48 @@
-use mathlib.Core.Path.{◌∙◌, ap, sym}
+use mathlib.Core.Path.{◌∙◌, sym}
+use Rattle.std.proofs.lemmas.Result.{err_from_is_err_and}
 use Rattle.props.proofs.ChainLaws.{judged-chain}
-use Rattle.props.specs.Chain.{chain_out}
-use Rattle.sight.specs.Sight.{sight_out}
-use Rattle.inputs.specs.inner.Summary.{plan_out}
 use Rattle.inputs.specs.inner.Sought.{is_sought}
-use Rattle.point.proofs.PointLaws.{overlay-alpha, overlay-chain, overlay-done, overlay-inputs, overlay-malformed, overlay-sight}
+use Rattle.point.proofs.PointLaws.{overlay-alpha, overlay-chain, overlay-done, overlay-inputs, overlay-number, overlay-sight}
 use Rattle.point.specs.Point.{see_through_frame}
 use Rattle.point.proofs.look.look_overlay.Goals as goal
 
-pub returns-in_default : goal.returns-in_default
-returns-in_default c = overlay-malformed _ _ _ _ _ (sym c.read_number.ensures ∙ c.in_default.is)
+pub returns-in_err-count : goal.returns-in_err-count
+returns-in_err-count c =
+    let p = err_from_is_err_and c.from_residual.result c.from_residual.ensures.1 in
+    rw (p.1, p.2) (overlay-number _ _ _ _ _ _ (sym c.read_number.ensures ∙ c.in_err-count.was))
+
+pub returns-in_err-c : goal.returns-in_err-c
+returns-in_err-c c =
+    let p = err_from_is_err_and c.from_residual-in_err-c.result c.from_residual-in_err-c.ensures.1 in
+    rw (p.1, p.2) (overlay-chain _ _ _ _ _ _ _ (sym c.read_number.ensures ∙ c.in_ok-count.was) _ (sym c.check_chain.ensures ∙ c.in_err-c.was))
+
+pub returns-in_err-q : goal.returns-in_err-q
+returns-in_err-q c =
+    let p = err_from_is_err_and c.from_residual-in_err-q.result c.from_residual-in_err-q.ensures.1 in
+    rw (p.1, p.2)
+    (overlay-inputs _ _ _ _ _ _ _ (sym c.read_number.ensures ∙ c.in_ok-count.was) _ (sym c.check_chain.ensures ∙ c.in_ok-c.was) _
+    (sym c.read_inputs.ensures ∙ c.in_err-q.was))
 
 pub returns-then-q : goal.returns-then-q
 unfolding see_through_frame is_sought
 returns-then-q c =
     rw c.about.ensures
-    (overlay-alpha _ _ _ _ _ _ _ (sym c.read_number.ensures ∙ c.in-Number.is) _ (sym c.check_chain.ensures ∙ ap chain_out c.in-Read.is) _
-    (sym c.read_inputs.ensures ∙ ap plan_out c.in-Read-read_inputs.is) _ c.if-q.true c.first_sought-seen.ensures)
+    (overlay-alpha _ _ _ _ _ _ _ (sym c.read_number.ensures ∙ c.in_ok-count.was) _ (sym c.check_chain.ensures ∙ c.in_ok-c.was) _
+    (sym c.read_inputs.ensures ∙ c.in_ok-q.was) _ c.if-q.true c.first_sought-seen.ensures)
 
 pub reduce_judged-requires : goal.reduce_judged-requires
-reduce_judged-requires c =
-    (judged-chain _ _ _ (sym c.check_chain.ensures ∙ ap chain_out c.in-Read.is)).0
+reduce_judged-requires c = (judged-chain _ _ _ (sym c.check_chain.ensures ∙ c.in_ok-c.was)).0
 
-pub returns-in-Refused : goal.returns-in-Refused
-returns-in-Refused c =
-    overlay-chain _ _ _ _ _ _ _ (sym c.read_number.ensures ∙ c.in-Number.is) _ (sym c.check_chain.ensures ∙ ap chain_out c.in-Refused.is)
+pub returns-in_err-sight : goal.returns-in_err-sight
+returns-in_err-sight c =
+    let p = err_from_is_err_and c.from_residual-in_err-sight.result c.from_residual-in_err-sight.ensures.1 in
+    rw (p.1, p.2)
+    (overlay-sight _ _ _ _ _ _ _ (sym c.read_number.ensures ∙ c.in_ok-count.was) _ (sym c.check_chain.ensures ∙ c.in_ok-c.was) _
+    (sym c.read_inputs.ensures ∙ c.in_ok-q.was) c.if-q.false _
+    (sym c.reduce_judged.ensures ∙ c.in_err-sight.was))
 
-pub returns-in-Refused-read_inputs : goal.returns-in-Refused-read_inputs
-returns-in-Refused-read_inputs c =
-    overlay-inputs _ _ _ _ _ _ _ (sym c.read_number.ensures ∙ c.in-Number.is) _ (sym c.check_chain.ensures ∙ ap chain_out c.in-Read.is) _
-    (sym c.read_inputs.ensures ∙ ap plan_out c.in-Refused-read_inputs.is)
-
-pub returns-in-Refused-reduce_judged : goal.returns-in-Refused-reduce_judged
-returns-in-Refused-reduce_judged c =
-    overlay-sight _ _ _ _ _ _ _ (sym c.read_number.ensures ∙ c.in-Number.is) _ (sym c.check_chain.ensures ∙ ap chain_out c.in-Read.is) _
-    (sym c.read_inputs.ensures ∙ ap plan_out c.in-Read-read_inputs.is) c.if-q.false _
-    (sym c.reduce_judged.ensures ∙ ap sight_out c.in-Refused-reduce_judged.is)
-
-pub returns-in-Sight : goal.returns-in-Sight
-returns-in-Sight c =
-    overlay-done _ _ _ _ _ _ _ (sym c.read_number.ensures ∙ c.in-Number.is) _ (sym c.check_chain.ensures ∙ ap chain_out c.in-Read.is) _
-    (sym c.read_inputs.ensures ∙ ap plan_out c.in-Read-read_inputs.is) c.if-q.false _
-    (sym c.reduce_judged.ensures ∙ ap sight_out c.in-Sight.is)
+pub returns : goal.returns
+returns c =
+    overlay-done _ _ _ _ _ _ _ (sym c.read_number.ensures ∙ c.in_ok-count.was) _ (sym c.check_chain.ensures ∙ c.in_ok-c.was) _
+    (sym c.read_inputs.ensures ∙ c.in_ok-q.was) c.if-q.false _
+    (sym c.reduce_judged.ensures ∙ c.in_ok-sight.was)

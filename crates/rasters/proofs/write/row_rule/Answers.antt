@@ -4,7 +4,7 @@ use Rattle.rasters.proofs.write.row_rule.Goals as goal
 
 pub footprint-requires : goal.footprint-requires
 unfolding RuleFits
-footprint-requires c = let k = rw c.in-Area.is at c.requires.0 in (c.requires.2, c.requires.1.positive, k.1.new, k.1.old)
+footprint-requires c = let k = rw c.in-Area.is at c.requires.0 in (c.requires.1, c.args.s.fits.down.positive, k.1.new, k.1.old)
 
 pub returns-in-Near : goal.returns-in-Near
 unfolding row_of

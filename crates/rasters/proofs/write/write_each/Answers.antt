@@ -1,5 +1,5 @@
 use mathlib.Core.List.{List, ◌++◌}
-use mathlib.Core.Path.{◌∙◌, ◌≡◌, ap, refl, sym}
+use mathlib.Core.Path.{◌∙◌, ◌≡◌, ap, sym}
 use Prim.Native.Nat.{◌*◌, ◌+◌, ◌<◌, ◌≤◌, ℕ}
 use lib.ListN.{length}
 use Rattle.laws.proofs.Span.{span-end, span-step}
@@ -15,45 +15,42 @@ use Rattle.rasters.proofs.write.write_each.Goals.{In-loop-y}
 -- the row y
 module _ (c : In-loop-y) where
   abbrev item : ℕ → List ℕ
-  item v = raster_row c.args.plane.now c.args.r (row_of c.args.r.rule c.args.r.down v)
+  item v = raster_row c.args.s.plane.now c.args.s.raster (row_of c.args.s.raster.rule c.args.s.raster.down v)
 
-  left : c.loop-y.y < c.args.r.down.to
-  left = rw c.loop-y.invariant.0 at c.loop-y-test.true
+  left : c.loop-y.y < c.args.s.raster.down.to
+  left = c.loop-y-test.true
 
-  step : span item c.loop-y.y c.args.r.down.to ≡ item c.loop-y.y ++ span item (c.loop-y.y + 1) c.args.r.down.to
-  step = span-step item c.loop-y.y c.args.r.down.to left
+  step : span item c.loop-y.y c.args.s.raster.down.to ≡ item c.loop-y.y ++ span item (c.loop-y.y + 1) c.args.s.raster.down.to
+  step = span-step item c.loop-y.y c.args.s.raster.down.to left
 
-  long : length (item c.loop-y.y) ≡ c.args.r.across.to * c.args.r.to_bytes
-  long = length-raster_row c.args.plane.now c.args.r _ c.requires.0
+  long : length (item c.loop-y.y) ≡ c.args.s.raster.across.to * c.args.s.raster.to_bytes
+  long = length-raster_row c.args.s.plane.now c.args.s.raster _ c.args.s.fits
 
-  room : c.loop-y.i + c.args.r.across.to * c.args.r.to_bytes ≤ length c.loop-y.out
-  room = rw (← long) (writing-fits (item c.loop-y.y) _ (writing-as c.loop-y.invariant.1 step))
+  room : c.loop-y.i + c.args.s.raster.across.to * c.args.s.raster.to_bytes ≤ length c.loop-y.out
+  room = rw (← long) (writing-fits (item c.loop-y.y) _ (writing-as c.loop-y.invariant step))
 
 pub loop-y-init : goal.loop-y-init
 unfolding raster_bytes
-loop-y-init c = (refl, writing_start _ _ _ (rw (length-raster_bytes c.args.plane.now c.args.r c.requires.0) c.requires.2))
+loop-y-init c = (writing_start _ _ _ (rw (length-raster_bytes c.args.s.plane.now c.args.s.raster c.args.s.fits) c.requires.1))
 
 pub row_rule-requires : goal.row_rule-requires
-row_rule-requires c = (c.requires.1, c.requires.0.down, left (goal.at.row_rule-requires c).In-loop-y)
+row_rule-requires c = (c.requires.0, left (goal.at.row_rule-requires c).In-loop-y)
 
 pub write_row-i-requires : goal.write_row-i-requires
 write_row-i-requires c = (
-  c.requires.0,
-  rw c.row_rule.ensures (row_fits _ _ _ _ c.requires.1 c.requires.0.down (left (goal.at.write_row-i-requires c).In-loop-y)),
+  rw c.row_rule.ensures (row_fits _ _ _ _ c.requires.0 c.args.s.fits.down (left (goal.at.write_row-i-requires c).In-loop-y)),
   room (goal.at.write_row-i-requires c).In-loop-y,
 )
 
 pub loop-y-preserved : goal.loop-y-preserved
-loop-y-preserved c = (
-  c.loop-y.invariant.0,
-  writing-run (item (goal.at.loop-y-preserved c).In-loop-y c.loop-y.y) (writing-as c.loop-y.invariant.1 (step (goal.at.loop-y-preserved c).In-loop-y))
-      (c.write_row-i.ensures.0 ∙ ap (λ (k : ℕ). c.loop-y.i + k) (sym (long (goal.at.loop-y-preserved c).In-loop-y)))
-      (c.write_row-i.ensures.1
-      ∙ ap (λ (q : RowRule). puts c.loop-y.out c.loop-y.i (raster_row c.args.plane.now c.args.r q))
-      c.row_rule.ensures),
-)
+loop-y-preserved c =
+    writing-run (item (goal.at.loop-y-preserved c).In-loop-y c.loop-y.y) (writing-as c.loop-y.invariant (step (goal.at.loop-y-preserved c).In-loop-y))
+    (c.write_row-i.ensures.0 ∙ ap (λ (k : ℕ). c.loop-y.i + k) (sym (long (goal.at.loop-y-preserved c).In-loop-y)))
+    (c.write_row-i.ensures.1
+    ∙ ap (λ (q : RowRule). puts c.loop-y.out c.loop-y.i (raster_row c.args.s.plane.now c.args.s.raster q))
+    c.row_rule.ensures)
 
 pub returns : goal.returns
 returns c =
-    let w = writing-done (writing-as c.loop-y.invariant.1 (span-end _ _ _ (rw c.loop-y.invariant.0 at c.loop-y-test.false))) in
-    (w.0 ∙ ap (λ (k : ℕ). c.args.at + k) (length-raster_bytes c.args.plane.now c.args.r c.requires.0), w.1)
+    let w = writing-done (writing-as c.loop-y.invariant (span-end _ _ _ c.loop-y-test.false)) in
+    (w.0 ∙ ap (λ (k : ℕ). c.args.at + k) (length-raster_bytes c.args.s.plane.now c.args.s.raster c.args.s.fits), w.1)

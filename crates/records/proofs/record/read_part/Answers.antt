@@ -1,9 +1,7 @@
-use mathlib.Core.Path.{◌∙◌, sym}
-use Rattle.laws.proofs.Order.{pick-false, pick_true}
+use Rattle.image.proofs.JudgedLaws.{form-rows}
+use Rattle.image.specs.Format.{rows_of}
 use Rattle.records.proofs.record.read_part.Goals as goal
 
-pub returns-then-has : goal.returns-then-has
-returns-then-has c = c.read_plane.ensures ∙ sym (pick_true _ _ _ c.if-has.true)
-
-pub returns : goal.returns
-returns c = sym (pick-false _ _ _ c.if-has.false)
+pub read_plane-requires : goal.read_plane-requires
+unfolding rows_of
+read_plane-requires c = rw (c.rows.ensures, c.row_size-row.ensures) (form-rows c.args.form c.requires c.args.part)

@@ -8,21 +8,21 @@ use Rattle.resample.proofs.draw.draw.Goals as goal
 use Rattle.resample.proofs.draw.draw.Goals.{After-record_size}
 
 -- how long the new record is
-size : (c : After-record_size) → c.record_size.result ≡ length (encode (redrawn c.args.form c.args.rule (decode c.args.«record».now c.args.fr)))
+size : (c : After-record_size) → c.record_size.result ≡ length (encode (redrawn c.args.form c.args.rule (decode c.args.picture.«record».now c.args.picture.frame)))
 unfolding redrawn
 size c = c.record_size.ensures ∙ sym (length-encode _)
 
 pub record_size-requires : goal.record_size-requires
-record_size-requires c = c.requires.1.new
+record_size-requires c = c.requires.new
 
 pub returns-then-out-record_size : goal.returns-then-out-record_size
 returns-then-out-record_size c = refused-answers _ _ _ (fitted_short _ _ (rw (← (size (goal.at.returns-then-out-record_size c).After-record_size)) c.if-out-record_size.true))
 
 pub write_record-requires : goal.write_record-requires
-write_record-requires c = (c.requires.0, c.requires.1, rw (← (size (goal.at.write_record-requires c).After-record_size)) c.if-out-record_size.false)
+write_record-requires c = (c.requires, rw (← (size (goal.at.write_record-requires c).After-record_size)) c.if-out-record_size.false)
 
 pub returns : goal.returns
 returns c =
     let h = rw (size (goal.at.returns c).After-record_size) at c.if-out-record_size.false in
-    done-answers _ (encode (redrawn c.args.form c.args.rule (decode c.args.«record».now c.args.fr))) _ _ _
+    done-answers _ (encode (redrawn c.args.form c.args.rule (decode c.args.picture.«record».now c.args.picture.frame))) _ _ _
     (fitted-room _ _ h) h c.write_record.ensures.0 c.write_record.ensures.1

@@ -13,18 +13,16 @@ pub returns-then-has_size : goal.returns-then-has_size
 returns-then-has_size c = answers-as _ _ _ _ _ (area-kept _ _ _ _ (sym c.has_size.ensures ∙ c.if-has_size.true)) c.hand_back.ensures
 
 pub draw-requires : goal.draw-requires
-draw-requires c = (
-  c.requires.0,
-  rw c.sized.ensures
-      (area-rule _ _ c.requires.0.form c.requires.1.sound
-      (c.requires.1.small (sym c.has_size.ensures ∙ c.if-has_size.false))),
-)
+draw-requires c =
+    rw c.sized.ensures
+    (area-rule _ _ c.args.picture.sound.form c.requires.sound
+    (c.requires.small (sym c.has_size.ensures ∙ c.if-has_size.false)))
 
 pub returns : goal.returns
 returns c =
     answers-as _ _ _ _ _
     (area-drawn _ _ _ _ (sym c.has_size.ensures ∙ c.if-has_size.false)
     ∙ ap
-    (λ (n : Form). fitted (length c.args.out.now) (encode (redrawn n Rule.Area (decode c.args.«record».now c.args.fr))))
+    (λ (n : Form). fitted (length c.args.out.now) (encode (redrawn n Rule.Area (decode c.args.picture.«record».now c.args.picture.frame))))
     (sym c.sized.ensures))
     c.draw.ensures

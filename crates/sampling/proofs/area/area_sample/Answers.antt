@@ -1,12 +1,11 @@
 use mathlib.Core.Path.{◌≡◌, ap, ap₂, refl}
 use Prim.Native.Nat.{◌*◌, ◌+◌, ◌-◌, ◌<◌, ◌^◌, ◌≤◌, ℕ}
 use native.Mathlib.Omega.{arith}
-use borrow.Author.Rules.{Fits-under, rules}
-use Rattle.laws.proofs.Order.{mul-below}
+use borrow.Author.Rules.{Fits-under}
 use Rattle.planes.specs.Bytes.{sample_in}
 use Rattle.sampling.proofs.FootLaws.{mean-small, sum-whole, weighing-done, weighing-fits, weighing-start, weighing-step, whole-small}
-use Rattle.sampling.proofs.RedrawLaws.{area-ends, row-sum-fits}
-use Rattle.sampling.specs.Area.{area_mean, first_of, past_of, sum, weighed}
+use Rattle.sampling.proofs.RedrawLaws.{row-sum-fits}
+use Rattle.sampling.specs.Area.{area_mean, first_of, past_of, weighed}
 use Rattle.sampling.specs.Rounded.{rounded}
 use Rattle.sampling.proofs.area.area_sample.Goals as goal
 use Rattle.sampling.proofs.area.area_sample.Goals.{After-loop-j, After-row_sum, In-loop-j, Start}
@@ -34,29 +33,12 @@ total c =
           w.1,
     )
 
-pub overflow_add-past : goal.overflow_add-past
-overflow_add-past c = let k = area-ends _ _ _ c.args.across c.args.down c.requires in omega (arith, k.1)
-
 pub loop-j-init : goal.loop-j-init
 unfolding first_of past_of
 loop-j-init c = (refl, weighing-start c.args.down _ _ c.requires.tall.positive)
 
 pub row_sum-requires : goal.row_sum-requires
 row_sum-requires c = row-sum-fits _ _ _ _ c.args.down _ c.requires (left c)
-
-pub weight-requires : goal.weight-requires
-weight-requires c =
-    let k = area-ends _ _ _ c.args.across c.args.down c.requires in
-    (c.requires.tall.positive, omega (arith, k.1), c.loop-j.invariant.1.low, left (goal.at.weight-requires c).In-loop-j)
-
-pub overflow_mul-sum : goal.overflow_mul-sum
-overflow_mul-sum c =
-    let k = area-ends _ _ _ c.args.across c.args.down c.requires in
-    omega (
-      arith,
-      mul-below (2 ^ 54) 256 c.row_sum.result c.weight.result (omega (arith, c.row_sum.ensures.1, k.0))
-          c.weight.ensures.1,
-    )
 
 pub overflow_add-sum : goal.overflow_add-sum
 overflow_add-sum c =
@@ -74,20 +56,11 @@ loop-j-preserved c = (
       (ap₂ (λ (a b : ℕ). c.loop-j.sum + a * b) c.row_sum.ensures.0 c.weight.ensures.0),
 )
 
-pub overflow_sub-whole : goal.overflow_sub-whole
-overflow_sub-whole c = omega (arith, c.requires.wide.positive)
-
-pub overflow_sub-whole-2 : goal.overflow_sub-whole-2
-overflow_sub-whole-2 c = omega (arith, c.requires.tall.positive)
-
 pub overflow_mul-whole : goal.overflow_mul-whole
 overflow_mul-whole c = omega (arith, (whole (goal.at.overflow_mul-whole c).Start).1)
 
 pub overflow_add-result : goal.overflow_add-result
 overflow_add-result c = omega (arith, (whole (goal.at.overflow_add-result c).Start).1, (total (goal.at.overflow_add-result c).After-loop-j).1)
-
-pub nonzero_div-result-2 : goal.nonzero_div-result-2
-nonzero_div-result-2 c = omega (arith, (whole (goal.at.nonzero_div-result-2 c).Start).0)
 
 pub overflow_cast-result : goal.overflow_cast-result
 overflow_cast-result c = Fits-under _ _ 65536 (mean-small _ _ _ (omega (arith, (whole (goal.at.overflow_cast-result c).Start).0)) (total (goal.at.overflow_cast-result c).After-loop-j).1) tt

@@ -1,42 +1,19 @@
 use mathlib.Core.Path.{ap₂, refl}
-use Prim.Native.Nat.{◌*◌, ◌+◌, ◌<◌, ◌≤◌, ℕ}
+use Prim.Native.Nat.{◌*◌, ◌+◌, ◌≤◌, ℕ}
 use native.Mathlib.Omega.{arith}
-use borrow.Author.Rules.{rules}
-use Rattle.laws.proofs.Order.{mul-below}
 use Rattle.planes.specs.Bytes.{sample_in}
-use Rattle.sampling.proofs.FootLaws.{past-in, weighing-done, weighing-fits, weighing-start, weighing-step}
-use Rattle.sampling.specs.Area.{first_of, past_of, sum}
+use Rattle.sampling.proofs.FootLaws.{weighing-done, weighing-fits, weighing-start, weighing-step}
+use Rattle.sampling.specs.Area.{first_of, past_of}
 use Rattle.sampling.proofs.area.row_sum.Goals as goal
 use Rattle.sampling.proofs.area.row_sum.Goals.{After-weight, In-loop-j}
-
--- sample j is inside, and small
-column : (c : In-loop-j) → c.loop-j.j < c.requires.columns
-column c = past-in c.args.f _ _ c.requires.wide (rw c.loop-j.invariant.0 at c.loop-j-test.true)
 
 few : (c : After-weight)
     → sample_in c.args.plane.now c.args.bytes c.args.stride c.loop-j.j c.args.y ≤ 65535
 few c = rw (← c.sample.ensures) (omega (arith, c.sample.type_inv))
 
-pub overflow_add-past : goal.overflow_add-past
-overflow_add-past c = omega (arith, c.requires.wide.inside, c.requires.size)
-
 pub loop-j-init : goal.loop-j-init
 unfolding first_of past_of
 loop-j-init c = (refl, weighing-start c.args.f _ 65535 c.requires.wide.positive)
-
-pub sample-requires : goal.sample-requires
-sample-requires c = (c.requires.positive, c.requires.bounded, c.requires.inside _ (column c))
-
-pub weight-requires : goal.weight-requires
-weight-requires c = (
-  c.requires.wide.positive,
-  omega (arith, c.requires.wide.inside, c.requires.size),
-  c.loop-j.invariant.1.low,
-  rw c.loop-j.invariant.0 at c.loop-j-test.true,
-)
-
-pub overflow_mul-sum : goal.overflow_mul-sum
-overflow_mul-sum c = omega (arith, mul-below 65535 256 c.sample.result c.weight.result (omega (arith, c.sample.type_inv)) c.weight.ensures.1)
 
 pub overflow_add-sum : goal.overflow_add-sum
 overflow_add-sum c =

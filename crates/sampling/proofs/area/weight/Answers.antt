@@ -1,7 +1,6 @@
 use mathlib.Core.Path.{ap₂}
 use Prim.Native.Nat.{◌-◌, ℕ}
 use native.Mathlib.Omega.{arith}
-use borrow.Author.Rules.{rules}
 use Rattle.sampling.proofs.FootLaws.{touched, weight-le, weight-some}
 use Rattle.sampling.specs.Area.{weight_of}
 use Rattle.sampling.proofs.area.weight.Goals as goal

@@ -1,7 +1,6 @@
 use mathlib.Core.Bool.{true}
 use mathlib.Core.Path.{◌∙◌, ◌≡◌, ap, sym}
 use native.Mathlib.Omega.{arith}
-use borrow.Author.Rules.{rules}
 use Rattle.image.proofs.FormLaws.{bytes-few}
 use Rattle.image.specs.Format.{has_part}
 use Rattle.image.specs.declared.format.Form.{Form}

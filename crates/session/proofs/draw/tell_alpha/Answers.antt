@@ -1,5 +1,4 @@
 use native.Mathlib.Omega.{arith}
-use borrow.Author.Rules.{rules}
 use Rattle.session.proofs.DrawLaws.{head-some, head-within, told_none, told-some}
 use Rattle.session.proofs.draw.tell_alpha.Goals as goal
 

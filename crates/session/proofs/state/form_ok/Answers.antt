@@ -1,18 +1,9 @@
-use mathlib.Core.Path.{sym}
+use mathlib.Core.Path.{◌∙◌, ap}
 use Rattle.laws.specs.Out.{is_done}
+use Rattle.session.proofs.StateLaws.{ok-done}
 use Rattle.session.specs.State.{form_ok}
 use Rattle.session.proofs.state.form_ok.Goals as goal
 
-pub returns-in-Form : goal.returns-in-Form
-unfolding form_ok is_done
-returns-in-Form c = simp (
-  sym c.judge.ensures,
-  c.in-Form.is,
-)
-
-pub returns-in-Refused : goal.returns-in-Refused
-unfolding form_ok is_done
-returns-in-Refused c = simp (
-  sym c.judge.ensures,
-  c.in-Refused.is,
-)
+pub returns : goal.returns
+unfolding form_ok
+returns c = c.is_ok.ensures.value ∙ ok-done _ ∙ ap is_done c.judge.ensures

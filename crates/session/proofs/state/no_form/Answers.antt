@@ -1,8 +1,7 @@
 use mathlib.Core.Path.{refl}
-use Rattle.session.specs.State.{no_canvas, open_of}
 use Rattle.records.specs.Tray.{no_form}
 use Rattle.session.proofs.state.no_form.Goals as goal
 
 pub returns : goal.returns
-unfolding no_canvas open_of no_form
+unfolding no_form
 returns c = refl

@@ -1,17 +1,7 @@
-use mathlib.Core.Path.{sym}
+use mathlib.Core.Path.{◌∙◌, ap}
 use Rattle.laws.specs.Out.{is_done}
+use Rattle.session.proofs.StateLaws.{ok-done}
 use Rattle.session.proofs.state.size_ok.Goals as goal
 
-pub returns-in-Size : goal.returns-in-Size
-unfolding is_done
-returns-in-Size c = simp (
-  sym c.judge.ensures,
-  c.in-Size.is,
-)
-
-pub returns-in-Refused : goal.returns-in-Refused
-unfolding is_done
-returns-in-Refused c = simp (
-  sym c.judge.ensures,
-  c.in-Refused.is,
-)
+pub returns : goal.returns
+returns c = c.is_ok.ensures.value ∙ ok-done _ ∙ ap is_done c.judge.ensures

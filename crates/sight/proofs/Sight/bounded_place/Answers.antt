@@ -1,16 +1,13 @@
 use native.Mathlib.Omega.{arith}
-use borrow.Author.Rules.{rules}
 use Rattle.sight.proofs.Steps.{column-in, place-across, place_down, place_found, unturned-below}
 use Rattle.sight.proofs.Sight.bounded_place.Goals as goal
+use Rattle.sight.proofs.Sight.bounded_place.Goals.{then-width-column-via-then-width-column, then-width-column-via-else-width-column+then-height-row}
 
 pub returns-then-width-column : goal.returns-then-width-column
-returns-then-width-column c = place-across c.args.self _ _ _ c.width.ensures c.if-width-column.true
-
-pub returns-then-height-row : goal.returns-then-height-row
-returns-then-height-row c = place_down c.args.self _ _ _ _ c.width.ensures c.if-width-column.false c.height.ensures c.if-height-row.true
-
-pub unturned_place-l-requires : goal.unturned_place-l-requires
-unturned_place-l-requires c = (omega (arith, c.width.ensures, c.if-width-column.false), omega (arith, c.height.ensures, c.if-height-row.false))
+returns-then-width-column c = elim c.then-width-column.branch [
+  | then-width-column-via-then-width-column w ↦ place-across c.args.self _ _ _ c.width.ensures w.if-width-column.true
+  | then-width-column-via-else-width-column+then-height-row w ↦ place_down c.args.self _ _ _ _ c.width.ensures w.if-width-column.false w.height.ensures w.if-height-row.true
+]
 
 pub unexchanged_column-x-requires : goal.unexchanged_column-x-requires
 unexchanged_column-x-requires c =

@@ -1,6 +1,5 @@
 use mathlib.Core.Path.{refl}
 use native.Mathlib.Omega.{arith}
-use borrow.Author.Rules.{rules}
 use Rattle.laws.proofs.Order.{mul-below}
 use Rattle.sizes.specs.Scale.{scaled_side}
 use Rattle.sizes.proofs.iscl.scaled_side.Goals as goal

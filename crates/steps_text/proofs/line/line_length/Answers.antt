@@ -1,5 +1,4 @@
 use native.Mathlib.Omega.{arith}
-use borrow.Author.Rules.{rules}
 use Rattle.steps_text.proofs.TextLaws.{length-line}
 use Rattle.steps_text.proofs.line.line_length.Goals as goal
 

@@ -1,5 +1,4 @@
 use native.Mathlib.Omega.{arith}
-use borrow.Author.Rules.{rules}
 use Rattle.steps_text.proofs.TextLaws.{field_stored, length-field}
 use Rattle.steps_text.proofs.line.put_field.Goals as goal
 

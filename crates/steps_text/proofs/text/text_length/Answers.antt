@@ -2,8 +2,6 @@ use mathlib.Core.Path.{◌∙◌, ◌≡◌, ap}
 use Prim.Native.Nat.{◌+◌}
 use native.Mathlib.Omega.{arith}
 use lib.ListN.{length, length-append}
-use borrow.Author.Rules.{rules}
-use Rattle.image.specs.Format.{size_out}
 use Rattle.steps_text.proofs.Going.{Going, going_end, going_next, going-refused, going-stands, going_start, heading-lines}
 use Rattle.steps_text.proofs.TextLaws.{text-short}
 use Rattle.steps_text.specs.Text.{line_text, lines_from, text_of}
@@ -14,23 +12,23 @@ last_line : (c : After-refused_line_length)
     → c.loop-index.total + c.refused_line_length.result ≡ length (text_of c.args.s.now)
 last_line c =
     let e = going-refused c.args.s.now _ _ _ c.loop-index.size c.loop-index.invariant.0 c.step-made.result _ c.loop-index-test.true c.step-made.ensures
-    (ap size_out c.in-Refused.is) in
+    (c.in-Err.is) in
     omega (arith, c.loop-index.invariant.1, ap length e, c.refused_line_length.ensures)
 
 more : (c : After-line_length-total)
     → (g : Going c.args.s.now c.args.input.chain.count c.step-made.result.next (c.loop-index.index + 1))
-    × (c.loop-index.total + c.line_length-total.result + length (lines_from (c.loop-index.index + 1) g.rest c.in-Size.z)
+    × (c.loop-index.total + c.line_length-total.result + length (lines_from (c.loop-index.index + 1) g.rest c.in-Ok.z)
     ≡ length (text_of c.args.s.now))
 more c =
     let k = going_next c.args.s.now _ _ _ c.loop-index.size c.loop-index.invariant.0 c.step-made.result _ c.loop-index-test.true c.step-made.ensures
-    (ap size_out c.in-Size.is) in (
+    (c.in-Ok.is) in (
       k.0,
       omega (
         arith,
         c.loop-index.invariant.1,
         ap length k.1
-            ∙ length-append (line_text c.loop-index.index c.step-made.result.kind c.in-Size.z)
-            (lines_from (c.loop-index.index + 1) k.0.rest c.in-Size.z),
+            ∙ length-append (line_text c.loop-index.index c.step-made.result.kind c.in-Ok.z)
+            (lines_from (c.loop-index.index + 1) k.0.rest c.in-Ok.z),
         c.line_length-total.ensures,
       ),
     )
@@ -45,18 +43,12 @@ pub overflow_add-result : goal.overflow_add-result
 overflow_add-result c =
     omega (arith, last_line c, text-short c.args.s.now)
 
-pub returns-in-Refused : goal.returns-in-Refused
-returns-in-Refused c = last_line c
+pub returns-in-Err : goal.returns-in-Err
+returns-in-Err c = last_line c
 
 pub overflow_add-total : goal.overflow_add-total
 overflow_add-total c =
     omega (arith, (more c).1, text-short c.args.s.now)
-
-pub overflow_add-index : goal.overflow_add-index
-overflow_add-index c = omega (arith, c.loop-index.invariant.0.bounded, c.loop-index-test.true)
-
-pub loop-index-smaller : goal.loop-index-smaller
-loop-index-smaller c = omega (arith, c.loop-index-test.true)
 
 pub loop-index-preserved : goal.loop-index-preserved
 loop-index-preserved c = more c

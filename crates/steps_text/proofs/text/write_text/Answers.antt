@@ -1,12 +1,9 @@
 use mathlib.Core.List.{◌++◌}
-use mathlib.Core.Path.{ap, refl}
 use Prim.Native.Nat.{◌+◌}
 use native.Mathlib.Omega.{arith}
-use borrow.Author.Rules.{rules}
 use Rattle.laws.proofs.Writing.{Writing, writing-as, writing-done, writing-fits, writing-last, writing-run, writing_start}
 use Rattle.laws.specs.Pick.{pick}
 use Rattle.laws.specs.Utf8.{character_bytes, utf8}
-use Rattle.image.specs.Format.{size_out}
 use Rattle.steps_text.proofs.Going.{Going, going_end, going_next, going-refused, going-stands, going_start, heading-lines, text-stored}
 use Rattle.steps_text.specs.Text.{heading, line_text, lines_from, refused_line}
 use Rattle.steps_text.proofs.text.write_text.Goals as goal
@@ -14,20 +11,20 @@ use Rattle.steps_text.proofs.text.write_text.Goals.{After-put_line-arg-1, After-
 
 last_line : (c : After-put_refused_line-arg-1)
     → Writing c.copy_row-end.new.out c.copy_row-end.result c.loop-index.invariant.0 c.loop-index.out c.loop-index.end
-    (refused_line c.loop-index.index c.step-made.result.kind c.in-Refused.e)
+    (refused_line c.loop-index.index c.step-made.result.kind c.in-Err.e)
 last_line c =
     writing-as c.loop-index.invariant.3
     (going-refused _ _ _ _ c.loop-index.size c.loop-index.invariant.2 c.step-made.result _ c.loop-index-test.true c.step-made.ensures
-    (ap size_out c.in-Refused.is))
+    (c.in-Err.is))
 
 more : (c : After-put_line-arg-1)
     → (g : Going c.args.s.now c.args.input.chain.count c.step-made.result.next (c.loop-index.index + 1))
     × Writing c.copy_row-end.new.out c.copy_row-end.result c.loop-index.invariant.0 c.loop-index.out c.loop-index.end
-    (line_text c.loop-index.index c.step-made.result.kind c.in-Size.z
-    ++ lines_from (c.loop-index.index + 1) g.rest c.in-Size.z)
+    (line_text c.loop-index.index c.step-made.result.kind c.in-Ok.z
+    ++ lines_from (c.loop-index.index + 1) g.rest c.in-Ok.z)
 more c =
     let k = going_next _ _ _ _ c.loop-index.size c.loop-index.invariant.2 c.step-made.result _ c.loop-index-test.true c.step-made.ensures
-    (ap size_out c.in-Size.is) in
+    (c.in-Ok.is) in
     (k.0, writing-as c.loop-index.invariant.3 k.1)
 
 pub copy_row-end-requires : goal.copy_row-end-requires
@@ -49,23 +46,17 @@ step-made-requires c = going-stands _ _ _ _ c.loop-index.invariant.2 c.loop-inde
 pub put_refused_line-requires : goal.put_refused_line-requires
 put_refused_line-requires c = (last_line c).room
 
-pub returns-in-Refused : goal.returns-in-Refused
+pub returns-in-Err : goal.returns-in-Err
 unfolding heading utf8 character_bytes pick
-returns-in-Refused c =
+returns-in-Err c =
     text-stored _ _ _ _ _ _ _ c.loop-index.invariant.1 c.copy_row-end.ensures.0 c.copy_row-end.ensures.1
-    (writing-last (last_line (goal.at.returns-in-Refused c).After-put_refused_line-arg-1) c.put_refused_line.ensures.0
+    (writing-last (last_line (goal.at.returns-in-Err c).After-put_refused_line-arg-1) c.put_refused_line.ensures.0
     c.put_refused_line.ensures.1)
 
 pub put_line-end-requires : goal.put_line-end-requires
 put_line-end-requires c =
-    writing-fits (line_text c.loop-index.index c.step-made.result.kind c.in-Size.z)
-    (lines_from (c.loop-index.index + 1) (more c).0.rest c.in-Size.z) (more c).1
-
-pub overflow_add-index : goal.overflow_add-index
-overflow_add-index c = omega (arith, c.loop-index.invariant.2.bounded, c.loop-index-test.true)
-
-pub loop-index-smaller : goal.loop-index-smaller
-loop-index-smaller c = omega (arith, c.loop-index-test.true)
+    writing-fits (line_text c.loop-index.index c.step-made.result.kind c.in-Ok.z)
+    (lines_from (c.loop-index.index + 1) (more c).0.rest c.in-Ok.z) (more c).1
 
 pub loop-index-preserved : goal.loop-index-preserved
 loop-index-preserved c =
@@ -73,7 +64,7 @@ loop-index-preserved c =
       c.loop-index.invariant.0,
       c.loop-index.invariant.1,
       k.0,
-      writing-run (line_text c.loop-index.index c.step-made.result.kind c.in-Size.z) k.1 c.put_line-end.ensures.0
+      writing-run (line_text c.loop-index.index c.step-made.result.kind c.in-Ok.z) k.1 c.put_line-end.ensures.0
           c.put_line-end.ensures.1,
     )
 

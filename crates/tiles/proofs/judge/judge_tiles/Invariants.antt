@@ -1,5 +1,5 @@
 use mathlib.Core.Path.{◌≡◌}
-use Prim.Native.Nat.{◌-◌, ◌≤◌}
+use Prim.Native.Nat.{◌-◌}
 use Rattle.laws.specs.Out.{after, and_then}
 use Rattle.records.specs.Tray.{frames_at}
 use Rattle.tiles.proofs.TilesLaws.{judged}
@@ -8,8 +8,4 @@ use Rattle.tiles.proofs.judge.judge_tiles.Given as goal
 
 abbrev pub invariant-loop-i : goal.invariant-loop-i
 invariant-loop-i l =
-    (l.i ≤ l.count)
-    × (and_then (frames_at l.count l.tray l.at) (judge_of l.g l.at) ≡ and_then (after l.i (frames_at (l.count - l.i) l.tray l.next)) (judged l.g l.at l.tile l.fault l.alpha l.i))
-
-abbrev pub decreases-loop-i : goal.decreases-loop-i
-decreases-loop-i l = l.count - l.i
+    and_then (frames_at l.count l.tray l.at) (judge_of l.g l.at) ≡ and_then (after l.i (frames_at (l.count - l.i) l.tray l.next)) (judged l.g l.at l.tile l.held l.i)

@@ -1,16 +1,10 @@
 use Prim.Native.Nat.{◌-◌, ◌^◌}
 use native.Mathlib.Omega.{arith}
-use borrow.Author.Rules.{rules}
 use Rattle.laws.proofs.Order.{mul-below}
-use Rattle.tiles.specs.Tiles.{spans_canvas}
 use Rattle.tiles.proofs.judge.spans_canvas.Goals as goal
 
 pub overflow_mul-t : goal.overflow_mul-t
 overflow_mul-t c = omega (arith, mul-below (2 ^ 32 - 1) (2 ^ 32 - 1) c.args.t.width c.args.g.columns (omega arith) (omega arith))
 
-pub overflow_mul-t-2 : goal.overflow_mul-t-2
-overflow_mul-t-2 c = omega (arith, mul-below (2 ^ 32 - 1) (2 ^ 32 - 1) c.args.t.height c.args.g.rows (omega arith) (omega arith))
-
-pub returns : goal.returns
-unfolding spans_canvas
-returns c = c.both.ensures
+pub overflow_mul-result : goal.overflow_mul-result
+overflow_mul-result c = omega (arith, mul-below (2 ^ 32 - 1) (2 ^ 32 - 1) c.args.t.height c.args.g.rows (omega arith) (omega arith))

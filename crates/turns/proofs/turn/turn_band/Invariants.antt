@@ -6,7 +6,7 @@ use Rattle.turns.specs.inner.Course.{course_row}
 use Rattle.turns.proofs.turn.turn_band.Given as goal
 
 abbrev pub invariant-loop-k : goal.invariant-loop-k
-invariant-loop-k l = (l.k ≤ l.columns) × (length l.out ≡ length l.initial.out) × (l.out ≡ store_rows l.initial.out l.at l.pitch (course_row l.plane l.bytes l.c l.k) l.rows)
+invariant-loop-k g l = (l.k ≤ l.columns) × (length l.out ≡ length l.initial.out) × (l.out ≡ store_rows l.initial.out l.at l.pitch (course_row l.plane g.row.BYTES l.c l.k) l.rows)
 
 abbrev pub decreases-loop-k : goal.decreases-loop-k
-decreases-loop-k l = l.columns - l.k
+decreases-loop-k g l = l.columns - l.k

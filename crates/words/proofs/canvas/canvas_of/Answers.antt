@@ -14,6 +14,6 @@ returns c =
       c.field_of-7.ensures,
       c.field_of-8.ensures,
       c.field_of-9.ensures,
-      c.field_of-alpha.ensures,
-      c.marks_of-marks.ensures,
+      c.field_of-10.ensures,
+      c.marks_of.ensures,
     )

@@ -1,6 +1,5 @@
 use native.Mathlib.Omega.{arith}
 use lib.ListN.{length-set}
-use borrow.Author.Rules.{rules}
 use Rattle.laws.specs.Puts.{puts}
 use Rattle.words.specs.Canvas.{words_of}
 use Rattle.words.specs.Descriptors.{grid_fields}

@@ -1,7 +1,6 @@
 use mathlib.Core.Path.{◌∙◌, ap}
 use Prim.Native.Nat.{◌+◌}
 use native.Mathlib.Omega.{arith}
-use borrow.Author.Rules.{rules}
 use Rattle.numbers.specs.Field.{offset_of}
 use Rattle.words.proofs.OffsetLaws.{long-signed, short-signed}
 use Rattle.words.proofs.offsets.offset_at.Goals as goal

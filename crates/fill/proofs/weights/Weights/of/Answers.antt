@@ -1,4 +1,4 @@
-use Rattle.std.proofs.Common.{◌≡◌, ℕ, ◌<◌, ◌≤◌, ◌⊎◌, sym, ap, ◌∙◌, inl, inr, ⊎_elim, eq-or-lt_of_le, arith, rules, ne_eqb}
+use Rattle.std.proofs.Common.{◌≡◌, ℕ, ◌<◌, ◌≤◌, ◌⊎◌, sym, ap, ◌∙◌, inl, inr, eq-or-lt_of_le, arith, ne_eqb}
 use lib.Ieee.{of_bits, round}
 use Rattle.laws.specs.Pick.{pick}
 use Rattle.fill.specs.Fill.{table_of, weights_from, weights_of}

@@ -1,7 +1,6 @@
 use mathlib.Core.Path.{◌≡◌, ap₂}
 use Prim.Native.Nat.{◌*◌, ◌^◌, ◌≤◌, ℕ}
 use native.Mathlib.Omega.{arith}
-use borrow.Author.Rules.{rules}
 use Rattle.image.proofs.FormLaws.{size-le}
 use Rattle.image.specs.Format.{row_size, rows_of}
 use Rattle.image.proofs.format.Form.plane_len.Goals as goal

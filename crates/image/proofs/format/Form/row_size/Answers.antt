@@ -1,7 +1,6 @@
 use mathlib.Core.Path.{◌≡◌, ap₂}
 use Prim.Native.Nat.{◌*◌, ◌^◌, ◌≤◌, ℕ}
 use native.Mathlib.Omega.{arith}
-use borrow.Author.Rules.{rules}
 use Rattle.image.proofs.FormLaws.{row-le}
 use Rattle.image.specs.Format.{columns_of, row_size}
 use Rattle.image.proofs.format.Form.row_size.Goals as goal

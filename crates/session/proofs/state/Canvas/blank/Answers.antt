@@ -4,7 +4,6 @@ use mathlib.Core.Path.{◌∙◌, ◌≡◌, ap, sym}
 use Prim.Native.Nat.{◌<◌, ◌≤◌}
 use native.Mathlib.Omega.{arith}
 use lib.ListN.{length}
-use borrow.Author.Rules.{rules}
 use borrow.Author.Tests.{not-false, not-true}
 use Rattle.image.specs.Sound.{FormSound}
 use Rattle.image.specs.declared.format.Form.{Form}
@@ -37,16 +36,16 @@ still : (c : After-tell_alpha)
 still c = ap length c.tell_alpha.ensures ∙ length-told _ _ _
 
 pub returns-then-not-is_sound : goal.returns-then-not-is_sound
-returns-then-not-is_sound c = drawn-refused _ _ _ _ _ (blank-unsound _ _ _ (sym c.is_sound.ensures ∙ not-true _ (ap not c.if-not-is_sound.true))) c.refused.ensures
+returns-then-not-is_sound c = drawn-refused _ _ _ (blank-unsound _ _ _ (sym c.is_sound.ensures ∙ not-true _ (ap not c.if-not-is_sound.true)))
 
 pub returns-then-not-has_tile : goal.returns-then-not-has_tile
-returns-then-not-has_tile c = drawn-refused _ _ _ _ _ (blank-bare _ _ _ (sound (goal.at.returns-then-not-has_tile c).Else-not-is_sound) (sym c.has_tile.ensures ∙ not-true _ (ap not c.if-not-has_tile.true))) c.refused-then-not-has_tile.ensures
+returns-then-not-has_tile c = drawn-refused _ _ _ (blank-bare _ _ _ (sound (goal.at.returns-then-not-has_tile c).Else-not-is_sound) (sym c.has_tile.ensures ∙ not-true _ (ap not c.if-not-has_tile.true)))
 
 pub overflow_mul-g : goal.overflow_mul-g
 overflow_mul-g c = omega (arith, count_small _ (state-grid _ (sound (goal.at.overflow_mul-g c).Else-not-is_sound)))
 
 pub returns-then-index-g : goal.returns-then-index-g
-returns-then-index-g c = drawn-refused _ _ _ _ _ (blank-outside _ _ _ (sound (goal.at.returns-then-index-g c).Else-not-is_sound) (tiled (goal.at.returns-then-index-g c).Else-not-has_tile) c.if-index-g.true) c.refused-then-index-g.ensures
+returns-then-index-g c = drawn-refused _ _ _ (blank-outside _ _ _ (sound (goal.at.returns-then-index-g c).Else-not-is_sound) (tiled (goal.at.returns-then-index-g c).Else-not-has_tile) c.if-index-g.true)
 
 pub record_size-requires : goal.record_size-requires
 record_size-requires c = form-sound-of c
@@ -55,7 +54,7 @@ pub returns-then-buffer-record_size : goal.returns-then-buffer-record_size
 returns-then-buffer-record_size c =
     let l : length c.args.buffer.now < size_of (canvas_form c.args.self.desc c.args.self.tile 1) =
     rw (← c.canvas_form-form.ensures) (rw c.record_size.ensures at c.if-buffer-record_size.true) in
-    drawn-refused _ _ _ _ _ (blank-short _ _ _ (sound (goal.at.returns-then-buffer-record_size c).Else-not-is_sound) (tiled (goal.at.returns-then-buffer-record_size c).Else-not-has_tile) c.if-index-g.false l) c.refused-then-buffer-record_size.ensures
+    drawn-refused _ _ _ (blank-short _ _ _ (sound (goal.at.returns-then-buffer-record_size c).Else-not-is_sound) (tiled (goal.at.returns-then-buffer-record_size c).Else-not-has_tile) c.if-index-g.false l)
 
 pub tell_alpha-requires : goal.tell_alpha-requires
 tell_alpha-requires c = (ap (λ (m : Form). m.format.alpha) c.canvas_form-form.ensures ∙ canvas-alpha-is _ _ 1, rw c.canvas_form-form.ensures (room (goal.at.tell_alpha-requires c).Else-buffer-record_size))
@@ -89,5 +88,5 @@ drawn-canvas-requires c =
 pub returns : goal.returns
 returns c =
     let to = tight-form _ _ c.tight.ensures in
-    drawn-done _ _ _ _ _ _ (blank-done _ _ _ (sound (goal.at.returns c).Else-not-is_sound) (tiled (goal.at.returns c).Else-not-has_tile) c.if-index-g.false (room (goal.at.returns c).Else-buffer-record_size)) (blanked-canvas _ _ _ _ c.drawn-canvas.ensures)
+    drawn-done _ _ _ _ _ (blank-done _ _ _ (sound (goal.at.returns c).Else-not-is_sound) (tiled (goal.at.returns c).Else-not-has_tile) c.if-index-g.false (room (goal.at.returns c).Else-buffer-record_size)) (blanked-canvas _ _ _ _ c.drawn-canvas.ensures)
     (blanked-buffer _ _ _ _ _ _ _ c.canvas_form-form.ensures c.promotes-promoted.ensures c.tell_alpha.ensures (rw to.0 at c.draw_blank.ensures))

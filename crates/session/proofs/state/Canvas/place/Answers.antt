@@ -1,13 +1,13 @@
+use Rattle.std.specs.Prelude.{Ok}
+use Rattle.std.proofs.lemmas.Result.{err_from_is_err_and}
 use mathlib.Core.Bool.{not, true}
 use mathlib.Core.Path.{◌∙◌, ◌≡◌, ap, sym}
 use Prim.Native.Nat.{◌<◌, ◌≤◌}
 use native.Mathlib.Omega.{arith}
 use lib.ListN.{length}
-use borrow.Author.Rules.{rules}
 use borrow.Author.Tests.{not-false, not-true}
-use Rattle.laws.specs.Out.{done}
 use Rattle.records.proofs.RecordLaws.{whole-sound}
-use Rattle.records.specs.Record.{frame_out, record_of}
+use Rattle.records.specs.Record.{record_of}
 use Rattle.image.specs.Sound.{FormSound}
 use Rattle.image.specs.declared.format.Form.{Form}
 use Rattle.planes.specs.Bytes.{size_of}
@@ -17,31 +17,31 @@ use Rattle.grid.proofs.GridLaws.{canvas-sound}
 use Rattle.tiles.specs.Tiles.{canvas_form}
 use Rattle.session.proofs.DrawLaws.{drawn-done, drawn-refused, fits-as, length-begun, length-told, place-done, place-form, place-outside, place-record, place_short, place-unsound, placed-buffer, placed-canvas}
 use Rattle.session.proofs.StateLaws.{Accepted, accept-done, count_small, place-suits, state-grid}
-use Rattle.session.specs.State.{accept_of, state_ok, tile_out}
+use Rattle.session.specs.State.{accept_of, state_ok}
 use Rattle.session.proofs.state.Canvas.place.Goals as goal
-use Rattle.session.proofs.state.Canvas.place.Goals.{After-begin, After-canvas_form-form, After-tell_alpha, Else-buffer-record_size, Else-not-is_sound, In-Read, In-Read-accept}
+use Rattle.session.proofs.state.Canvas.place.Goals.{After-begin, After-canvas_form-form, After-tell_alpha, Else-buffer-record_size, Else-not-is_sound, In_ok-fr, In_ok-t}
 
 sound : (c : Else-not-is_sound) → state_ok c.args.self ≡ true
 sound c = sym c.is_sound.ensures ∙ not-false _ (ap not c.if-not-is_sound.false)
 
-taken : (c : In-Read)
-    → record_of c.args.record.now ≡ done c.in-Read.fr
-taken c = sym c.parse_record.ensures ∙ ap frame_out c.in-Read.is
+taken : (c : In_ok-fr)
+    → record_of c.args.record.now ≡ Ok c.in_ok-fr.fr
+taken c = sym c.parse_record.ensures ∙ c.in_ok-fr.was
 
-accepted : (c : In-Read-accept)
-    → accept_of c.args.self c.in-Read.fr.form ≡ done c.in-Read-accept.t
-accepted c = sym c.accept.ensures ∙ ap tile_out c.in-Read-accept.is
+accepted : (c : In_ok-t)
+    → accept_of c.args.self c.in_ok-fr.fr.form ≡ Ok c.in_ok-t.t
+accepted c = sym c.accept.ensures ∙ c.in_ok-t.was
 
-held : (c : In-Read-accept) → Accepted c.in-Read.fr.form c.in-Read-accept.t
+held : (c : In_ok-t) → Accepted c.in_ok-fr.fr.form c.in_ok-t.t
 held c =
-    accept-done c.args.self _ _ (sound (goal.at.In-Read-accept c).Else-not-is_sound) (whole-sound _ _ (taken (goal.at.In-Read-accept c).In-Read)).0.form (accepted c)
+    accept-done c.args.self _ _ (sound (goal.at.In_ok-t c).Else-not-is_sound) (whole-sound _ _ (taken (goal.at.In_ok-t c).In_ok-fr)).0.form (accepted c)
 
 form-sound-of : (c : After-canvas_form-form) → FormSound c.canvas_form-form.result
 form-sound-of c =
-    rw c.canvas_form-form.ensures (canvas-sound _ _ 1 (state-grid _ (sound (goal.at.After-canvas_form-form c).Else-not-is_sound)) (held (goal.at.After-canvas_form-form c).In-Read-accept).tile (omega arith))
+    rw c.canvas_form-form.ensures (canvas-sound _ _ 1 (state-grid _ (sound (goal.at.After-canvas_form-form c).Else-not-is_sound)) (held (goal.at.After-canvas_form-form c).In_ok-t).tile (omega arith))
 
 room : (c : Else-buffer-record_size)
-    → size_of (canvas_form c.args.self.desc c.in-Read-accept.t 1) ≤ length c.args.buffer.now
+    → size_of (canvas_form c.args.self.desc c.in_ok-t.t 1) ≤ length c.args.buffer.now
 room c = rw (← c.canvas_form-form.ensures) (rw c.record_size.ensures at c.if-buffer-record_size.false)
 
 long : (c : After-begin)
@@ -53,22 +53,22 @@ still : (c : After-tell_alpha)
 still c = ap length c.tell_alpha.ensures ∙ length-told _ _ _ ∙ long (goal.at.After-tell_alpha c).After-begin
 
 pub returns-then-not-is_sound : goal.returns-then-not-is_sound
-returns-then-not-is_sound c = drawn-refused _ _ _ _ _ (place-unsound _ _ _ _ (sym c.is_sound.ensures ∙ not-true _ (ap not c.if-not-is_sound.true))) c.refused.ensures
+returns-then-not-is_sound c = drawn-refused _ _ _ (place-unsound _ _ _ _ (sym c.is_sound.ensures ∙ not-true _ (ap not c.if-not-is_sound.true)))
 
 pub overflow_mul-g : goal.overflow_mul-g
 overflow_mul-g c = omega (arith, count_small _ (state-grid _ (sound (goal.at.overflow_mul-g c).Else-not-is_sound)))
 
 pub returns-then-index-g : goal.returns-then-index-g
-returns-then-index-g c = drawn-refused _ _ _ _ _ (place-outside _ _ _ _ (sound (goal.at.returns-then-index-g c).Else-not-is_sound) c.if-index-g.true) c.refused-then-index-g.ensures
+returns-then-index-g c = drawn-refused _ _ _ (place-outside _ _ _ _ (sound (goal.at.returns-then-index-g c).Else-not-is_sound) c.if-index-g.true)
 
 pub record_size-requires : goal.record_size-requires
 record_size-requires c = form-sound-of c
 
 pub returns-then-buffer-record_size : goal.returns-then-buffer-record_size
 returns-then-buffer-record_size c =
-    let l : length c.args.buffer.now < size_of (canvas_form c.args.self.desc c.in-Read-accept.t 1) =
+    let l : length c.args.buffer.now < size_of (canvas_form c.args.self.desc c.in_ok-t.t 1) =
     rw (← c.canvas_form-form.ensures) (rw c.record_size.ensures at c.if-buffer-record_size.true) in
-    drawn-refused _ _ _ _ _ (place_short _ _ _ _ (sound (goal.at.returns-then-buffer-record_size c).Else-not-is_sound) c.if-index-g.false _ (taken (goal.at.returns-then-buffer-record_size c).In-Read) _ (accepted (goal.at.returns-then-buffer-record_size c).In-Read-accept) l) c.refused-then-buffer-record_size.ensures
+    drawn-refused _ _ _ (place_short _ _ _ _ (sound (goal.at.returns-then-buffer-record_size c).Else-not-is_sound) c.if-index-g.false _ (taken (goal.at.returns-then-buffer-record_size c).In_ok-fr) _ (accepted (goal.at.returns-then-buffer-record_size c).In_ok-t) l)
 
 pub begin-requires : goal.begin-requires
 begin-requires c = (form-sound-of (goal.at.begin-requires c).After-canvas_form-form, rw c.canvas_form-form.ensures (room (goal.at.begin-requires c).Else-buffer-record_size))
@@ -97,7 +97,7 @@ draw_tile-requires c =
     let to = tight-form _ _ c.tight.ensures in (
       to.1,
       rw (to.0, c.canvas_form-form.ensures, c.promotes-promoted.ensures)
-          (place-suits _ _ _ _ _ (state-grid _ (sound (goal.at.draw_tile-requires c).Else-not-is_sound)) (whole-sound _ _ (taken (goal.at.draw_tile-requires c).In-Read)).0 (held (goal.at.draw_tile-requires c).In-Read-accept)
+          (place-suits _ _ _ _ _ (state-grid _ (sound (goal.at.draw_tile-requires c).Else-not-is_sound)) (whole-sound _ _ (taken (goal.at.draw_tile-requires c).In_ok-fr)).0 (held (goal.at.draw_tile-requires c).In_ok-t)
           (fits-as (still (goal.at.draw_tile-requires c).After-tell_alpha) (room (goal.at.draw_tile-requires c).Else-buffer-record_size))),
     )
 
@@ -105,22 +105,22 @@ pub drawn-canvas-requires : goal.drawn-canvas-requires
 drawn-canvas-requires c =
     omega (arith, c.if-index-g.false, count_small _ (state-grid _ (sound (goal.at.drawn-canvas-requires c).Else-not-is_sound)))
 
-pub returns-in-Refused : goal.returns-in-Refused
-returns-in-Refused c =
-    drawn-refused _ _ _ _ _
-    (place-record _ _ _ _ (sound (goal.at.returns-in-Refused c).Else-not-is_sound) c.if-index-g.false _ (sym c.parse_record.ensures ∙ ap frame_out c.in-Refused.is))
-    c.refused-in-Refused.ensures
+pub returns-in_err-fr : goal.returns-in_err-fr
+returns-in_err-fr c =
+    let p = err_from_is_err_and c.from_residual.result c.from_residual.ensures.1 in
+    rw (p.1, p.2) (drawn-refused _ _ _
+    (place-record _ _ _ _ (sound (goal.at.returns-in_err-fr c).Else-not-is_sound) c.if-index-g.false _ (sym c.parse_record.ensures ∙ c.in_err-fr.was)))
 
-pub returns-in-Refused-accept : goal.returns-in-Refused-accept
-returns-in-Refused-accept c =
-    drawn-refused _ _ _ _ _
-    (place-form _ _ _ _ (sound (goal.at.returns-in-Refused-accept c).Else-not-is_sound) c.if-index-g.false _ (taken (goal.at.returns-in-Refused-accept c).In-Read) _ (sym c.accept.ensures ∙ ap tile_out c.in-Refused-accept.is))
-    c.refused-in-Refused-accept.ensures
+pub returns-in_err-t : goal.returns-in_err-t
+returns-in_err-t c =
+    let p = err_from_is_err_and c.from_residual-in_err-t.result c.from_residual-in_err-t.ensures.1 in
+    rw (p.1, p.2) (drawn-refused _ _ _
+    (place-form _ _ _ _ (sound (goal.at.returns-in_err-t c).Else-not-is_sound) c.if-index-g.false _ (taken (goal.at.returns-in_err-t c).In_ok-fr) _ (sym c.accept.ensures ∙ c.in_err-t.was)))
 
-pub returns-else-buffer-record_size : goal.returns-else-buffer-record_size
-returns-else-buffer-record_size c =
+pub returns : goal.returns
+returns c =
     let to = tight-form _ _ c.tight.ensures in
-    drawn-done _ _ _ _ _ _ (place-done _ _ _ _ (sound (goal.at.returns-else-buffer-record_size c).Else-not-is_sound) c.if-index-g.false _ (taken (goal.at.returns-else-buffer-record_size c).In-Read) _ (accepted (goal.at.returns-else-buffer-record_size c).In-Read-accept) (room (goal.at.returns-else-buffer-record_size c).Else-buffer-record_size))
+    drawn-done _ _ _ _ _ (place-done _ _ _ _ (sound (goal.at.returns c).Else-not-is_sound) c.if-index-g.false _ (taken (goal.at.returns c).In_ok-fr) _ (accepted (goal.at.returns c).In_ok-t) (room (goal.at.returns c).Else-buffer-record_size))
     (placed-canvas _ _ _ _ _ _ _ _ c.drawn-canvas.ensures c.with_tile.ensures)
     (placed-buffer _ _ _ _ _ _ _ _ _ _ _ _ c.canvas_form-form.ensures c.promotes-promoted.ensures (ap not c.has_tile.ensures) c.begin.ensures
     c.tell_alpha.ensures (rw to.0 at c.draw_tile.ensures))
