@@ -302,7 +302,16 @@ mod tests {
             |refusal: &Refusal| format!("{} = {}", capital(refusal.name()), refusal.number());
         let reasons: Vec<String> = Refusal::ALL.iter().map(reason).collect();
         assert_eq!(reasons, variants("Reason"));
-        assert_eq!(About::ALL.map(|about| about.sort()), [1, 2]);
+        let code = in_repository("crates/words/specs/Code.antt");
+        let code = fs::read_to_string(code).expect("the definition of a refusal's code is there");
+        let sorts: Vec<&str> = code
+            .lines()
+            .filter(|line| line.starts_with("sort_of "))
+            .collect();
+        let sort = |about: About| format!("sort_of (Some ({about:?} i)) = {}", about.sort());
+        let ours = About::ALL.map(sort);
+        assert_eq!(sorts[1..], ours);
+        assert_eq!(sorts[0], "sort_of None = 0");
         let items = About::ALL.map(|about| format!("{about:?}(u64)"));
         assert_eq!(items.as_slice(), variants("Item"));
         assert!(laws.contains("pub fn about(self, item: Item) -> Refusal"));
