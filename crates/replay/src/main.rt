@@ -209,7 +209,7 @@ impl<'a> Stored<'a> {
             4 => transform::apply_imir(self.one, Imir { axis: self.byte(0) }, out),
             5 => resample::apply_iscl(self.one, self.iscl(), out),
             6 => resample::resize_nearest(self.one, self.field(0), self.field(1), out),
-            7 => resample::rescale_depth(self.one, self.field(0), out),
+            0 | 7 => resample::rescale_depth(self.one, self.field(0), out),
             8 => attach::attach_alpha(self.one, self.two, out),
             10 => grid::composite_grid(self.one, self.two, out),
             11 => overlay::composite_overlay(self.one, self.two, self.three, self.colour(0), out),
@@ -367,8 +367,8 @@ impl<'a> Stored<'a> {
             9 => self.filled_so(),
             12 => self.resolved_so(),
             13 => self.sized_so(),
-            15 | 16 => self.scene_so(),
             17 => self.session_so(),
+            15.. => self.scene_so(),
             _ => self.wrote_lent(),
         }
     }
