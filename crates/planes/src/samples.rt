@@ -83,9 +83,10 @@ pub fn copy_row(out: &mut [u8], at: usize, row: &[u8]) -> usize
     requires { at + length row.now ≤ length out.old }
     ensures { (result ≡ at + length row.now) × (out.new ≡ puts out.old at row.now) }
 {
-    let end = at + row.len();
-    out[at..end].copy_from_slice(row);
-    end
+    for i in 0..row.len() {
+        out[at + i] = row[i];
+    }
+    at + row.len()
 }
 
 // Writes the same bytes n times at `at`, and returns the place past them.
