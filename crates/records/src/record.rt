@@ -1,6 +1,7 @@
 // Frame records and trays of them, read with every refusal in document 01's order.
 ghost use Rattle.std.specs.Prelude.{◌≡◌, ◌≤◌, ◌<◌, ◌^◌, length};
-ghost use Rattle.records.specs.Record.{head_at, plane_at, part_at, planes_at, record_at, record_of, plane_of};
+ghost use Rattle.laws.specs.Pick.{pick};
+ghost use Rattle.records.specs.Record.{head_at, plane_at, planes_at, record_at, record_of, plane_of};
 ghost use Rattle.records.specs.Tray.{frames_at, tray_of, tray_count};
 ghost use Rattle.image.specs.Sound.{FormSound};
 
@@ -66,16 +67,14 @@ fn read_plane(s: &[u8], at: usize, rows: usize, row: usize) -> Result<Plane, Ref
     })
 }
 
-// The plane of a part at a place, if the picture has it.
-#[tactic(auto, unfolding(crate::specs::Record::part_at, image::specs::Format::rows_of, laws::specs::Pick::pick))]
-fn read_part(s: &[u8], at: usize, form: Form, part: Part) -> Result<Plane, Refusal>
-    requires { FormSound form }
-    ensures { result ≡ part_at s.now at form part }
+// The plane at a place, if the picture has it.
+#[tactic(auto, unfolding(laws::specs::Pick::pick))]
+fn read_part(s: &[u8], at: usize, has: bool, rows: usize, row: usize) -> Result<Plane, Refusal>
+    requires { (0 < rows) × (rows < 2 ^ 32) × (row < 2 ^ 33) }
+    ensures { result ≡ pick has (plane_at s.now at rows row) (Ok (record { start = at; len = 0; stride = 0 })) }
 {
-    let f = form.format;
-    if f.has(part) {
-        let row = form.row_size(part) as usize;
-        read_plane(s, at, f.rows(form.height, part), row)
+    if has {
+        read_plane(s, at, rows, row)
     } else {
         Ok(Plane {
             start: at,
@@ -85,16 +84,21 @@ fn read_part(s: &[u8], at: usize, form: Form, part: Part) -> Result<Plane, Refus
     }
 }
 
-// The planes of a form at a place, in turn.
-#[tactic(auto, unfolding(crate::specs::Record::planes_at, crate::specs::Record::past, laws::specs::Out::and_then))]
+// The planes of a form at a place, in turn. Those of a kind have as many rows, of as many bytes.
 fn read_planes(s: &[u8], at: usize, form: Form) -> Result<Frame, Refusal>
     requires { FormSound form × (at ≤ length s.now) }
     ensures { result ≡ planes_at s.now at form }
 {
-    let luma = read_part(s, at, form, Part::Luma)?;
-    let cb = read_part(s, luma.start + luma.len, form, Part::Cb)?;
-    let cr = read_part(s, cb.start + cb.len, form, Part::Cr)?;
-    let alpha = read_part(s, cr.start + cr.len, form, Part::Alpha)?;
+    let f = form.format;
+    let rows = form.height as usize;
+    let row = form.row_size(Part::Luma) as usize;
+    let colour = f.has(Part::Cb);
+    let chroma_rows = f.rows(form.height, Part::Cb);
+    let chroma_row = form.row_size(Part::Cb) as usize;
+    let luma = read_part(s, at, true, rows, row)?;
+    let cb = read_part(s, luma.start + luma.len, colour, chroma_rows, chroma_row)?;
+    let cr = read_part(s, cb.start + cb.len, colour, chroma_rows, chroma_row)?;
+    let alpha = read_part(s, cr.start + cr.len, f.has(Part::Alpha), rows, row)?;
     Ok(Frame {
         form,
         luma,
