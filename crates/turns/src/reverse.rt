@@ -48,8 +48,10 @@ fn reverse_fours<const BACK: bool>(out: &mut [u8], at: usize, plane: &[u8], from
     requires { (from + 2 ≤ length plane.now) × (8 * m ≤ from + 2) × (at + 8 * m ≤ length out.old) }
     ensures { out.new ≡ puts out.old at (stepped plane.now 2 from 0 2 (4 * m)) }
 {
+    let mut left = m;
     for k in 0..m {
-        let q = if BACK { k } else { m - 1 - k };
+        left -= 1;
+        let q = if BACK { k } else { left };
         reverse_four(out, at + 8 * q, plane, from - 8 * q - 6);
     }
 }

@@ -42,10 +42,10 @@ module _ (d s : List ℕ) (at from m k : ℕ) (below : k < m) (room : 8 * m ≤ 
       ∙ ap (λ (x : ℕ). fours d s at from x (k + 1)) (j ∙ sym (all-left b (m - (k + 1)) h))
 
 within : (g : Over) (c : Joined-this-ne0 g) → c.if-this-ne0.q < c.args.m
-within g c = elim c.if-this-ne0.branch [ then-this-ne0 w ↦ omega (arith, w.q-is, c.loop-k-test.true) | else-this-ne0 w ↦ omega (arith, w.q-is, c.loop-k-test.true) ]
+within g c = elim c.if-this-ne0.branch [ then-this-ne0 w ↦ omega (arith, w.q-is, c.loop-k-test.true) | else-this-ne0 w ↦ omega (arith, w.q-is, c.loop-k-test.true, c.loop-k.invariant.3) ]
 
 pub loop-k-init : goal.loop-k-init
-loop-k-init g c = (omega arith, refl, sym (stepped-none _ _ _ _ _ _ _ _ refl))
+loop-k-init g c = (omega arith, refl, sym (stepped-none _ _ _ _ _ _ _ _ refl), omega arith)
 
 pub loop-k-preserved : goal.loop-k-preserved
 loop-k-preserved g c = (
@@ -55,8 +55,9 @@ loop-k-preserved g c = (
       ∙ ap₂ (λ (q : List ℕ) (j : ℕ). four q c.args.plane.now (c.args.at + 8 * c.if-this-ne0.q) j) c.loop-k.invariant.2 back
       ∙ elim c.if-this-ne0.branch [
         | then-this-ne0 w ↦ behind _ _ c.args.at c.args.from c.args.m c.loop-k.k c.loop-k-test.true c.requires.1 g.row.BACK c.if-this-ne0.q w.if-this-ne0.true w.q-is
-        | else-this-ne0 w ↦ before _ _ c.args.at c.args.from c.args.m c.loop-k.k c.loop-k-test.true c.requires.1 g.row.BACK c.if-this-ne0.q w.if-this-ne0.false w.q-is
+        | else-this-ne0 w ↦ before _ _ c.args.at c.args.from c.args.m c.loop-k.k c.loop-k-test.true c.requires.1 g.row.BACK c.if-this-ne0.q w.if-this-ne0.false (omega (arith, w.q-is, c.loop-k.invariant.3))
       ],
+  omega (arith, c.loop-k.invariant.3, c.loop-k-test.true),
 )
   where
     l : c.if-this-ne0.q < c.args.m
