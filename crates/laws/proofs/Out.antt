@@ -11,10 +11,10 @@ use Rattle.laws.proofs.Order.{apart}
 use Rattle.laws.proofs.Puts.{puts-start}
 use Rattle.laws.specs.Out.{Out, about, after, and_then, answer_of, fitted, is_done, later, later_item, own_reason, own_refusal, reason, refuse, refuse_item, written}
 use Rattle.laws.specs.Pick.{pick}
-use Rattle.laws.specs.Reason.{numbered}
 use Rattle.laws.specs.Puts.{puts}
 use Rattle.laws.specs.declared.Item.{Item}
 use Rattle.laws.specs.declared.Item.TheVariants.{Record, Entry}
+use Rattle.laws.specs.declared.Reason.{Reason}
 use Rattle.laws.specs.declared.Refusal.{Refusal}
 use Rattle.laws.specs.Any.{any, first_at}
 
@@ -162,9 +162,9 @@ unfolding later later_item
 reason-after n k o e = refused-after n o (reason k) e
 
 -- of item 0 it becomes that of item n
-pub own-after : {A : Type 0} (n number : ℕ) (sort : ℕ → Item) (o : Out A) → later_item n (Some (sort 0)) ≡ Some (sort n) → o ≡ Err (own_reason number sort 0) → after n o ≡ Err (own_reason number sort n)
+pub own-after : {A : Type 0} (n : ℕ) (why : Reason) (sort : ℕ → Item) (o : Out A) → later_item n (Some (sort 0)) ≡ Some (sort n) → o ≡ Err (own_refusal why (sort 0)) → after n o ≡ Err (own_refusal why (sort n))
 unfolding later
-own-after n number sort o h e = refused-after n o _ e ∙ ap (λ (i : Option Item). Err (record { reason = numbered number; item = i })) h
+own-after n why sort o h e = refused-after n o _ e ∙ ap (λ (i : Option Item). Err (record { reason = why; item = i })) h
 
 -- record 0, and entry 0, after n items
 pub record-later : (n : ℕ) → later_item n (Some (Record 0)) ≡ Some (Record n)
@@ -174,6 +174,13 @@ record-later n = ap (λ i. Some (Record i)) (add-zero n)
 pub entry-later : (n : ℕ) → later_item n (Some (Entry 0)) ≡ Some (Entry n)
 unfolding later_item
 entry-later n = ap (λ i. Some (Entry i)) (add-zero n)
+
+-- so a record's own refusal, and an entry's, become those of the n-th
+pub record-after : {A : Type 0} (n : ℕ) (why : Reason) (o : Out A) → o ≡ Err (own_refusal why (Record 0)) → after n o ≡ Err (own_refusal why (Record n))
+record-after n why o = own-after n why Record o (record-later n)
+
+pub entry-after : {A : Type 0} (n : ℕ) (why : Reason) (o : Out A) → o ≡ Err (own_refusal why (Entry 0)) → after n o ≡ Err (own_refusal why (Entry n))
+entry-after n why o = own-after n why Entry o (entry-later n)
 
 later_item-twice : (n k : ℕ) (i : Option Item) → later_item n (later_item k i) ≡ later_item (n + k) i
 unfolding later_item

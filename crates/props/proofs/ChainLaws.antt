@@ -1,7 +1,6 @@
 -- Laws of chains: judging entry by entry, going through entries that were judged, folding over them.
-use Rattle.laws.specs.declared.Item.{Item}
 use Rattle.laws.specs.declared.Item.TheVariants.{Entry}
-use Rattle.std.specs.Prelude.{Err, Ok, Option}
+use Rattle.std.specs.Prelude.{Err, Ok}
 use mathlib.Core.Bool.{Bool, false, true}
 use mathlib.Core.List.{List, [], ◌∷◌}
 use mathlib.Core.Path.{◌∙◌, ◌≡◌, ap, refl, sym}
@@ -11,8 +10,8 @@ use native.Mathlib.Omega.{arith}
 use lib.Dec.{ltb}
 use lib.ListN.{length}
 use borrow.Author.Tests.{le-ltb, lt-ltb, ltb-false}
-use Rattle.laws.proofs.Out.{Holds, Same, about-done, about-holds, about-same, after-after, after-done, after_holds, after_none, after_same, after_then, and_then-done, both, done-about, done-after, done-same, entry-later, not_done, pick-holds, reason-after, refuse-done, refuse-no, refuse-yes, refused-about, refused-after, then-done, then-holds, then-refused, then_same}
-use Rattle.laws.specs.Out.{Out, after, and_then, later, own_refusal, reason, refuse}
+use Rattle.laws.proofs.Out.{Holds, Same, about-done, about-holds, about-same, after-after, after-done, after_holds, after_none, after_same, after_then, and_then-done, both, done-about, done-after, done-same, entry-after, not_done, pick-holds, reason-after, refuse-done, refuse-no, refuse-yes, refused-about, then-done, then-holds, then-refused, then_same}
+use Rattle.laws.specs.Out.{Out, after, and_then, own_refusal, reason, refuse}
 use Rattle.laws.specs.Pick.{pick}
 use Rattle.laws.specs.declared.Refusal.{Refusal}
 use Rattle.numbers.specs.Number.{on_number, read_number}
@@ -109,13 +108,8 @@ entries-length (suc n) s at es e =
 
 -- ---- the same behind i entries, of k
 
--- an entry's own refusal, after i entries
-entry-after : {A : Type 0} (i : ℕ) (r : Refusal) (o : Out A) → o ≡ Err (own_refusal r.reason (Entry 0)) → after i o ≡ Err (own_refusal r.reason (Entry i))
-unfolding later
-entry-after i r o e = refused-after i o _ e ∙ ap (λ (k : Option Item). Err (record { reason = r.reason; item = k })) (entry-later i)
-
 pub entries-refused-on : (i n : ℕ) (s : List ℕ) (at : ℕ) (r : Refusal) → 0 < n → entry_at s at ≡ Err r → after i (entries_at n s at) ≡ Err (own_refusal r.reason (Entry i))
-entries-refused-on i n s at r h e = entry-after i r _ (entries-refused n s at r h e)
+entries-refused-on i n s at r h e = entry-after i r.reason _ (entries-refused n s at r h e)
 
 pub entries-left-on : (i n : ℕ) (s : List ℕ) (at : ℕ) → n ≤ 0 → at < length s → after i (entries_at n s at) ≡ Err (reason 5)
 entries-left-on i n s at z h = reason-after i 5 _ (entries-left n s at z h)
@@ -254,7 +248,7 @@ module _ {A : Type 0} (f : Property → A → Out A) (flag : Bool) (k : ℕ) (s 
           → run ≡ Err (own_refusal r.reason (Entry i))
       along-refused x r e q =
           let w = entries-step (k - i) s at g.rest x (omega arith) g.left e in
-          g.same ∙ entry-after i r _ (ap (λ l. fold_chain f flag l a) w.2 ∙ fold-refused f flag x.0 w.0 a r q)
+          g.same ∙ entry-after i r.reason _ (ap (λ l. fold_chain f flag l a) w.2 ∙ fold-refused f flag x.0 w.0 a r q)
 
     -- none is left
     pub along-ends : k ≤ i → run ≡ Ok a

@@ -1,5 +1,5 @@
 -- Laws of trays: reading record by record.
-use Rattle.std.specs.Prelude.{Ok, Err, Option}
+use Rattle.std.specs.Prelude.{Ok, Err}
 use mathlib.Core.List.{List, [], ◌∷◌}
 use mathlib.Core.Path.{◌∙◌, ◌≡◌, ap, refl, sym}
 use Prim.Native.Nat.{◌+◌, ◌-◌, ◌<◌, ◌≤◌, suc, zero, ℕ}
@@ -8,9 +8,8 @@ use native.Mathlib.Omega.{arith}
 use lib.Dec.{ltb}
 use lib.ListN.{length}
 use borrow.Author.Tests.{le-ltb, lt-ltb}
-use Rattle.laws.proofs.Out.{after-after, after-done, after_none, after_then, and_then-done, done-about, done-same, refused-after, reason-after, record-later, refuse-done, refuse-no, refuse-yes, refused-about, then-done, then-refused}
-use Rattle.laws.specs.Out.{Out, after, and_then, later, own_refusal, reason}
-use Rattle.laws.specs.declared.Item.{Item}
+use Rattle.laws.proofs.Out.{after-after, after-done, after_none, after_then, and_then-done, done-about, done-same, reason-after, record-after, refuse-done, refuse-no, refuse-yes, refused-about, then-done, then-refused}
+use Rattle.laws.specs.Out.{Out, after, and_then, own_refusal, reason}
 use Rattle.laws.specs.declared.Item.TheVariants.{Record}
 use Rattle.laws.specs.declared.Refusal.{Refusal}
 use Rattle.numbers.specs.Number.{malformed, on_number, read_number}
@@ -70,8 +69,7 @@ frames-on i k s at fr h e =
     ap (after i) (frames-next (k - i) s at fr (omega arith) e) ∙ after_then i _ _ ∙ ap (λ o. and_then o (λ frs. Ok (fr ∷ frs))) (after-after i 1 _ ∙ rw z)
 
 pub frames-refused-on : (i n : ℕ) (s : List ℕ) (at : ℕ) (r : Refusal) → 0 < n → record_at s at ≡ Err r → after i (frames_at n s at) ≡ Err (own_refusal r.reason (Record i))
-unfolding later
-frames-refused-on i n s at r h e = refused-after i _ _ (frames-refused n s at r h e) ∙ ap (λ (k : Option Item). Err (record { reason = r.reason; item = k })) (record-later i)
+frames-refused-on i n s at r h e = record-after i r.reason _ (frames-refused n s at r h e)
 
 pub frames-left-on : (i n : ℕ) (s : List ℕ) (at : ℕ) → n ≤ 0 → at < length s → after i (frames_at n s at) ≡ Err (reason 5)
 frames-left-on i n s at z h = reason-after i 5 _ (frames-left n s at z h)

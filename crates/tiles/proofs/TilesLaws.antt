@@ -1,5 +1,5 @@
 -- Laws of a grid's tiles, read in turn and held to the first.
-use Rattle.std.specs.Prelude.{Ok, Err, Option}
+use Rattle.std.specs.Prelude.{Ok, Err}
 use mathlib.Core.Bool.{Bool, false, not, true}
 use mathlib.Core.List.{List, [], ◌∷◌}
 use mathlib.Core.Path.{◌∙◌, ◌≡◌, ap, refl, sym}
@@ -9,9 +9,8 @@ use native.Mathlib.Omega.{arith}
 use lib.ListN.{length}
 use borrow.Author.Tests.{eq-eqb, ne_eqb}
 use Rattle.laws.proofs.Order.{mul-below}
-use Rattle.laws.proofs.Out.{about-done, after-after, after-done, after_none, after_then, and_then-done, done-after, done-same, not_done, record-later, refuse-done, refuse-no, refuse-yes, then-done, then-refused}
-use Rattle.laws.specs.Out.{Out, about, after, and_then, later, own_refusal, reason, refuse}
-use Rattle.laws.specs.declared.Item.{Item}
+use Rattle.laws.proofs.Out.{about-done, after-after, after-done, after_none, after_then, and_then-done, done-after, done-same, not_done, record-after, refuse-done, refuse-no, refuse-yes, then-done, then-refused}
+use Rattle.laws.specs.Out.{Out, about, after, and_then, own_refusal, reason, refuse}
 use Rattle.laws.specs.declared.Item.TheVariants.{Record}
 use Rattle.laws.specs.Pick.{pick}
 use Rattle.laws.specs.declared.Refusal.{Refusal}
@@ -123,13 +122,13 @@ alike-first t a b fr frs e =
 -- one tile more
 judged-next : (g : GridDescriptor) (at : ℕ) (t : Form) (held : Out ℕ) (i : ℕ) (fr : Frame) (frs : List Frame)
     → judged g at t held i (fr ∷ frs) ≡ judged g at t (and_then held (λ a. about Record i (held_to t a fr.form))) (i + 1) frs
-unfolding judged alike_from and_then about after later
+unfolding judged alike_from and_then about after
 judged-next g at t (Err r) i fr frs = refl
 judged-next g at t (Ok a) i fr frs = go (held_to t a fr.form)
   where
     go : (o : Out ℕ) → after i (and_then (and_then (about Record 0 o) (λ b. after 1 (alike_from t b frs))) (taken g at t))
         ≡ and_then (about Record i o) (λ b. after (i + 1) (and_then (alike_from t b frs) (taken g at t)))
-    go (Err r) = ap (λ (k : Option Item). Err (record { reason = r.reason; item = k })) (record-later i)
+    go (Err r) = record-after i r.reason (Err (own_refusal r.reason (Record 0))) refl
     go (Ok b) = ap (after i) (sym (after_then 1 (alike_from t b frs) _)) ∙ after-after i 1 _
 
 pub judge-next : (g : GridDescriptor) (s : List ℕ) (at : ℕ) (t : Form) (held : Out ℕ) (i count next : ℕ) (fr : Frame) → i < count → record_at s next ≡ Ok fr
