@@ -32,7 +32,8 @@ use Rattle.derived.specs.Overlay.{fill_at, horizontal_at, inputs_of, offset_plac
 use Rattle.derived.specs.declared.grid.GridDescriptor.{GridDescriptor}
 use Rattle.derived.specs.declared.overlay.Fill.{Fill}
 use Rattle.derived.specs.declared.overlay.OverlayDescriptor.{OverlayDescriptor}
-use Rattle.bodies.proofs.FormLaws.{all-at, field-length, flags-few, length-canvas, length-fill, narrow-fits, tile-count}
+use Rattle.laws.proofs.Any.{all-at}
+use Rattle.bodies.proofs.FormLaws.{field-length, flags-few, length-canvas, length-fill, narrow-fits, tile-count}
 use Rattle.bodies.proofs.RunLaws.{grid-judged, overlay-judged}
 use Rattle.bodies.specs.Form.{canvas_bytes, flags_of, narrow_canvas, narrow_offset}
 use Rattle.bodies.specs.Grid.{grid_body, grid_body_in, grid_body_run}

@@ -3,14 +3,14 @@ use mathlib.Core.Bool.{Bool, ◌&&◌, false, true}
 use mathlib.Core.List.{List, ◌++◌, append_assoc}
 use mathlib.Core.Path.{◌∙◌, ◌≡◌, ap, ap₂, refl}
 use Prim.Native.Nat.{◌*◌, ◌+◌, ◌<◌, ◌≤◌, suc, zero, ℕ}
-use native.Mathlib.Nat.{not-suc-le-zero}
 use native.Mathlib.Omega.{arith}
 use lib.Dec.{leb, lit<}
 use lib.IntN.{negsuc, pos, ℤ}
 use lib.ListN.{get_or, length, length-append}
 use lib.Signed.{mag}
 use borrow.Author.Tests.{le-leb, leb-true, lt-leb}
-use Rattle.laws.proofs.Order.{and-true, apart, by_equal, by_order, by-test, true-and}
+use Rattle.laws.proofs.Any.{all-at}
+use Rattle.laws.proofs.Order.{and-true, apart, by_order, by-test, true-and}
 use Rattle.laws.proofs.Span.{length-span-all, span-cong, span-step}
 use Rattle.laws.specs.Any.{all_below}
 use Rattle.laws.specs.Pick.{pick}
@@ -50,13 +50,6 @@ pub all_yes : (n : ℕ) (t : ℕ → Bool) → ((k : ℕ) → k < n → t k ≡ 
 unfolding all_below
 all_yes zero t f = refl
 all_yes (suc n) t f = true-and _ _ (f n (omega arith)) (all_yes n t (λ k h. f k (omega arith)))
-
-pub all-at : (n : ℕ) (t : ℕ → Bool) → all_below n t ≡ true → (k : ℕ) → k < n → t k ≡ true
-unfolding all_below
-all-at zero t e k h = absurd (not-suc-le-zero h)
-all-at (suc n) t e k h =
-    let a = and-true (t n) (all_below n t) e in
-    by_equal k n (λ q. ap t q ∙ a.0) (λ q. all-at n t a.1 k (omega arith))
 
 pub all-no : (n : ℕ) (t : ℕ → Bool) (k : ℕ) → k < n → t k ≡ false → all_below n t ≡ false
 all-no n t k h e = by-test (all_below n t) (λ q. apart (cc (all-at n t q k h, e))) (λ q. q)

@@ -15,7 +15,8 @@ use Rattle.numbers.specs.Field.{big_endian_bytes, pattern_of, signed_of}
 use Rattle.numbers.specs.inner.Length.{FieldLength}
 use Rattle.derived.specs.Canvas.{field_bytes}
 use Rattle.derived.specs.declared.overlay.Fill.{Fill}
-use Rattle.bodies.proofs.FormLaws.{all-at, field-length, length-head, length-words, narrow-fits}
+use Rattle.laws.proofs.Any.{all-at}
+use Rattle.bodies.proofs.FormLaws.{field-length, length-head, length-words, narrow-fits}
 use Rattle.bodies.specs.Form.{canvas_bytes, flags_of, narrow_canvas, narrow_offset}
 use Rattle.bodies.specs.Overlay.{fields_in, fill_bytes, input_bytes, narrow_overlay, offset_bytes, offset_in, overlay_body, overlay_body_in}
 use Rattle.bodies.specs.inner.Words.{narrow_inputs, overlay_head, word_bytes}

@@ -5,6 +5,7 @@ use mathlib.Core.Path.{◌≡◌}
 use Prim.Native.Nat.{◌-◌, ◌^◌, ◌≤◌, ℕ}
 use lib.ListN.{drop, take}
 use mathlib.Core.Bool.{Bool}
+use Rattle.laws.proofs.Numbers.{numbered-back}
 use Rattle.laws.proofs.Out.{holds-done}
 use Rattle.laws.specs.Puts.{Bytes}
 use Rattle.laws.specs.declared.Item.TheVariants.{Record, Entry}
@@ -96,6 +97,7 @@ kept = record {
   iscl_covers = scaled-covers;
   iscl_least = scaled-least;
   chain_within = λ flag es z y s e. holds-done SizeSound _ y (chain-sound flag es z s) e;
+  refusal_numbers = numbered-back;
   tray_names = tray-item;
   tile_names = tile_item;
   input_names = λ test n inputs r e. first-named test Record n inputs inputs r e;

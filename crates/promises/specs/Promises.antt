@@ -6,6 +6,7 @@ use Rattle.std.proofs.Math.IntN.{sub_ℕ}
 use Rattle.laws.specs.Any.{any}
 use Rattle.laws.specs.Out.{Out, and_then, fitted, is_done, reason, refuse_item}
 use Rattle.laws.specs.Puts.{Bytes}
+use Rattle.laws.specs.Reason.{number_of, numbered}
 use Rattle.laws.specs.Pick.{pick}
 use Rattle.laws.specs.Utf8.{utf8}
 use Rattle.laws.specs.declared.Refusal.{Refusal}
@@ -184,6 +185,8 @@ pub record Promises : Type 0 where
   pub chain_within : (essential_only : Bool) (es : List PropertyEntry) (z y : Size) → SizeSound z → fold_chain size_after essential_only es z ≡ Ok y → SizeSound y
   -- ---- document 02, A2: which item a refusal names, and its sentence
 
+  -- "Refusals in order": what is refused by one of the 19 numbers has that number
+  pub refusal_numbers : (n : ℕ) → 1 ≤ n → n ≤ 19 → number_of (numbered n) ≡ n
   -- "a tray record's own refusal … carry the record's … index, counted from 0 … Bytes left over … carry none": the record that is named is
   -- the one that is refused, and those before it are taken
   pub tray_names : (n : ℕ) (tray : List ℕ) (at : ℕ) (r : Refusal) → frames_at n tray at ≡ Err r → OwnItem (past_record tray) Record n at r ⊎ LeftOver (past_record tray) n at (length tray) r
