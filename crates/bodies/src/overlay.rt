@@ -1,9 +1,10 @@
 // The overlay's body (ISO/IEC 23008-12, 6.6.2.2.2).
 ghost use Rattle.std.specs.Prelude.{◌&&◌, ◌≡◌, ◌+◌, ◌/◌, ◌≤◌, eqb, ltb, length};
-ghost use Rattle.laws.specs.Out.{answer_of, refuse, written};
+ghost use Rattle.laws.specs.Out.{and_then, answer_of, refuse, written};
 ghost use Rattle.laws.specs.Puts.{puts};
 ghost use Rattle.laws.specs.Span.{span};
 ghost use Rattle.numbers.specs.inner.Length.{FieldLength};
+ghost use Rattle.image.specs.Format.{judged_size};
 ghost use Rattle.bodies.specs.Form.{narrow_canvas};
 ghost use Rattle.bodies.specs.Overlay.{fields_in, fill_bytes, overlay_body_run};
 ghost use Rattle.bodies.specs.inner.Words.{narrow_inputs, overlay_head, word_bytes};
@@ -25,6 +26,15 @@ fn judge_count(count: usize) -> Result<(), Refusal>
         return Err(Refusal::MISSING);
     }
     Ok(())
+}
+
+// The canvas, then how many inputs: 3 a side 0, 4 above 2^30 pixels; 4 above 65,536 inputs, 15 none.
+#[tactic(auto, unfolding(laws::specs::Out::and_then))]
+fn judge_fields(width: u32, height: u32, count: usize) -> Result<(), Refusal>
+    ensures { result ≡ and_then (judged_size width height) (λ _. refuse (ltb 65536 count) 4 (refuse (eqb count 0) 15 (Ok tt))) }
+{
+    Size::judge(width, height)?;
+    judge_count(count)
 }
 
 // Whether 16 bits hold both offsets of every input.
@@ -97,8 +107,7 @@ pub fn write_overlay(
         × (out.new ≡ written (overlay_body_run (fields_in fill width height offsets.now) (length out.old)) out.old) }
 {
     let count = offsets.len() / 2;
-    Size::judge(width, height)?;
-    judge_count(count)?;
+    judge_fields(width, height, count)?;
     let flags = flags_of(narrow_overlay(width, height, offsets));
     let bytes = field_bytes(flags);
     if out.len() < 10 + 2 * bytes + count * (2 * bytes) {

@@ -1,5 +1,5 @@
 // Rows of samples stored one below the other.
-ghost use Rattle.std.specs.Prelude.{◌≡◌, ◌+◌, ◌*◌, ◌≤◌, ◌<◌, ◌^◌, ℕ, length};
+ghost use Rattle.std.specs.Prelude.{◌≡◌, ◌+◌, ◌*◌, ◌≤◌, ◌<◌, ◌^◌, ℕ, length, min};
 ghost use Rattle.planes.specs.Bytes.{samples_of};
 ghost use Rattle.paste.specs.Stored.{store_rows};
 ghost use Rattle.paste.specs.inner.Source.{RowsFit, capped_row, source_row};
@@ -48,6 +48,13 @@ pub fn store_rows(
     }
 }
 
+// A sample held to top.
+fn capped(v: u16, top: u16) -> u16
+    ensures { result ≡ min v top }
+{
+    v.min(top)
+}
+
 // A row of samples, each held to top, at `at`.
 fn store_capped_row(
     out: &mut [u8],
@@ -69,7 +76,7 @@ fn store_capped_row(
     for i in 0..across {
         let column = planes::covering(s.half_across, s.x + i);
         let v = planes::sample(plane, bytes, stride, column, row);
-        to = planes::put_sample(out, to, bytes, v.min(top));
+        to = planes::put_sample(out, to, bytes, capped(v, top));
     }
 }
 

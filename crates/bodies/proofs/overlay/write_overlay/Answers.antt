@@ -5,13 +5,11 @@ use mathlib.Core.Path.{◌∙◌, ◌≡◌, ap, sym}
 use Prim.Native.Nat.{◌*◌, ◌/◌, ◌<◌, ◌^◌, ◌≤◌, ℕ}
 use native.Mathlib.Nat.{zero-add}
 use native.Mathlib.Omega.{arith}
-use lib.Dec.{eqb, ltb}
 use lib.ListN.{get_or, length, length-append}
 use borrow.Author.Rules.{rules}
 use Rattle.laws.proofs.Order.{mul-below}
-use Rattle.laws.proofs.Out.{done-answers, refused-answers, then-done, then-refused}
+use Rattle.laws.proofs.Out.{done-answers, refused-answers}
 use Rattle.laws.proofs.Writing.{Writing, writing-ended, writing-run, writing-whole}
-use Rattle.laws.specs.Out.{Out, refuse}
 use Rattle.laws.specs.Span.{span}
 use Rattle.derived.specs.Canvas.{field_bytes}
 use Rattle.bodies.proofs.FormLaws.{field-length}
@@ -20,7 +18,7 @@ use Rattle.bodies.specs.inner.Words.{narrow_inputs, overlay_head, word_bytes}
 use Rattle.bodies.specs.Form.{flags_of, narrow_canvas}
 use Rattle.bodies.specs.Overlay.{OverlayFields, fields_in, overlay_body_run, overlay_judged}
 use Rattle.bodies.proofs.overlay.write_overlay.Goals as goal
-use Rattle.bodies.proofs.overlay.write_overlay.Goals.{After-field_bytes-bytes, After-flags_of-flags, After-put_head-at, After-shared_slice_known-1, Else-out-bytes, In_ok-judge_count, Start}
+use Rattle.bodies.proofs.overlay.write_overlay.Goals.{After-field_bytes-bytes, After-flags_of-flags, After-put_head-at, After-shared_slice_known-1, Else-out-bytes, In_ok-judge_fields, Start}
 
 -- the fields, and with those flags what stands before the offsets and the offsets
 abbrev fields : Start → OverlayFields
@@ -35,12 +33,9 @@ words start flags = span (word_bytes (field_bytes flags) start.args.offsets.now)
 small : (c : After-shared_slice_known-1) (k : ℕ) → get_or c.args.offsets.now k 0 < 2 ^ 32
 small c k = omega (arith, c.type_inv.offsets k)
 
-counted : (c : In_ok-judge_count) → ◌≡◌ {A = Out Unit} (refuse (ltb 65536 (length c.args.offsets.now / 2)) 4 (refuse (eqb (length c.args.offsets.now / 2) 0) 15 (Ok tt))) (Ok tt)
-counted c = sym c.judge_count.ensures ∙ c.in_ok-judge_count.was
-
-taken : (c : In_ok-judge_count) → overlay_judged (fields (goal.at.In_ok-judge_count c).Start) ≡ Ok tt
+taken : (c : In_ok-judge_fields) → overlay_judged (fields (goal.at.In_ok-judge_fields c).Start) ≡ Ok tt
 unfolding overlay_judged fields_in
-taken c = then-done _ (sym c.judge.ensures ∙ c.in_ok-judge.was) ∙ counted c
+taken c = sym c.judge_fields.ensures ∙ c.in_ok-judge_fields.was
 
 picked : (c : After-flags_of-flags)
     → c.flags_of-flags.result
@@ -52,14 +47,14 @@ few : (c : After-field_bytes-bytes)
 unfolding fields_in
 few c =
     let h : c.field_bytes-bytes.result ≤ 4 = omega (arith, c.field_bytes-bytes.ensures, field-length c.flags_of-flags.result) in
-    (h, mul-below 65536 8 _ _ (overlay-judged _ tt (taken (goal.at.After-field_bytes-bytes c).In_ok-judge_count)).2 (omega arith))
+    (h, mul-below 65536 8 _ _ (overlay-judged _ tt (taken (goal.at.After-field_bytes-bytes c).In_ok-judge_fields)).2 (omega arith))
 
 -- the body fits, and is what the run comes to
 fits : (c : Else-out-bytes)
     → (length (head (goal.at.Else-out-bytes c).Start c.flags_of-flags.result ++ words (goal.at.Else-out-bytes c).Start c.flags_of-flags.result) ≤ length c.args.out.now)
     × (overlay_body_run (fields (goal.at.Else-out-bytes c).Start) (length c.args.out.now) ≡ Ok (head (goal.at.Else-out-bytes c).Start c.flags_of-flags.result ++ words (goal.at.Else-out-bytes c).Start c.flags_of-flags.result))
 fits c =
-    overlay-done c.args.fill c.args.width c.args.height c.args.offsets.now (length c.args.out.now) tt (taken (goal.at.Else-out-bytes c).In_ok-judge_count) (small (goal.at.Else-out-bytes c).After-shared_slice_known-1) _
+    overlay-done c.args.fill c.args.width c.args.height c.args.offsets.now (length c.args.out.now) tt (taken (goal.at.Else-out-bytes c).In_ok-judge_fields) (small (goal.at.Else-out-bytes c).After-shared_slice_known-1) _
     (picked (goal.at.Else-out-bytes c).After-flags_of-flags) (rw c.field_bytes-bytes.ensures at c.if-out-bytes.false)
 
 offsets : (c : After-put_head-at)
@@ -87,7 +82,7 @@ overflow_add-bytes-2 c = omega (arith, few c)
 
 pub returns-then-out-bytes : goal.returns-then-out-bytes
 returns-then-out-bytes c =
-    refused-answers _ _ _ (overlay-short c.args.fill c.args.width c.args.height c.args.offsets.now _ tt (taken (goal.at.returns-then-out-bytes c).In_ok-judge_count) (small (goal.at.returns-then-out-bytes c).After-shared_slice_known-1) _ (picked (goal.at.returns-then-out-bytes c).After-flags_of-flags) (rw c.field_bytes-bytes.ensures at c.if-out-bytes.true))
+    refused-answers _ _ _ (overlay-short c.args.fill c.args.width c.args.height c.args.offsets.now _ tt (taken (goal.at.returns-then-out-bytes c).In_ok-judge_fields) (small (goal.at.returns-then-out-bytes c).After-shared_slice_known-1) _ (picked (goal.at.returns-then-out-bytes c).After-flags_of-flags) (rw c.field_bytes-bytes.ensures at c.if-out-bytes.true))
 
 pub put_head-at-requires : goal.put_head-at-requires
 put_head-at-requires c =
@@ -97,17 +92,11 @@ pub put_offsets-requires : goal.put_offsets-requires
 put_offsets-requires c =
     rw c.field_bytes-bytes.ensures (field-length c.flags_of-flags.result, (offsets (goal.at.put_offsets-requires c).After-put_head-at).room)
 
-pub returns-in_err-judge : goal.returns-in_err-judge
+pub returns-in_err-judge_fields : goal.returns-in_err-judge_fields
 unfolding overlay_judged fields_in
-returns-in_err-judge c =
-    let e : c.from_residual.result ≡ Err c.in_err-judge.field-0.0 = search rules in
-    rw e (refused-answers _ _ _ (overlay-refused (fields (goal.at.returns-in_err-judge c).Start) _ _ (then-refused _ (sym c.judge.ensures ∙ c.in_err-judge.was))))
-
-pub returns-in_err-judge_count : goal.returns-in_err-judge_count
-unfolding overlay_judged fields_in
-returns-in_err-judge_count c =
-    let e : c.from_residual-in_err-judge_count.result ≡ Err c.in_err-judge_count.field-0.0 = search rules in
-    rw e (refused-answers _ _ _ (overlay-refused (fields (goal.at.returns-in_err-judge_count c).Start) _ _ (then-done _ (sym c.judge.ensures ∙ c.in_ok-judge.was) ∙ sym c.judge_count.ensures ∙ c.in_err-judge_count.was)))
+returns-in_err-judge_fields c =
+    let e : c.from_residual.result ≡ Err c.in_err-judge_fields.field-0.0 = search rules in
+    rw e (refused-answers _ _ _ (overlay-refused (fields (goal.at.returns-in_err-judge_fields c).Start) _ _ (sym c.judge_fields.ensures ∙ c.in_err-judge_fields.was)))
 
 pub returns : goal.returns
 returns c =

@@ -10,7 +10,7 @@ use Rattle.planes.specs.Bytes.{sample_bytes, samples_of}
 use Rattle.paste.proofs.SourceLaws.{capped-next}
 use Rattle.paste.specs.inner.Source.{capped_row, source_at}
 use Rattle.paste.proofs.rows.store_capped_row.Goals as goal
-use Rattle.paste.proofs.rows.store_capped_row.Goals.{After-min, After-sample-v}
+use Rattle.paste.proofs.rows.store_capped_row.Goals.{After-capped, After-sample-v}
 
 sample-is : (c : After-sample-v) →
     c.sample-v.result ≡ source_at c.args.plane.now c.args.s c.loop-i.i c.args.k
@@ -18,15 +18,15 @@ unfolding source_at
 sample-is c =
     c.sample-v.ensures ∙ simp (c.covering-row.ensures, c.covering-column.ensures)
 
-next : (c : After-min)
+next : (c : After-capped)
     → Writing c.args.out.now c.args.at
     (capped_row c.args.plane.now c.args.s c.args.top c.args.across c.args.k) c.loop-i.out c.loop-i.to
-    (sample_bytes c.args.s.bytes c.min.result
+    (sample_bytes c.args.s.bytes c.capped.result
     ++ span
     (λ j. sample_bytes c.args.s.bytes (min (source_at c.args.plane.now c.args.s j c.args.k) c.args.top))
     (c.loop-i.i + 1) c.args.across)
 next c =
-    writing-as c.loop-i.invariant (capped-next c.args.plane.now c.args.s c.args.top c.args.across c.loop-i.i c.args.k c.min.result c.loop-i-test.true (c.min.ensures ∙ ap (λ (v : ℕ). min v c.args.top) (sample-is (goal.at.After-min c).After-sample-v)))
+    writing-as c.loop-i.invariant (capped-next c.args.plane.now c.args.s c.args.top c.args.across c.loop-i.i c.args.k c.capped.result c.loop-i-test.true (c.capped.ensures ∙ ap (λ (v : ℕ). min v c.args.top) (sample-is (goal.at.After-capped c).After-sample-v)))
 
 pub overflow_add-s : goal.overflow_add-s
 overflow_add-s c =
@@ -47,11 +47,11 @@ sample-v-requires c =
 
 pub put_sample-to-requires : goal.put_sample-to-requires
 put_sample-to-requires c =
-    (c.requires.0, c.requires.1, rw (← length-sample_bytes c.args.s.bytes c.min.result c.requires.0 c.requires.1) (writing-fits (sample_bytes c.args.s.bytes c.min.result) _ (next (goal.at.put_sample-to-requires c).After-min)))
+    (c.requires.0, c.requires.1, rw (← length-sample_bytes c.args.s.bytes c.capped.result c.requires.0 c.requires.1) (writing-fits (sample_bytes c.args.s.bytes c.capped.result) _ (next (goal.at.put_sample-to-requires c).After-capped)))
 
 pub loop-i-preserved : goal.loop-i-preserved
 loop-i-preserved c =
-    writing-run (sample_bytes c.args.s.bytes c.min.result) (next (goal.at.loop-i-preserved c).After-min) (c.put_sample-to.ensures.0 ∙ ap (λ (n : ℕ). c.loop-i.to + n) (sym (length-sample_bytes c.args.s.bytes c.min.result c.requires.0 c.requires.1))) c.put_sample-to.ensures.1
+    writing-run (sample_bytes c.args.s.bytes c.capped.result) (next (goal.at.loop-i-preserved c).After-capped) (c.put_sample-to.ensures.0 ∙ ap (λ (n : ℕ). c.loop-i.to + n) (sym (length-sample_bytes c.args.s.bytes c.capped.result c.requires.0 c.requires.1))) c.put_sample-to.ensures.1
 
 pub returns : goal.returns
 returns c =
