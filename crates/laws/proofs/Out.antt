@@ -5,6 +5,7 @@ use mathlib.Core.List.{List}
 use mathlib.Core.Path.{◌∙◌, ◌≡◌, ap, refl, sym}
 use Prim.Native.Nat.{◌+◌, ◌<◌, ◌≤◌, ℕ}
 use lib.ListN.{length}
+use lib.Dec.{eqb}
 use borrow.Author.Tests.{le-ltb, lt-ltb}
 use native.Mathlib.Nat.{add_assoc, add-zero, zero-add}
 use Rattle.laws.proofs.Order.{apart}
@@ -13,7 +14,7 @@ use Rattle.laws.specs.Out.{Out, about, after, and_then, answer_of, fitted, is_do
 use Rattle.laws.specs.Pick.{pick}
 use Rattle.laws.specs.Puts.{puts}
 use Rattle.laws.specs.declared.Item.{Item}
-use Rattle.laws.specs.declared.Item.TheVariants.{Record, Entry}
+use Rattle.laws.specs.declared.Item.TheVariants.{Record, Entry, Other}
 use Rattle.laws.specs.declared.Reason.{Reason}
 use Rattle.laws.specs.declared.Refusal.{Refusal}
 use Rattle.laws.specs.Any.{any, first_at}
@@ -183,16 +184,26 @@ pub entry-after : {A : Type 0} (n : ℕ) (why : Reason) (o : Out A) → o ≡ Er
 entry-after n why o = own-after n why Entry o (entry-later n)
 
 later_item-twice : (n k : ℕ) (i : Option Item) → later_item n (later_item k i) ≡ later_item (n + k) i
-unfolding later_item
+unfolding later_item pick
 later_item-twice n k None = refl
 later_item-twice n k (Some (Record i)) = ap (λ j. Some (Record j)) (sym (add_assoc n k i))
 later_item-twice n k (Some (Entry i)) = ap (λ j. Some (Entry j)) (sym (add_assoc n k i))
+later_item-twice n k (Some (Other sort i)) = ap (λ j. Some (Other sort j)) (pick-twice (eqb sort 0))
+  where
+    pick-twice : (b : Bool) → pick b (pick b i (k + i)) (n + pick b i (k + i)) ≡ pick b i (n + k + i)
+    pick-twice true = refl
+    pick-twice false = sym (add_assoc n k i)
 
 later_item-none : (i : Option Item) → later_item 0 i ≡ i
-unfolding later_item
+unfolding later_item pick
 later_item-none None = refl
 later_item-none (Some (Record i)) = ap (λ j. Some (Record j)) (zero-add i)
 later_item-none (Some (Entry i)) = ap (λ j. Some (Entry j)) (zero-add i)
+later_item-none (Some (Other sort i)) = ap (λ j. Some (Other sort j)) (pick-none (eqb sort 0))
+  where
+    pick-none : (b : Bool) → pick b i (0 + i) ≡ i
+    pick-none true = refl
+    pick-none false = zero-add i
 
 pub later-later : (n k : ℕ) (r : Refusal) → later n (later k r) ≡ later (n + k) r
 unfolding later

@@ -1,9 +1,9 @@
 -- What a call comes to: an answer, or why it refuses.
-use Rattle.std.specs.Prelude.{Result, Ok, Err, Option, Some, None, Bool, false, true, List, ◌++◌, ◌+◌, ℕ, ltb, drop, length}
+use Rattle.std.specs.Prelude.{Result, Ok, Err, Option, Some, None, Bool, false, true, List, ◌++◌, ◌+◌, ℕ, eqb, ltb, drop, length}
 use Rattle.laws.specs.declared.Refusal.{Refusal}
 use Rattle.laws.specs.declared.Reason.{Reason}
 use Rattle.laws.specs.declared.Item.{Item}
-use Rattle.laws.specs.declared.Item.TheVariants.{Record, Entry}
+use Rattle.laws.specs.declared.Item.TheVariants.{Record, Entry, Other}
 use Rattle.laws.specs.Reason.{numbered}
 use Rattle.laws.specs.Any.{any, first_at}
 use Rattle.laws.specs.Pick.{pick}
@@ -50,6 +50,7 @@ unfoldable pub later_item : ℕ → Option Item → Option Item
 later_item n None = None
 later_item n (Some (Record i)) = Some (Record (n + i))
 later_item n (Some (Entry i)) = Some (Entry (n + i))
+later_item n (Some (Other sort i)) = Some (Other sort (pick (eqb sort 0) i (n + i)))
 
 unfoldable pub later : ℕ → Refusal → Refusal
 later n r = record { reason = r.reason; item = later_item n r.item }

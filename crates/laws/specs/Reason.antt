@@ -1,7 +1,7 @@
 -- The numbers of refusals.
 use Rattle.std.specs.Prelude.{ℕ, ◌==◌, if◌then◌else◌}
 use Rattle.laws.specs.declared.Reason.{Reason}
-use Rattle.laws.specs.declared.Reason.TheVariants.{Short, Version, Empty, Limit, Malformed, Depth, Zero, Fraction, Outside, Scale, Count, Cover, Tile, Layout, Missing, Opacity, Room, Point, Tiling}
+use Rattle.laws.specs.declared.Reason.TheVariants.{Short, Version, Empty, Limit, Malformed, Depth, Zero, Fraction, Outside, Scale, Count, Cover, Tile, Layout, Missing, Opacity, Room, Point, Tiling, Other}
 
 -- a refusal's number
 abbrev pub number_of : Reason → ℕ
@@ -24,8 +24,9 @@ number_of Opacity = 16
 number_of Room = 17
 number_of Point = 18
 number_of Tiling = 19
+number_of (Other n) = n
 
--- the reason of a number from 1 to 19
+-- the reason of a number: from 1 to 19 it has a name
 abbrev pub numbered : ℕ → Reason
 numbered n =
     if n == 1 then Short else if n == 2 then Version else if n == 3 then Empty else
@@ -34,4 +35,4 @@ numbered n =
     if n == 10 then Scale else if n == 11 then Count else if n == 12 then Cover else
     if n == 13 then Tile else if n == 14 then Layout else if n == 15 then Missing else
     if n == 16 then Opacity else if n == 17 then Room else if n == 18 then Point else
-    Tiling
+    if n == 19 then Tiling else Other n

@@ -9,50 +9,73 @@ ghost use Rattle.laws.specs.Reason.{number_of};
 #[derive(Clone, Copy, Debug, PartialEq, Eq)]
 pub enum Reason {
     // A descriptor body is empty or cut short.
-    Short = 1,
+    Short,
     // A descriptor's version is not 0.
-    Version = 2,
+    Version,
     // A side is 0.
-    Empty = 3,
+    Empty,
     // Above a limit.
-    Limit = 4,
+    Limit,
     // Malformed bytes.
-    Malformed = 5,
+    Malformed,
     // A depth outside 8 to 16.
-    Depth = 6,
+    Depth,
     // A zero term of a fraction.
-    Zero = 7,
+    Zero,
     // A size or an edge that is no whole number.
-    Fraction = 8,
+    Fraction,
     // A rectangle outside its picture.
-    Outside = 9,
+    Outside,
     // A scaled side above 2^32 - 1.
-    Scale = 10,
+    Scale,
     // A tray's count or a list's length that differs, or an index outside.
-    Count = 11,
+    Count,
     // Tiles that do not cover the canvas.
-    Cover = 12,
+    Cover,
     // A tile of another size.
-    Tile = 13,
+    Tile,
     // Another chroma or depth.
-    Layout = 14,
+    Layout,
     // No inputs, nothing placed, or a cell missing.
-    Missing = 15,
+    Missing,
     // An alpha sample above top.
-    Opacity = 16,
+    Opacity,
     // A lent buffer that is too short.
-    Room = 17,
+    Room,
     // No point answer.
-    Point = 18,
+    Point,
     // Rows or columns of tiles outside 1 to 256 (document 02, A4).
-    Tiling = 19,
+    Tiling,
+    // Any other number: no call refuses by it.
+    Other(u8),
 }
 
 impl Reason {
     pub fn number(self) -> u8
         ensures { result ≡ number_of self }
     {
-        self as u8
+        match self {
+            Reason::Short => 1,
+            Reason::Version => 2,
+            Reason::Empty => 3,
+            Reason::Limit => 4,
+            Reason::Malformed => 5,
+            Reason::Depth => 6,
+            Reason::Zero => 7,
+            Reason::Fraction => 8,
+            Reason::Outside => 9,
+            Reason::Scale => 10,
+            Reason::Count => 11,
+            Reason::Cover => 12,
+            Reason::Tile => 13,
+            Reason::Layout => 14,
+            Reason::Missing => 15,
+            Reason::Opacity => 16,
+            Reason::Room => 17,
+            Reason::Point => 18,
+            Reason::Tiling => 19,
+            Reason::Other(number) => number,
+        }
     }
 }
 
@@ -61,6 +84,8 @@ impl Reason {
 pub enum Item {
     Record(u64),
     Entry(u64),
+    // Of any other sort, by the sort's number and the index: no call refuses one. Of sort 0, it stands in no list.
+    Other(u8, u64),
 }
 
 // Why a call refuses and, where it is an item's own refusal, which item's.

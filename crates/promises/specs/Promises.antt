@@ -185,8 +185,8 @@ pub record Promises : Type 0 where
   pub chain_within : (essential_only : Bool) (es : List PropertyEntry) (z y : Size) → SizeSound z → fold_chain size_after essential_only es z ≡ Ok y → SizeSound y
   -- ---- document 02, A2: which item a refusal names, and its sentence
 
-  -- "Refusals in order": what is refused by one of the 19 numbers has that number
-  pub refusal_numbers : (n : ℕ) → 1 ≤ n → n ≤ 19 → number_of (numbered n) ≡ n
+  -- "Refusals in order": what is refused by a number has that number
+  pub refusal_numbers : (n : ℕ) → number_of (numbered n) ≡ n
   -- "a tray record's own refusal … carry the record's … index, counted from 0 … Bytes left over … carry none": the record that is named is
   -- the one that is refused, and those before it are taken
   pub tray_names : (n : ℕ) (tray : List ℕ) (at : ℕ) (r : Refusal) → frames_at n tray at ≡ Err r → OwnItem (past_record tray) Record n at r ⊎ LeftOver (past_record tray) n at (length tray) r

@@ -4,7 +4,7 @@ use Rattle.std.specs.Prelude.{◌*◌, ◌+◌, ◌-◌, ◌^◌, min, ℕ}
 use Rattle.laws.specs.Out.{Out, and_then}
 use Rattle.laws.specs.Reason.{number_of}
 use Rattle.laws.specs.declared.Item.{Item}
-use Rattle.laws.specs.declared.Item.TheVariants.{Record, Entry}
+use Rattle.laws.specs.declared.Item.TheVariants.{Record, Entry, Other}
 use Rattle.laws.specs.declared.Refusal.{Refusal}
 
 -- the sort of an item: 0 none, 1 a record of the tray, 2 an entry of the chain; and its index, 0 of none
@@ -12,11 +12,13 @@ unfoldable pub sort_of : Option Item → ℕ
 sort_of None = 0
 sort_of (Some (Record i)) = 1
 sort_of (Some (Entry i)) = 2
+sort_of (Some (Other sort i)) = sort
 
 unfoldable pub index_of : Option Item → ℕ
 index_of None = 0
 index_of (Some (Record i)) = i
 index_of (Some (Entry i)) = i
+index_of (Some (Other sort i)) = i
 
 -- a refusal: its number in bits 0 to 7, the sort of the item that is refused in bits 8 to 15, the item's index in bits 16 to 55, where one
 -- above 2 ^ 40 - 1 is that number

@@ -17,6 +17,7 @@ pub fn refusal_code(e: Refusal) -> u64
         None => why,
         Some(Item::Record(i)) => why + 256 + 65536 * i.min(LAST_INDEX),
         Some(Item::Entry(i)) => why + 512 + 65536 * i.min(LAST_INDEX),
+        Some(Item::Other(sort, i)) => why + 256 * sort as u64 + 65536 * i.min(LAST_INDEX),
     }
 }
 

@@ -269,13 +269,13 @@ mod tests {
     }
 
     /// The variants of an enum of the crate `laws`.
-    fn variants(name: &str) -> Vec<String> {
+    fn variants(name: &str) -> String {
         let laws = laws();
         let (_, rest) = laws
             .split_once(&format!("pub enum {name} {{ "))
             .expect("the enum is there");
         let (list, _) = rest.split_once(", }").expect("an enum that ends");
-        list.split(", ").map(String::from).collect()
+        list.to_string()
     }
 
     /// A word with a capital letter.
@@ -298,10 +298,13 @@ mod tests {
         };
         let ours: Vec<String> = Refusal::ALL.iter().map(constant).collect();
         assert_eq!(ours, theirs);
-        let reason =
-            |refusal: &Refusal| format!("{} = {}", capital(refusal.name()), refusal.number());
-        let reasons: Vec<String> = Refusal::ALL.iter().map(reason).collect();
-        assert_eq!(reasons, variants("Reason"));
+        let mut reasons: Vec<String> = Refusal::ALL.iter().map(|r| capital(r.name())).collect();
+        let arm = |r: &Refusal| format!("Reason::{} => {}, ", capital(r.name()), r.number());
+        let arms: String = Refusal::ALL.iter().map(arm).collect();
+        let number = format!("match self {{ {arms}Reason::Other(number) => number, }}");
+        assert!(laws.contains(&number));
+        reasons.push("Other(u8)".into());
+        assert_eq!(reasons.join(", "), variants("Reason"));
         let code = in_repository("crates/words/specs/Code.antt");
         let code = fs::read_to_string(code).expect("the definition of a refusal's code is there");
         let sorts: Vec<&str> = code
@@ -309,11 +312,13 @@ mod tests {
             .filter(|line| line.starts_with("sort_of "))
             .collect();
         let sort = |about: About| format!("sort_of (Some ({about:?} i)) = {}", about.sort());
-        let ours = About::ALL.map(sort);
+        let mut ours: Vec<String> = About::ALL.iter().copied().map(sort).collect();
+        ours.push("sort_of (Some (Other sort i)) = sort".into());
         assert_eq!(sorts[1..], ours);
         assert_eq!(sorts[0], "sort_of None = 0");
-        let items = About::ALL.map(|about| format!("{about:?}(u64)"));
-        assert_eq!(items.as_slice(), variants("Item"));
+        let mut items: Vec<String> = About::ALL.map(|about| format!("{about:?}(u64)")).into();
+        items.push("Other(u8, u64)".into());
+        assert_eq!(items.join(", "), variants("Item"));
         assert!(laws.contains("pub fn about(self, item: Item) -> Refusal"));
     }
 
