@@ -1,12 +1,12 @@
 -- Laws of the canvas session's words.
 use Rattle.std.specs.Prelude.{Ok, Err}
 use mathlib.Core.Bool.{true}
-use mathlib.Core.List.{List, [], ◌++◌, ◌∷◌}
+use mathlib.Core.List.{List, [], ◌++◌, ◌∷◌, append-nil}
 use mathlib.Core.Path.{◌∙◌, ◌≡◌, ap, refl, sym}
-use Prim.Native.Nat.{◌-◌, ◌<◌, ◌^◌, ◌≤◌, suc, zero, ℕ}
+use Prim.Native.Nat.{◌+◌, ◌-◌, ◌<◌, ◌^◌, ◌≤◌, suc, zero, ℕ}
 use native.Mathlib.Omega.{arith}
-use lib.ListN.{get_or, length, length-replicate}
-use lib.Seq.{take_at}
+use lib.ListN.{drop, drop_of_length-le, get_or, length, length-drop, length-replicate, take}
+use lib.Seq.{drop-cons, get_or-drop, get_or-take, length-take-le, take_at}
 use borrow.Author.Tests.{le-ltb, lt-ltb}
 use Rattle.laws.proofs.Order.{by_order, pick-false, pick_true}
 use Rattle.laws.proofs.Out.{and_then-done, done-same, refuse-no, refuse-yes}
@@ -26,6 +26,27 @@ use Rattle.words.specs.Canvas.{canvas_of, field_of, kept_words, marks_of, on_sta
 use Rattle.words.specs.Code.{answer_code, code_of, none_of, refusal_code}
 use Rattle.words.specs.Descriptors.{grid_fields}
 use Rattle.words.specs.Read.{form_fields}
+
+-- ---- the marks, read word by word
+
+pub marks-length : (ws : List ℕ) → 1034 ≤ length ws → length (marks_of ws) ≡ 1024
+unfolding marks_of
+marks-length ws l = length-take-le 1024 (drop 10 ws) (rw (length-drop 10 ws) (omega arith))
+
+pub marks-next : (ws : List ℕ) (i : ℕ) → 1034 ≤ length ws → i < 1024 → drop i (marks_of ws) ≡ get_or ws (10 + i) 0 ∷ drop (i + 1) (marks_of ws)
+unfolding marks_of
+marks-next ws i l h =
+    let n : length (take 1024 (drop 10 ws)) ≡ 1024 = length-take-le 1024 (drop 10 ws) (rw (length-drop 10 ws) (omega arith)) in
+    let z : suc i ≡ i + 1 = omega arith in
+    drop-cons (take 1024 (drop 10 ws)) i 0 (rw n h)
+    ∙ ap (λ (v : ℕ). v ∷ drop (suc i) (take 1024 (drop 10 ws))) (get_or-take 1024 (drop 10 ws) i 0 h ∙ get_or-drop 10 ws i 0)
+    ∙ ap (λ (k : ℕ). get_or ws (10 + i) 0 ∷ drop k (take 1024 (drop 10 ws))) z
+
+-- a whole buffer is overwritten
+pub puts_whole : (d bs : List ℕ) → length bs ≡ length d → puts d 0 bs ≡ bs
+puts_whole d bs e =
+    let l : length d ≤ length bs = omega arith in
+    puts-start d bs (omega arith) ∙ ap (λ (q : List ℕ). bs ++ q) (drop_of_length-le d l) ∙ append-nil bs
 
 -- ---- what a call answers and leaves
 

@@ -18,13 +18,15 @@ pub fn field_of(word: u64) -> u32
     word.min(0xffff_ffff) as u32
 }
 
-// The marks behind the state's ten numbers.
+// The marks behind the state's ten numbers, word by word, so that the zeros under them are not written first.
 pub fn marks_of(state: &[u64]) -> [u64; 1024]
     requires { 1034 ≤ length state.now }
     ensures { result ≡ marks_of state.now }
 {
     let mut marks = [0u64; 1024];
-    marks.copy_from_slice(&state[10..1034]);
+    for i in 0..1024 {
+        marks[i] = state[10 + i];
+    }
     marks
 }
 
