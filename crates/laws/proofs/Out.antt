@@ -176,12 +176,20 @@ pub entry-later : (n : ℕ) → later_item n (Some (Entry 0)) ≡ Some (Entry n)
 unfolding later_item
 entry-later n = ap (λ i. Some (Entry i)) (add-zero n)
 
--- so a record's own refusal, and an entry's, become those of the n-th
+-- and any other item 0 but of sort 0
+pub other-later : (n sort : ℕ) → eqb sort 0 ≡ false → later_item n (Some (Other sort 0)) ≡ Some (Other sort n)
+unfolding later_item pick
+other-later n sort e = ap (λ (b : Bool). Some (Other sort (pick b 0 (n + 0)))) e ∙ ap (λ i. Some (Other sort i)) (add-zero n)
+
+-- so a record's own refusal, an entry's, and any other item's become those of the n-th
 pub record-after : {A : Type 0} (n : ℕ) (why : Reason) (o : Out A) → o ≡ Err (own_refusal why (Record 0)) → after n o ≡ Err (own_refusal why (Record n))
 record-after n why o = own-after n why Record o (record-later n)
 
 pub entry-after : {A : Type 0} (n : ℕ) (why : Reason) (o : Out A) → o ≡ Err (own_refusal why (Entry 0)) → after n o ≡ Err (own_refusal why (Entry n))
 entry-after n why o = own-after n why Entry o (entry-later n)
+
+pub other-after : {A : Type 0} (n sort : ℕ) (why : Reason) (o : Out A) → eqb sort 0 ≡ false → o ≡ Err (own_refusal why (Other sort 0)) → after n o ≡ Err (own_refusal why (Other sort n))
+other-after n sort why o e = own-after n why (Other sort) o (other-later n sort e)
 
 later_item-twice : (n k : ℕ) (i : Option Item) → later_item n (later_item k i) ≡ later_item (n + k) i
 unfolding later_item pick

@@ -46,7 +46,7 @@ pub enum Reason {
     Point,
     // Rows or columns of tiles outside 1 to 256 (document 02, A4).
     Tiling,
-    // Any other number: no call refuses by it.
+    // Of another number: no call refuses by it. `Other` of a number that has a name is not that reason, though both have the number.
     Other(u8),
 }
 
@@ -79,12 +79,12 @@ impl Reason {
     }
 }
 
-// The item that a refusal is about (document 02, A2): a record of the tray or an entry of the chain, by its index from 0.
+// The item that a refusal is about (document 02, A2), by its index from 0: a record of the tray, an entry of the chain.
 #[derive(Clone, Copy, Debug, PartialEq, Eq)]
 pub enum Item {
     Record(u64),
     Entry(u64),
-    // Of any other sort, by the sort's number and the index: no call refuses one. Of sort 0, it stands in no list.
+    // One of another sort, by the sort's number and the index: no call refuses it. The index of sort 0 is not counted on behind other items.
     Other(u8, u64),
 }
 

@@ -7,7 +7,7 @@ use Rattle.laws.specs.declared.Item.{Item}
 use Rattle.laws.specs.declared.Item.TheVariants.{Record, Entry, Other}
 use Rattle.laws.specs.declared.Refusal.{Refusal}
 
--- the sort of an item: 0 none, 1 a record of the tray, 2 an entry of the chain; and its index, 0 of none
+-- the sort of an item: 0 none, 1 a record of the tray, 2 an entry of the chain, any other as it is; and its index, 0 of none
 unfoldable pub sort_of : Option Item → ℕ
 sort_of None = 0
 sort_of (Some (Record i)) = 1

@@ -18,7 +18,7 @@ pub fn field_of(word: u64) -> u32
     word.min(0xffff_ffff) as u32
 }
 
-// The marks behind the state's ten numbers, word by word, so that the zeros under them are not written first.
+// The marks behind the state's ten numbers, word by word: the compiler then leaves out the zeros under them.
 pub fn marks_of(state: &[u64]) -> [u64; 1024]
     requires { 1034 ≤ length state.now }
     ensures { result ≡ marks_of state.now }

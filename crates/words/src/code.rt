@@ -7,7 +7,7 @@ use laws::{Item, Refusal};
 // The largest index that has room in 40 bits; it stands for each above it.
 const LAST_INDEX: u64 = 0xff_ffff_ffff;
 
-// Number in bits 0 to 7, sort in bits 8 to 15, index in bits 16 to 55. It stands apart, so that the calls that take their input stay short.
+// Number in bits 0 to 7, sort in bits 8 to 15, index in bits 16 to 55. Not inlined, so that a call that refuses nothing stays short.
 #[tactic(auto, unfolding(crate::specs::Code::refusal_code, crate::specs::Code::sort_of, crate::specs::Code::index_of))]
 #[inline(never)]
 pub fn refusal_code(e: Refusal) -> u64
